@@ -1,0 +1,75 @@
+ghost use Rattle.std.specs.Prelude.{◌≡◌, ◌++◌, ◌∷◌, [], length, ◌<◌, slice_set, OnOk, OnErr};
+
+use crate::copies::{TryCopy, copy_all};
+use crate::memory::Memory;
+use std::alloc::Global;
+use std::marker::Model;
+
+/// A list, which contracts see as the list of its items.
+#[derive(Debug, Drop)]
+pub struct Items<T> {
+    items: Vec<T>,
+}
+
+impl<T> Model for Items<T> {
+    ghost use Rattle.std.specs.Prelude.{List};
+
+    ghost Value = { List T };
+
+    ghost view = { λ list. list.items.items };
+}
+
+impl<T> Items<T> {
+    pub fn of(items: Vec<T>) -> Items<T>
+        ensures { result ≡ items.items }
+    {
+        Items { items }
+    }
+
+    pub fn none(alloc: Global) -> Items<T>
+        ensures { result ≡ [] }
+    {
+        Items {
+            items: Vec::new(alloc),
+        }
+    }
+
+    pub fn items(&self) -> &[T]
+        ensures { result.now ≡ self.now }
+    {
+        self.items.as_slice()
+    }
+
+    pub fn len(&self) -> usize
+        ensures { result ≡ length self.now }
+    {
+        self.items.len()
+    }
+}
+
+impl<T: Drop> Items<T> {
+    pub fn push(&mut self, item: T) -> Result<(), Memory>
+        ensures ok { OnOk result (self.new ≡ self.old ++ item ∷ []) }
+        ensures err { OnErr result (self.new ≡ self.old) }
+    {
+        self.items.push(item)?;
+        Ok(())
+    }
+
+    pub fn set(&mut self, place: usize, item: T)
+        requires { place < length self.old }
+        ensures { self.new ≡ slice_set self.old place item }
+    {
+        self.items[place] = item;
+    }
+}
+
+/// Ids, in the order of their use.
+pub type Ids = Items<u64>;
+
+impl<T: TryCopy + Drop> TryCopy for Items<T> {
+    fn copy(&self, alloc: Global) -> Result<Items<T>, Memory> {
+        let items = copy_all(alloc, self.items())?;
+        Ok(Items::of(items))
+    }
+}

@@ -1,0 +1,29 @@
+//! The words that every layer of the server speaks: keys, positions, stamps, people, text, lists
+//! and the limits.
+#![tactic(auto)]
+
+mod copies;
+mod items;
+mod keys;
+mod limits;
+mod memory;
+mod moments;
+mod people;
+mod places;
+mod steps;
+mod texts;
+
+pub use copies::{TryCopy, copy_all};
+pub use items::{Ids, Items};
+pub use keys::{Key, Kind};
+pub use limits::{
+    AREA_LIMIT, BODY_LIMIT, CHANGE_LIMIT, CHARACTER_LIMIT, FIELD_LIMIT, HEAD_LIMIT, MAP_NODE_LIMIT,
+    MOMENT_LIMIT, QUERY_LIMIT, RELATION_LIMIT, REQUEST_LIMIT, SESSION_LIMIT, USERS_LIMIT,
+    WAY_LIMIT,
+};
+pub use memory::Memory;
+pub use moments::Stamp;
+pub use people::{Owner, User};
+pub use places::{Box7, Coord};
+pub use steps::Steps;
+pub use texts::{Bytes, Text};

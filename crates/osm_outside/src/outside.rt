@@ -1,0 +1,80 @@
+//! The traits of the outside. Each counts its faults, and a call fails only where its count rose.
+ghost use Rattle.std.specs.Prelude.{◌≡◌, ◌+◌, ◌<◌, ◌≤◌, ◌∷◌, [], length, take, IfOk, IfSome, IsErr, Some, Err};
+ghost use Rattle.std.specs.Io.KnownBytes.{ReadConsumes, WriteAppends, Appends};
+ghost use Rattle.osm_base.specs.declared.limits.TheConstants.{USERS_LIMIT};
+ghost use Rattle.osm_outside.specs.Told.{Told, HostTold, Rose, OnlyReads, OnlyWrites, OnlyTime, OnlyFaults};
+
+use osm_base::Bytes;
+use std::alloc::Global;
+
+/// A read, a write or an accept failed.
+#[derive(Clone, Copy, Debug, PartialEq, Eq)]
+pub struct Failed;
+
+/// What a link tells contracts of itself.
+pub trait Outside {
+    ghost told: { Self → Told };
+}
+
+/// Where bytes come from.
+pub trait Source: Outside {
+    /// Reads some bytes to the front of `into`. 0 bytes in a place that isn't empty are the end of
+    /// input.
+    fn read(&mut self, into: &mut [u8]) -> Result<usize, Failed>
+        ensures count { IfOk result (λ n. n ≤ length into.new) }
+        ensures bytes { ReadConsumes (Self.told self.old).left (Self.told self.new).left result into.new }
+        ensures failed { IsErr result → Rose (Self.told self.old).read_faults (Self.told self.new).read_faults }
+        ensures keeps { OnlyReads (Self.told self.old) (Self.told self.new) };
+}
+
+/// Where bytes go.
+pub trait Sink: Outside {
+    /// Writes some bytes from the front of `piece`. To take none of a piece that isn't empty is a
+    /// fault.
+    fn write(&mut self, piece: &[u8]) -> Result<usize, Failed>
+        ensures count { IfOk result (λ n. n ≤ length piece.now) }
+        ensures bytes { WriteAppends (Self.told self.old).written (Self.told self.new).written result piece.now }
+        ensures failed { IsErr result → Rose (Self.told self.old).write_faults (Self.told self.new).write_faults }
+        ensures none_taken { IfOk result (λ n. n ≡ 0 → 0 < length piece.now
+            → Rose (Self.told self.old).write_faults (Self.told self.new).write_faults) }
+        ensures keeps { OnlyWrites (Self.told self.old) (Self.told self.new) };
+}
+
+/// What the time is.
+pub trait Clock: Outside {
+    /// The moment, in seconds since 1970.
+    fn now(&mut self) -> u64
+        ensures moments { Appends (Self.told self.old).moments (Self.told self.new).moments (result ∷ []) }
+        ensures fixed { IfSome (Self.told self.old).fixed (λ at. result ≡ at) }
+        ensures stays { (Self.told self.new).fixed ≡ (Self.told self.old).fixed }
+        ensures keeps { OnlyTime (Self.told self.old) (Self.told self.new) };
+
+    /// From here on every moment is this one, in seconds since 1970.
+    fn fix(&mut self, seconds: u64)
+        ensures fixed { (Self.told self.new).fixed ≡ Some seconds }
+        ensures keeps { OnlyTime (Self.told self.old) (Self.told self.new) };
+}
+
+/// A connection to one client.
+pub trait Link: Source + Sink + Clock {}
+
+/// Why a call of a host has no result.
+#[derive(Clone, Copy, Debug, PartialEq, Eq)]
+pub enum HostFault {
+    Failed,
+    /// There was no memory.
+    Memory,
+}
+
+/// What the program is run on, beside its standard link.
+pub trait Host {
+    ghost use Rattle.osm_outside.specs.declared.outside.HostFault.TheVariants as fault;
+
+    ghost told: { Self → HostTold };
+
+    /// The users text at that path: its first 1,048,577 bytes, or all of a shorter one.
+    fn users(&mut self, alloc: Global, path: &str) -> Result<Bytes, HostFault>
+        ensures text { IfOk result (λ bytes. IfSome (told self.old).users (λ text. bytes ≡ take (USERS_LIMIT + 1) text)) }
+        ensures failed { result ≡ Err fault.Failed → Rose (told self.old).faults (told self.new).faults }
+        ensures keeps { OnlyFaults (told self.old) (told self.new) };
+}
