@@ -1,8 +1,8 @@
 -- A journal stays legal, and its state its replay, where an accepted command is appended.
-use Rattle.std.proofs.Common.{◌≡◌, ℕ, ◌+◌, ◌<◌, ◌≤◌, List, [], ◌∷◌, ◌++◌, length, take, Some, Ok, refl, sym, ap, ◌∙◌, subst, inl, inr, ⊎_elim, ◌⊎◌, zero, suc, arith}
+use Rattle.std.proofs.Common.{◌≡◌, ℕ, ◌<◌, ◌≤◌, List, [], ◌∷◌, ◌++◌, length, take, Some, Ok, refl, sym, ap, ◌∙◌, subst, inl, inr, ⊎_elim, ◌⊎◌, zero, suc, arith}
 use Rattle.std.proofs.lemmas.List.{take-append-le}
 use Rattle.std.proofs.Math.Seq.{take-append_seam}
-use Rattle.std.specs.Prelude.{slice_get, is_ok, Result}
+use Rattle.std.specs.Prelude.{slice_get, Result}
 use Rattle.std.proofs.lemmas.List.Sums.{fold-append}
 use Rattle.osm_base.specs.Stamp.{stamp_after}
 use Rattle.osm_change.specs.declared.refusals.Refusal.{Refusal}
@@ -11,7 +11,10 @@ use Rattle.osm_model.specs.declared.states.Accepted.{Accepted}
 use Rattle.osm_model.specs.declared.states.State.{State}
 use Rattle.osm_model.specs.State.{empty}
 use Rattle.osm_model.specs.Act.{judge, settle}
-use Rattle.osm_model.specs.Journal.{IsLegal, Follows, replay, after, calls_of}
+use Rattle.osm_model.specs.declared.journals.Judged.{Judged}
+use Rattle.osm_model.specs.Step.{state_after, accepted}
+use Rattle.osm_model.specs.Judged.{IsJudgedOn}
+use Rattle.osm_model.specs.Journal.{IsLegal, Follows, replay, after}
 
 pub stamp_after-stamp_after : (last m : ℕ) → stamp_after last (stamp_after last m) ≡ stamp_after last m
 stamp_after-stamp_after last m = omega arith
@@ -53,25 +56,17 @@ after-accepted P e done stamped accepted =
     ap (λ (t : ℕ). (settle P t (judge P e.user t e.command)).0) stamped
     ∙ ap (λ (judged : Result Accepted Refusal). (settle P e.stamp judged).0) accepted
 
--- an accepted command's entry makes a journal of a journal
-pub grows :
-    (es : List Entry) (P : State) (e : Entry) (m : ℕ) (done : Accepted)
+-- what was judged on a journal makes a journal of it
+pub keeps :
+    (es : List Entry) (P Q : State) (j : Judged)
     → P ≡ replay es
     → IsLegal es
-    → e.stamp ≡ stamp_after P.last m
-    → e.call ≡ calls_of e.session es + 1
-    → judge P e.user e.stamp e.command ≡ Ok done
-    → IsLegal (es ++ e ∷ []) × (record done.state { last = e.stamp } ≡ replay (es ++ e ∷ []))
-grows es P e m done same legal stamp call accepted =
-    let stamped : stamp_after P.last e.stamp ≡ e.stamp = omega (arith, stamp) in
-    let judged : judge (replay es) e.user e.stamp e.command ≡ Ok done =
-    subst (λ (p : State). judge p e.user e.stamp e.command ≡ Ok done) same accepted
-    in
-    let follows : Follows es e = record {
-      accepted = ap is_ok judged;
-      stamped = subst (λ (p : State). stamp_after p.last e.stamp ≡ e.stamp) same stamped;
-      numbered = call;
-    } in (
-      IsLegal-push es e legal follows,
-      sym (replay-push es e ∙ ap (λ (p : State). after p e) (sym same) ∙ after-accepted P e done stamped accepted),
-    )
+    → IsJudgedOn es j
+    → Q ≡ state_after P j.step
+    → IsLegal (es ++ j.entry ∷ []) × (record Q { last = j.entry.stamp } ≡ replay (es ++ j.entry ∷ []))
+keeps es P Q j same legal on stepped = (
+  IsLegal-push es j.entry legal on.follows,
+  ap (λ (q : State). record q { last = j.entry.stamp }) stepped
+      ∙ ap (λ (p : State). record (state_after p j.step) { last = j.entry.stamp }) same
+      ∙ sym (replay-push es j.entry ∙ after-accepted (replay es) j.entry (accepted (replay es) j.step j.answer) on.follows.stamped on.judged),
+)

@@ -1,27 +1,46 @@
-ghost use Rattle.std.specs.Prelude.{◌≡◌, Ok, IfOk, OnErr};
+ghost use Rattle.std.specs.Prelude.{◌≡◌, Ok, IfOk, OnOk, OnErr};
 ghost use Rattle.osm_model.specs.Act.{act, judge};
+ghost use Rattle.osm_model.specs.Step.{state_after, accepted};
 
-use crate::changesets::create_changeset;
+use crate::changesets::new_changeset;
 use crate::commands::Command;
-use crate::states::State;
+use crate::states::{Changeset, State};
 use osm_base::{Memory, Stamp, User};
 use osm_change::Answer;
 use std::alloc::Global;
 
-/// Does the command on the state, at this stamp. Want of memory leaves the state as it was.
-pub fn perform(
+/// What an accepted command changes.
+#[derive(Debug, Drop)]
+pub enum Step {
+    AddChangeset(Changeset),
+}
+
+/// What a command changes and answers. The state stays as it is.
+pub fn judge(
     alloc: Global,
-    state: &mut State,
+    state: &State,
     user: &User,
     at: Stamp,
     command: &Command,
-) -> Result<Answer, Memory>
-    ensures done { IfOk result (λ answer. judge state.old user.now at command.now
-        ≡ Ok (record { state = state.new; answer = answer })) }
-    ensures memory { OnErr result (state.new ≡ state.old) }
+) -> Result<(Step, Answer), Memory>
+    ensures { IfOk result (λ done. judge state.now user.now at command.now ≡ Ok (accepted state.now done.0 done.1)) }
 {
     match command {
-        Command::CreateChangeset { tags } => create_changeset(alloc, state, user, at, tags),
+        Command::CreateChangeset { tags } => {
+            let made = new_changeset(alloc, user, at, tags)?;
+            let id = state.changesets.items().len() as u64 + 1;
+            Ok((Step::AddChangeset(made), Answer::Number(id)))
+        }
+    }
+}
+
+/// Takes the step. Want of memory leaves the state as it was.
+pub fn take_step(state: &mut State, step: Step) -> Result<(), Memory>
+    ensures ok { OnOk result (state.new ≡ state_after state.old step) }
+    ensures memory { OnErr result (state.new ≡ state.old) }
+{
+    match step {
+        Step::AddChangeset(made) => state.changesets.push(made),
     }
 }
 
@@ -36,7 +55,8 @@ pub fn plain_act(
     ensures { IfOk result (λ done. done ≡ act state user.now moment command.now) }
 {
     let at = Stamp::after(state.last, moment);
-    let answer = perform(alloc, &mut state, user, at, command)?;
+    let (step, answer) = judge(alloc, &state, user, at, command)?;
+    take_step(&mut state, step)?;
     state.last = at;
     Ok((state, answer))
 }

@@ -7,7 +7,7 @@ mod commands;
 mod journals;
 mod states;
 
-pub use acts::plain_act;
+pub use acts::{Step, plain_act};
 pub use commands::{Command, Entry};
-pub use journals::Journal;
+pub use journals::{Journal, Judged};
 pub use states::{Accepted, Changeset, State, Work};
