@@ -110,6 +110,7 @@ impl Journal {
         requires { IsJudgedOn self.old judged }
         ensures answer { IfOk result (λ answer. answer ≡ answer_of judged) }
         ensures ok { OnOk result (self.new ≡ kept_after self.old judged) }
+        ensures legal { OnOk result (IsLegal self.new) }
         ensures memory { OnErr result (self.new ≡ self.old) }
     {
         let Judged {
