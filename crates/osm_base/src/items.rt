@@ -40,6 +40,12 @@ impl<T> Items<T> {
         self.items.as_slice()
     }
 
+    pub fn into_vec(self) -> Vec<T>
+        ensures { result.items ≡ self }
+    {
+        self.items
+    }
+
     pub fn len(&self) -> usize
         ensures { result ≡ length self.now }
     {

@@ -2,6 +2,7 @@
 //! and the limits.
 #![tactic(auto)]
 
+mod box_faults;
 mod copies;
 mod items;
 mod keys;
@@ -13,6 +14,7 @@ mod places;
 mod steps;
 mod texts;
 
+pub use box_faults::BoxFault;
 pub use copies::{TryCopy, copy_all};
 pub use items::{Ids, Items};
 pub use keys::{Key, Kind};

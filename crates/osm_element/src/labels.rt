@@ -1,4 +1,7 @@
-ghost use Rattle.std.specs.Prelude.{◌≡◌, IfOk, []};
+ghost use Rattle.std.specs.Prelude.{◌≡◌, ◌↔◌, IfOk, IfSome, IsSome, IsTrue, []};
+ghost use Rattle.std.specs.Ordering.{is_lt, nat_cmp};
+ghost use Rattle.std.specs.Cmp.Lexicographic.{slice_cmp};
+ghost use Rattle.osm_element.specs.Tags.{KeysRise};
 
 use osm_base::{Memory, Text, TryCopy, copy_all};
 use std::alloc::Global;
@@ -41,6 +44,18 @@ impl Tags {
         Tags { pairs }
     }
 
+    /// The tags of pairs whose keys rise strictly. None where they don't.
+    pub fn of(pairs: Vec<(Text, Text)>) -> Option<Tags>
+        ensures rising { IsSome result ↔ KeysRise pairs.items }
+        ensures value { IfSome result (λ tags. tags ≡ pairs.items) }
+    {
+        if do_keys_rise(pairs.as_slice()) {
+            Some(Tags { pairs })
+        } else {
+            None
+        }
+    }
+
     /// The pairs, in the order of their keys.
     pub fn pairs(&self) -> &[(Text, Text)]
         ensures value { result.now ≡ self.now }
@@ -55,4 +70,22 @@ impl TryCopy for Tags {
         let pairs = copy_all(alloc, self.pairs.as_slice())?;
         Ok(Tags { pairs })
     }
+}
+
+/// Whether each key stands before the next in byte order.
+fn do_keys_rise(pairs: &[(Text, Text)]) -> bool
+    ensures { IsTrue result ↔ KeysRise pairs.now }
+{
+    for next in 1..pairs.len() {
+        if !is_before(&pairs[next - 1].0, &pairs[next].0) {
+            return false;
+        }
+    }
+    true
+}
+
+fn is_before(text: &Text, other: &Text) -> bool
+    ensures { result ≡ is_lt (slice_cmp nat_cmp text.now other.now) }
+{
+    text.as_str() < other.as_str()
 }

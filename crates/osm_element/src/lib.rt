@@ -1,12 +1,14 @@
 //! What an element of the map holds: contents, tags and versions.
 #![tactic(auto)]
 
+mod checks;
 mod contents;
 mod elements;
 mod faults;
 mod labels;
 mod versions;
 
+pub use checks::check_local;
 pub use contents::{Content, Member, Members, RawContent, Refs};
 pub use elements::{Elements, History};
 pub use faults::LocalFault;
