@@ -1,0 +1,6 @@
+pub mod EachOf
+pub mod Moments
+pub mod Raws
+pub mod Rising
+pub mod Tokens
+pub mod Walking

@@ -1,0 +1,6 @@
+use Rattle.osm_json.specs.Refused.{before_error}
+use Rattle.osm_json.proofs.refusals.before_error.Goals as goal
+
+pub returns-in-Full : goal.returns-in-Full
+unfolding before_error
+returns-in-Full c = rw c.in-Full.is c.members-in-Full.ensures

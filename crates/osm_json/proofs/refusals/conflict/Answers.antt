@@ -1,0 +1,6 @@
+use Rattle.osm_json.specs.Refused.{conflict_fields}
+use Rattle.osm_json.proofs.refusals.conflict.Goals as goal
+
+pub returns : goal.returns
+unfolding conflict_fields
+returns c = simp (c.said.ensures, c.operation.ensures, c.name_of.ensures) at c.members.ensures

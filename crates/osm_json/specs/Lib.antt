@@ -1,0 +1,10 @@
+pub mod Answered
+pub mod Fields
+pub mod Moment
+pub mod Raw
+pub mod Reading
+pub mod Refused
+pub mod Rows
+pub mod Sent
+pub mod Shown
+pub mod Walk

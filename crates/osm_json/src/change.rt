@@ -1,0 +1,129 @@
+//! The document of an upload.
+ghost use Rattle.std.specs.Prelude.{◌≡◌, ◌<◌, ◌^◌, map, option_map, vec_len, All, IfOk};
+ghost use Rattle.serde_json.specs.Data.{Data};
+ghost use Rattle.serde_json.specs.View.{view, items_view};
+ghost use Rattle.osm_json.specs.Reading.{Gives, Reads, block_of, blocks_of, each_of, steps_among, change_of, data_of};
+ghost use Rattle.osm_json.specs.Raw.{IsRaw};
+ghost use Rattle.osm_json.specs.Walk.{block_view, ReadsOn, MatchDocument};
+
+use crate::fault::{BodyFault, PartFault};
+use crate::parts::operation;
+use crate::read::{needed_list, optional_bool};
+use osm_change::{Action, RawOp};
+use serde_json::Value;
+use std::alloc::Global;
+
+/// What is done to each element of a list.
+#[derive(Clone, Copy)]
+pub(crate) struct Block<'v> {
+    action: Action,
+    elements: &'v Vec<Value>,
+}
+
+#[tactic(auto, unfolding(crate::specs::Reading::block_of))]
+fn read_block(value: &Value) -> Option<Block<'_>>
+    ensures { option_map block_view result ≡ block_of (view value.now) }
+{
+    match (
+        value.get("create"),
+        value.get("modify"),
+        value.get("delete"),
+    ) {
+        (Some(list), None, None) => Some(Block {
+            action: Action::Create,
+            elements: list.as_array()?,
+        }),
+        (None, Some(list), None) => Some(Block {
+            action: Action::Modify,
+            elements: list.as_array()?,
+        }),
+        (None, None, Some(list)) => {
+            let elements = list.as_array()?;
+            let if_unused = optional_bool(value, "if-unused")?.unwrap_or(false);
+            Some(Block {
+                action: Action::Delete { if_unused },
+                elements,
+            })
+        }
+        _ => None,
+    }
+}
+
+fn read_each_block<'v>(alloc: Global, list: &'v [Value]) -> Result<Vec<Block<'v>>, PartFault>
+    ensures { Reads (λ v. map block_view v.items) result (each_of block_of (items_view list.now)) }
+{
+    let mut found = Vec::new(alloc);
+    for value in list {
+        found.push(read_block(value).ok_or(PartFault::Malformed)?)?;
+    }
+    Ok(found)
+}
+
+#[tactic(auto, unfolding(crate::specs::Reading::blocks_of))]
+fn read_blocks<'v>(alloc: Global, document: &'v Value) -> Result<Vec<Block<'v>>, PartFault>
+    ensures { Reads (λ v. map block_view v.items) result (blocks_of (view document.now)) }
+{
+    let list = needed_list(document, "osmChange").ok_or(PartFault::Malformed)?;
+    read_each_block(alloc, list)
+}
+
+/// Reads the operations of a list after those that were read.
+fn operations(
+    alloc: Global,
+    action: Action,
+    elements: &[Value],
+    ops: &mut Vec<RawOp>,
+) -> Result<(), BodyFault>
+    requires { vec_len ops.old < 2 ^ 32 }
+    ensures reads { ReadsOn result ops.old.items ops.new.items
+        (steps_among action (items_view elements.now)) }
+    ensures count { vec_len ops.new < 2 ^ 32 }
+{
+    for element in elements {
+        let count = ops.len();
+        if count >= u32::MAX as usize {
+            return Err(BodyFault::Memory);
+        }
+        match operation(alloc, action, element) {
+            Ok(op) => ops.push(op)?,
+            Err(PartFault::Memory) => return Err(BodyFault::Memory),
+            Err(PartFault::Malformed) => {
+                return Err(BodyFault::Shape {
+                    op: count as u32 + 1,
+                });
+            }
+        }
+    }
+    Ok(())
+}
+
+/// The data of a body.
+pub(crate) fn document(alloc: Global, body: &[u8]) -> Result<Value, BodyFault>
+    ensures { MatchDocument result (data_of body.now) }
+{
+    match Value::from_slice(alloc, body) {
+        Ok(value) => Ok(value),
+        Err(fault) if fault.is_memory() => Err(BodyFault::Memory),
+        Err(_) => Err(BodyFault::NotJson),
+    }
+}
+
+/// The operations of an upload, in the order of the document (OpenStreetMap wiki, "OsmChange").
+/// Memory counts as out, too, where the list would have 2^32 operations.
+pub fn read_change(alloc: Global, body: &[u8]) -> Result<Vec<RawOp>, BodyFault>
+    ensures value { Gives (λ v. v.items) result (change_of body.now) }
+    ensures count { IfOk result (λ v. vec_len v < 2 ^ 32) }
+    ensures raw { IfOk result (λ v. All IsRaw v.items) }
+{
+    let document = document(alloc, body)?;
+    let blocks = match read_blocks(alloc, &document) {
+        Ok(blocks) => blocks,
+        Err(PartFault::Memory) => return Err(BodyFault::Memory),
+        Err(PartFault::Malformed) => return Err(BodyFault::Shape { op: 0 }),
+    };
+    let mut ops = Vec::new(alloc);
+    for block in &blocks {
+        operations(alloc, block.action, block.elements, &mut ops)?;
+    }
+    Ok(ops)
+}

@@ -1,0 +1,161 @@
+//! Versions of elements, and what a changeset made.
+ghost use Rattle.std.specs.Prelude.{◌≡◌, [], ◌∷◌, All, codes, flat_map};
+ghost use Rattle.osm_json.specs.Shown.{field_if};
+ghost use Rattle.osm_json.specs.Rows.{number_fields, redaction_fields, origin_fields, action_name as name_of_action, element as element_data, bounds as bounds_data, elements as elements_data, block as block_data, download as download_data};
+ghost use Rattle.osm_json.specs.Answered.{HasShownStamp};
+ghost use Rattle.osm_json.specs.Sent.{Sends, SendsFields, tokens_of};
+
+use crate::contents::{edges, visible, visible_tags};
+use crate::send::{Shown, members, moment, name_of, optional, version};
+use json::Writer;
+use osm_base::Box7;
+use osm_change::ElementRow;
+use osm_element::Version;
+use std::alloc::{AllocError, Global};
+
+fn number(out: &mut Writer, row: &ElementRow) -> Result<(), AllocError>
+    ensures { SendsFields result out.old out.new (number_fields row.now) }
+{
+    members(
+        out,
+        &[
+            ("changeset", Shown::Natural(row.version.changeset)),
+            ("id", Shown::Natural(row.key.id)),
+        ],
+    )
+}
+
+fn redaction(out: &mut Writer, version: &Version) -> Result<(), AllocError>
+    ensures { SendsFields result out.old out.new (redaction_fields version.now) }
+{
+    members(out, &[("redaction", optional(version.redaction))])
+}
+
+fn origin(out: &mut Writer, row: &ElementRow) -> Result<(), AllocError>
+    ensures { SendsFields result out.old out.new (origin_fields row.now) }
+{
+    members(
+        out,
+        &[
+            ("type", Shown::Text(name_of(row.key.kind))),
+            ("uid", Shown::Natural(row.owner.id)),
+            ("user", Shown::Text(row.owner.name.as_str())),
+            ("version", Shown::Natural(row.number)),
+            ("visible", Shown::Flag(row.version.content.is_some())),
+        ],
+    )
+}
+
+fn element(alloc: Global, out: &mut Writer, row: &ElementRow) -> Result<(), AllocError>
+    requires { HasShownStamp row.now }
+    ensures { Sends result out.old out.new (tokens_of (element_data row.now)) }
+{
+    out.begin_object()?;
+    number(out, row)?;
+    visible(out, &row.version)?;
+    redaction(out, &row.version)?;
+    visible_tags(out, &row.version)?;
+    moment(alloc, out, "timestamp", row.version.stamp)?;
+    origin(out, row)?;
+    out.end_object()?;
+    Ok(())
+}
+
+fn element_rows(alloc: Global, out: &mut Writer, rows: &[ElementRow]) -> Result<(), AllocError>
+    requires { All HasShownStamp rows.now }
+    ensures { Sends result out.old out.new (flat_map (λ r. tokens_of (element_data r)) rows.now) }
+{
+    for row in rows {
+        element(alloc, out, row)?;
+    }
+    Ok(())
+}
+
+fn bounds(out: &mut Writer, bounds: &Option<Box7>) -> Result<(), AllocError>
+    ensures { SendsFields result out.old out.new
+        (field_if (codes "bounds") bounds_data bounds.now ∷ []) }
+{
+    match bounds {
+        None => Ok(()),
+        Some(within) => {
+            out.key("bounds")?;
+            out.begin_object()?;
+            edges(out, within)?;
+            out.end_object()?;
+            Ok(())
+        }
+    }
+}
+
+pub(crate) fn elements(
+    alloc: Global,
+    out: &mut Writer,
+    within: &Option<Box7>,
+    rows: &[ElementRow],
+) -> Result<(), AllocError>
+    requires { All HasShownStamp rows.now }
+    ensures { Sends result out.old out.new (tokens_of (elements_data within.now rows.now)) }
+{
+    out.begin_object()?;
+    bounds(out, within)?;
+    out.key("elements")?;
+    out.begin_array()?;
+    element_rows(alloc, out, rows)?;
+    out.end_array()?;
+    version(out)?;
+    out.end_object()?;
+    Ok(())
+}
+
+fn action_name(row: &ElementRow) -> &'static str
+    ensures { result.now ≡ name_of_action row.now }
+{
+    if row.number == 1 {
+        "create"
+    } else if row.version.content.is_none() {
+        "delete"
+    } else {
+        "modify"
+    }
+}
+
+fn block(alloc: Global, out: &mut Writer, row: &ElementRow) -> Result<(), AllocError>
+    requires { HasShownStamp row.now }
+    ensures { Sends result out.old out.new (tokens_of (block_data row.now)) }
+{
+    out.begin_object()?;
+    out.key(action_name(row))?;
+    out.begin_array()?;
+    element(alloc, out, row)?;
+    out.end_array()?;
+    out.end_object()?;
+    Ok(())
+}
+
+fn blocks(alloc: Global, out: &mut Writer, rows: &[ElementRow]) -> Result<(), AllocError>
+    requires { All HasShownStamp rows.now }
+    ensures { Sends result out.old out.new (flat_map (λ r. tokens_of (block_data r)) rows.now) }
+{
+    for row in rows {
+        block(alloc, out, row)?;
+    }
+    Ok(())
+}
+
+pub(crate) fn download(
+    alloc: Global,
+    out: &mut Writer,
+    rows: &[ElementRow],
+) -> Result<(), AllocError>
+    requires { All HasShownStamp rows.now }
+    ensures { Sends result out.old out.new (tokens_of (download_data rows.now)) }
+{
+    out.begin_object()?;
+    out.key("osmChange")?;
+    out.begin_array()?;
+    blocks(alloc, out, rows)?;
+    out.end_array()?;
+    version(out)?;
+    out.end_object()?;
+    Ok(())
+}

@@ -1,0 +1,145 @@
+//! The parts of a body that are copied from it.
+ghost use Rattle.std.specs.Prelude.{◌≡◌};
+ghost use Rattle.serde_json.specs.View.{view, items_view, members_view};
+ghost use Rattle.osm_json.specs.Reading.{Reads, id_of, each_of, pairs_of, tags_of, reference_of, content_of, version_of, given_tags, given_content, operation_of};
+
+use crate::fault::PartFault;
+use crate::read::{
+    id, needed_id, needed_integer, needed_kind, needed_list, optional_count, optional_text,
+};
+use osm_base::{Kind, Text};
+use osm_change::{Action, RawOp};
+use osm_element::{Member, Members, RawContent, Refs, Tags};
+use serde_json::{Map, Value};
+use std::alloc::Global;
+
+/// The ids that a list has.
+fn ids(alloc: Global, list: &[Value]) -> Result<Vec<i64>, PartFault>
+    ensures { Reads (λ v. v.items) result (each_of id_of (items_view list.now)) }
+{
+    let mut found = Vec::new(alloc);
+    for value in list {
+        found.push(id(value).ok_or(PartFault::Malformed)?)?;
+    }
+    Ok(found)
+}
+
+#[tactic(auto, unfolding(crate::specs::Reading::reference_of))]
+fn reference(alloc: Global, value: &Value) -> Result<Member<i64>, PartFault>
+    ensures { Reads (λ m. m) result (reference_of (view value.now)) }
+{
+    let kind = needed_kind(value, "type").ok_or(PartFault::Malformed)?;
+    let name = needed_id(value, "ref").ok_or(PartFault::Malformed)?;
+    let role = optional_text(value, "role").ok_or(PartFault::Malformed)?;
+    let role = Text::of(alloc, role.unwrap_or(""))?;
+    Ok(Member { kind, name, role })
+}
+
+fn references(alloc: Global, list: &[Value]) -> Result<Vec<Member<i64>>, PartFault>
+    ensures { Reads (λ v. v.items) result (each_of reference_of (items_view list.now)) }
+{
+    let mut found = Vec::new(alloc);
+    for value in list {
+        found.push(reference(alloc, value)?)?;
+    }
+    Ok(found)
+}
+
+/// The members of an object, which are all texts.
+fn pairs(alloc: Global, map: &Map<String, Value>) -> Result<Vec<(Text, Text)>, PartFault>
+    ensures { Reads (λ v. v.items) result (pairs_of (members_view map.now.entries)) }
+{
+    let mut found = Vec::new(alloc);
+    for (key, value) in map {
+        let text = value.as_str().ok_or(PartFault::Malformed)?;
+        let key = Text::of(alloc, key.as_str())?;
+        let text = Text::of(alloc, text)?;
+        found.push((key, text))?;
+    }
+    Ok(found)
+}
+
+pub(crate) fn tags(alloc: Global, value: &Value) -> Result<Tags, PartFault>
+    ensures { Reads (λ t. t) result (tags_of (view value.now)) }
+{
+    let map = value.as_object().ok_or(PartFault::Malformed)?;
+    let pairs = pairs(alloc, map)?;
+    // A map's keys rise, as its length says.
+    let _len = map.len();
+    Ok(Tags::of_rising(pairs))
+}
+
+#[tactic(auto, unfolding(crate::specs::Reading::content_of))]
+fn content(alloc: Global, kind: Kind, value: &Value) -> Result<RawContent, PartFault>
+    ensures { Reads (λ c. c) result (content_of kind (view value.now)) }
+{
+    match kind {
+        Kind::Node => {
+            let lat7 = needed_integer(value, "lat7").ok_or(PartFault::Malformed)?;
+            let lon7 = needed_integer(value, "lon7").ok_or(PartFault::Malformed)?;
+            Ok(RawContent::Node { lat7, lon7 })
+        }
+        Kind::Way => {
+            let list = needed_list(value, "nodes").ok_or(PartFault::Malformed)?;
+            Ok(RawContent::Way(Refs::of(ids(alloc, list)?)))
+        }
+        Kind::Relation => {
+            let list = needed_list(value, "members").ok_or(PartFault::Malformed)?;
+            Ok(RawContent::Relation(Members::of(references(alloc, list)?)))
+        }
+    }
+}
+
+pub(crate) fn version(action: Action, value: &Value) -> Option<Option<u64>>
+    ensures { result ≡ version_of action (view value.now) }
+{
+    match action {
+        Action::Create => Some(None),
+        Action::Modify | Action::Delete { .. } => optional_count(value, "version"),
+    }
+}
+
+pub(crate) fn element_tags(alloc: Global, action: Action, value: &Value) -> Result<Tags, PartFault>
+    ensures { Reads (λ t. t) result (given_tags action (view value.now)) }
+{
+    match (action, value.get("tags")) {
+        (Action::Delete { .. }, _) | (_, None) => Ok(Tags::none(alloc)),
+        (_, Some(member)) => tags(alloc, member),
+    }
+}
+
+pub(crate) fn element_content(
+    alloc: Global,
+    action: Action,
+    kind: Kind,
+    value: &Value,
+) -> Result<Option<RawContent>, PartFault>
+    ensures { Reads (λ c. c) result (given_content action kind (view value.now)) }
+{
+    match action {
+        Action::Create | Action::Modify => Ok(Some(content(alloc, kind, value)?)),
+        Action::Delete { .. } => Ok(None),
+    }
+}
+
+/// One operation, as its action asks for it.
+#[tactic(auto, unfolding(crate::specs::Reading::operation_of))]
+pub(crate) fn operation(alloc: Global, action: Action, value: &Value) -> Result<RawOp, PartFault>
+    ensures { Reads (λ op. op) result (operation_of action (view value.now)) }
+{
+    let kind = needed_kind(value, "type").ok_or(PartFault::Malformed)?;
+    let id = needed_id(value, "id").ok_or(PartFault::Malformed)?;
+    let version = version(action, value).ok_or(PartFault::Malformed)?;
+    let changeset = optional_count(value, "changeset").ok_or(PartFault::Malformed)?;
+    let tags = element_tags(alloc, action, value)?;
+    let content = element_content(alloc, action, kind, value)?;
+    Ok(RawOp {
+        action,
+        kind,
+        id,
+        version,
+        changeset,
+        content,
+        tags,
+    })
+}

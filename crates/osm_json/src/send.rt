@@ -1,0 +1,162 @@
+//! The parts of an answer, written one after another.
+#![tactic(auto, unfolding(crate::specs::Sent::tokens_of, crate::specs::Sent::field_tokens))]
+
+ghost use Rattle.std.specs.Prelude.{◌≡◌, [], ◌∷◌};
+ghost use Rattle.std.specs.Option.{ForSome};
+ghost use Rattle.serde_json.specs.Data.{boolean, string};
+ghost use Rattle.osm_json.specs.Shown.{field, field_if, natural, integer, kind_name, named, moment, version_field, record_of};
+ghost use Rattle.osm_json.specs.Answered.{IsShownMoment};
+ghost use Rattle.osm_json.specs.Sent.{Sends, SendsFields, tokens_of, field_tokens};
+ghost use Rattle.osm_json.specs.Fields.{shown_field, shown_fields, IsMember};
+
+use crate::moment::moment_text;
+use json::Writer;
+use osm_base::{Kind, Stamp};
+use osm_change::Said;
+use std::alloc::{AllocError, Global};
+
+// A member of an object.
+
+pub(crate) fn natural(out: &mut Writer, name: &str, n: u64) -> Result<(), AllocError>
+    ensures { Sends result out.old out.new (field_tokens (field name.now (natural n))) }
+{
+    out.key(name)?;
+    out.u64(n)
+}
+
+fn integer(out: &mut Writer, name: &str, n: i64) -> Result<(), AllocError>
+    ensures { Sends result out.old out.new (field_tokens (field name.now (integer n))) }
+{
+    out.key(name)?;
+    out.i64(n)
+}
+
+pub(crate) fn text(out: &mut Writer, name: &str, text: &str) -> Result<(), AllocError>
+    ensures { Sends result out.old out.new (field_tokens (field name.now (string text.now))) }
+{
+    out.key(name)?;
+    out.string(text)
+}
+
+pub(crate) fn name_of(kind: Kind) -> &'static str
+    ensures { result.now ≡ kind_name kind }
+{
+    match kind {
+        Kind::Node => "node",
+        Kind::Way => "way",
+        Kind::Relation => "relation",
+    }
+}
+
+/// The value of a member, or that the member is left out.
+#[derive(Clone, Copy)]
+pub(crate) enum Shown<'a> {
+    Absent,
+    Natural(u64),
+    Integer(i64),
+    Flag(bool),
+    Text(&'a str),
+}
+
+fn flag(out: &mut Writer, name: &str, b: bool) -> Result<(), AllocError>
+    ensures { Sends result out.old out.new (field_tokens (field name.now (boolean b))) }
+{
+    out.key(name)?;
+    out.boolean(b)
+}
+
+fn member(out: &mut Writer, name: &str, value: Shown<'_>) -> Result<(), AllocError>
+    ensures { Sends result out.old out.new (field_tokens (shown_field name.now value.entry)) }
+{
+    match value {
+        Shown::Absent => Ok(()),
+        Shown::Natural(n) => natural(out, name, n),
+        Shown::Integer(n) => integer(out, name, n),
+        Shown::Flag(b) => flag(out, name, b),
+        Shown::Text(s) => text(out, name, s),
+    }
+}
+
+pub(crate) fn members(out: &mut Writer, fields: &[(&str, Shown<'_>)]) -> Result<(), AllocError>
+    ensures { SendsFields result out.old out.new (shown_fields fields.now) }
+{
+    for (name, value) in fields {
+        member(out, name, *value)?;
+    }
+    Ok(())
+}
+
+/// An object of these members.
+pub(crate) fn record(out: &mut Writer, fields: &[(&str, Shown<'_>)]) -> Result<(), AllocError>
+    ensures { Sends result out.old out.new (tokens_of (record_of (shown_fields fields.now))) }
+{
+    out.begin_object()?;
+    members(out, fields)?;
+    out.end_object()?;
+    Ok(())
+}
+
+/// The version of the interface, which ends each document.
+pub(crate) fn version(out: &mut Writer) -> Result<(), AllocError>
+    ensures { SendsFields result out.old out.new (version_field ∷ []) }
+{
+    members(out, &[("version", Shown::Text("0.6"))])
+}
+
+pub(crate) fn optional(value: Option<u64>) -> Shown<'static>
+    ensures { IsMember result (λ name. field_if name natural value) }
+{
+    match value {
+        Some(n) => Shown::Natural(n),
+        None => Shown::Absent,
+    }
+}
+
+/// The number of an operation.
+pub(crate) fn operation(op: Option<u32>) -> Shown<'static>
+    ensures { IsMember result (λ name. field_if name natural op) }
+{
+    match op {
+        Some(n) => Shown::Natural(n as u64),
+        None => Shown::Absent,
+    }
+}
+
+pub(crate) fn said(said: Said) -> Shown<'static>
+    ensures { IsMember result (λ name. field name (named said)) }
+{
+    match said {
+        Said::Id(id) => Shown::Natural(id),
+        Said::Placeholder(placeholder) => Shown::Integer(placeholder),
+    }
+}
+
+// Moments, each in a call of its own, since its text lives no longer.
+
+pub(crate) fn moment(
+    alloc: Global,
+    out: &mut Writer,
+    name: &str,
+    stamp: Stamp,
+) -> Result<(), AllocError>
+    requires { IsShownMoment stamp }
+    ensures { Sends result out.old out.new (field_tokens (field name.now (moment stamp))) }
+{
+    let shown = moment_text(alloc, stamp)?;
+    text(out, name, shown.as_str())
+}
+
+pub(crate) fn optional_moment(
+    alloc: Global,
+    out: &mut Writer,
+    name: &str,
+    stamp: Option<Stamp>,
+) -> Result<(), AllocError>
+    requires { ForSome stamp IsShownMoment }
+    ensures { Sends result out.old out.new (field_tokens (field_if name.now moment stamp)) }
+{
+    match stamp {
+        Some(at) => moment(alloc, out, name, at),
+        None => Ok(()),
+    }
+}
