@@ -2,8 +2,6 @@
 #![tactic(auto)]
 
 mod answers;
-mod build;
-mod causes;
 mod changes;
 mod listed;
 mod operations;
@@ -13,7 +11,6 @@ mod refusals;
 pub use answers::{
     Answer, ChangesetRow, ChangesetRows, DiffRow, DiffRows, ElementRow, ElementRows,
 };
-pub use causes::{Cause, ShapeFault};
 pub use changes::Change;
 pub use listed::{kind_of, names_listed};
 pub use operations::{FirstIds, Name, Named, Op, OpDone, OpDones};

@@ -1,7 +1,6 @@
 -- The status and the body of an answer.
 use Rattle.std.specs.Prelude.{ℕ, ◌≤◌, All, List, [], ◌∷◌, ◌==◌, IsTrue}
 use Rattle.std.specs.Option.{ForSome}
-use Rattle.std.specs.List.{list_any}
 use Rattle.serde_json.specs.Data.{Data}
 use Rattle.serde_json.specs.Written.{compact_text}
 use Rattle.osm_change.specs.declared.answers.Answer.{Answer}
@@ -19,13 +18,6 @@ use Rattle.osm_json.specs.Refused.{refusal, refusal_status}
 abbrev pub status_of : Answer → ℕ
 status_of (answers.Refused fault) = refusal_status fault
 status_of _ = 200
-
--- the statuses that a reply may have
-abbrev pub statuses : List ℕ
-statuses = 200 ∷ 400 ∷ 401 ∷ 403 ∷ 404 ∷ 405 ∷ 409 ∷ 410 ∷ 412 ∷ 413 ∷ 415 ∷ 431 ∷ 501 ∷ 503 ∷ []
-
-abbrev pub IsStatus : ℕ → Type 0
-IsStatus status = IsTrue (list_any (λ s. s == status) statuses)
 
 -- ---- the body
 

@@ -1,7 +1,8 @@
 //! The status of an answer.
 ghost use Rattle.std.specs.Prelude.{◌≡◌};
 ghost use Rattle.osm_json.specs.Refused.{refusal_status as status_of_refusal};
-ghost use Rattle.osm_json.specs.Answered.{status_of, IsStatus};
+ghost use Rattle.osm_json.specs.Answered.{status_of};
+ghost use Rattle.osm_base.specs.Status.{IsStatus};
 
 use osm_change::{Answer, Refusal};
 
