@@ -8,6 +8,7 @@ mod keys;
 mod limits;
 mod memory;
 mod moments;
+mod numbers;
 mod people;
 mod places;
 mod steps;
@@ -23,6 +24,7 @@ pub use limits::{
 };
 pub use memory::Memory;
 pub use moments::Stamp;
+pub use numbers::path_number;
 pub use people::{Owner, User};
 pub use places::{Box7, Coord};
 pub use steps::Steps;
