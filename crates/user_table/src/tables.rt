@@ -131,7 +131,9 @@ mod tests {
     fn the_second_user_is_bob(rt: HostRuntime) -> Result<(), Fail> {
         let text = b"# the team\r\n1 alicetoken user alice\r\n\n2 bobtoken moderator bob";
         let table = UserTable::read(rt.alloc(), text)?;
-        if let Who::Known(place) = table.who(Some(b"Bearer bobtoken")) {
+        let who = table.who(Some(b"Bearer bobtoken"));
+        assert_eq!(rt; who, Who::Known(1));
+        if let Who::Known(place) = who {
             let bob = table.user(place);
             assert_eq!(rt; bob.id, 2);
             assert_eq!(rt; bob.name.as_str(), "bob");
