@@ -1,14 +1,14 @@
 -- What a loop over digits needs.
-use Rattle.std.proofs.Common.{◌≡◌, ℕ, ◌+◌, ◌*◌, ◌-◌, ◌<◌, ◌≤◌, ◌^◌, true, List, length, get_or, take, arith, rules, ap, ◌∙◌, subst}
+use Rattle.std.proofs.Common.{◌≡◌, ℕ, codes, refl, Some, None, ◌+◌, ◌*◌, ◌-◌, ◌<◌, ◌≤◌, ◌^◌, true, List, length, get_or, take, arith, rules, ap, ◌∙◌, subst}
 use Rattle.std.specs.List.{list_all}
 use Rattle.std.specs.Char.{is_ascii_digit, digit_value}
 use Rattle.std.specs.Int.{IsInRange}
 use Rattle.std.specs.Str.Parse.{digits_value}
-use Rattle.std.proofs.lemmas.Str.Parse.{IsDigitsTest, IsNumeralModel, numerals_by_value, digits_value_short, digit_at, digits_value-take-le}
+use Rattle.std.proofs.lemmas.Str.Parse.{IsNumeralModel, numerals_by_value, digits_value_short, digit_at, digits_value-take-le}
 use Rattle.std.proofs.lemmas.Int.Digits.{digits_value_more}
 use Rattle.std.proofs.lemmas.Grind.{common_steps}
-use Rattle.std.proofs.lemmas.Bool.{and_parts, ltb-true, leb-true}
-use Rattle.osm_base.specs.Number.{is_digits}
+use Rattle.std.proofs.lemmas.Bool.{and_parts, leb-true}
+use Rattle.osm_base.specs.Number.{is_digits, number_of}
 
 -- the digits of a text, as std's lemmas read them
 pub digits_model : IsNumeralModel (λ ds. list_all is_ascii_digit ds ≡ true) (digits_value 10)
@@ -44,3 +44,25 @@ short_from_test text holds =
     let parts = and_parts _ _ holds in
     let counts = and_parts _ _ parts.0 in
     record { digits = parts.1; fits = short_value text parts.1 (leb-true _ _ counts.1) }
+
+-- ---- worked rows
+leading_zeros : number_of (codes "007") ≡ Some 7
+leading_zeros = refl
+
+zero : number_of (codes "0") ≡ None
+zero = refl
+
+largest : number_of (codes "9223372036854775807") ≡ Some 9_223_372_036_854_775_807
+largest = refl
+
+too_large : number_of (codes "9223372036854775808") ≡ None
+too_large = refl
+
+twenty_digits : number_of (codes "00000000000000000001") ≡ None
+twenty_digits = refl
+
+no_digits : number_of (codes "") ≡ None
+no_digits = refl
+
+plus_sign : number_of (codes "+1") ≡ None
+plus_sign = refl

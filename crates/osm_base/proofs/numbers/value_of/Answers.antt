@@ -1,4 +1,4 @@
-use Rattle.std.proofs.Common.{arith, sym, ◌∙◌}
+use Rattle.std.proofs.Common.{arith}
 use Rattle.std.proofs.lemmas.Grind.{common_steps}
 use Rattle.osm_base.proofs.NumberLemmas.{digits_value_step, next_value_le, is_digit_at}
 use Rattle.osm_base.proofs.numbers.value_of.Goals as goal

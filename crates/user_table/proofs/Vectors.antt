@@ -1,0 +1,39 @@
+-- Worked rows: the definitions compute what they should.
+use Rattle.std.proofs.Common.{◌≡◌, ℕ, true, false, List, [], ◌∷◌, ◌++◌, Some, None, Ok, Err, codes, refl}
+use Rattle.std.specs.Str.{chars}
+use Rattle.std.specs.Str.Lines.{lines}
+use Rattle.user_table.specs.Rows.{Row}
+use Rattle.user_table.specs.Users.{with_lines}
+use Rattle.user_table.specs.Who.{who_of}
+use Rattle.user_table.specs.declared.tables.Who.TheVariants as who
+use Rattle.user_table.specs.declared.faults.UsersFault.TheVariants as fault
+
+abbrev alice : Row
+alice = record { token = codes "alicetoken"; user = record { id = 1; name = codes "alice"; moderator = false } }
+
+abbrev bob : Row
+bob = record { token = codes "bobtoken"; user = record { id = 2; name = codes "bob"; moderator = true } }
+
+abbrev line_end : List ℕ
+line_end = 13 ∷ 10 ∷ []
+
+two_users : with_lines 1 [] (lines (codes "1 alicetoken user alice" ++ line_end ++ codes "# more" ++ line_end ++ line_end ++ codes "2 bobtoken moderator bob")) ≡ Ok (alice ∷ bob ∷ [])
+unfolding chars
+two_users = refl
+
+twice : with_lines 1 [] (lines (codes "1 a user x" ++ line_end ++ codes "1 a user x" ++ line_end)) ≡ Err (fault.DoubleId 2)
+unfolding chars
+twice = refl
+
+skipped_lines_count : with_lines 1 [] (lines (codes "#" ++ line_end ++ codes "1 a user x" ++ line_end ++ codes "2 a user y")) ≡ Err (fault.DoubleToken 3)
+unfolding chars
+skipped_lines_count = refl
+
+no_header : who_of (alice ∷ bob ∷ []) None ≡ who.Anonymous
+no_header = refl
+
+any_case : who_of (alice ∷ bob ∷ []) (Some (codes "bearer  bobtoken")) ≡ who.Known 1
+any_case = refl
+
+another_scheme : who_of (alice ∷ bob ∷ []) (Some (codes "Basic x")) ≡ who.Unknown
+another_scheme = refl

@@ -1,0 +1,4 @@
+pub mod Rows
+pub mod Users
+pub mod Who
+pub mod Drafts

@@ -1,0 +1,154 @@
+ghost use Rattle.std.specs.Prelude.{◌≡◌, ◌<◌, length, map, slice_get};
+ghost use Rattle.user_table.specs.Users.{table_of, Gives};
+ghost use Rattle.user_table.specs.Who.{who_of, who_at, place_of, IsWithin};
+ghost use Rattle.std.specs.Option.{option_map, option_copied};
+
+use crate::drafts::read_lines;
+use crate::faults::UsersFault;
+use crate::headers::token_of;
+use indexmap::IndexMap;
+use osm_base::{USERS_LIMIT, User};
+use std::alloc::Global;
+use std::marker::Model;
+
+/// Who sent a request.
+#[derive(Clone, Copy, Debug, PartialEq, Eq)]
+pub enum Who {
+    /// The request has no Authorization field.
+    Anonymous,
+    /// The user at a place of the table, counted from 0.
+    Known(u64),
+    Unknown,
+}
+
+/// The users who may call the server, in the order of their lines.
+#[derive(Drop)]
+pub struct UserTable {
+    users: IndexMap<Vec<u8>, User>,
+}
+
+impl Model for UserTable {
+    ghost use Rattle.std.specs.Prelude.{List};
+    ghost use Rattle.user_table.specs.Rows.{Row};
+    ghost use Rattle.user_table.specs.Drafts.{rows_of};
+
+    ghost Value = { List Row };
+
+    ghost view = { λ table. rows_of table.users.entries };
+}
+
+impl UserTable {
+    /// The table of a users text: lines `ID TOKEN ROLE NAME` parted by single spaces, where the role is
+    /// `user` or `moderator`. Empty lines and those that begin with `#` are skipped.
+    pub fn read(alloc: Global, text: &[u8]) -> Result<UserTable, UsersFault>
+        ensures { Gives (table_of text.now) result }
+    {
+        if text.len() > USERS_LIMIT {
+            return Err(UsersFault::Long);
+        }
+        match str::from_utf8(text) {
+            Ok(text) => Ok(UserTable {
+                users: read_lines(alloc, text)?,
+            }),
+            Err(_) => Err(UsersFault::NotUtf8),
+        }
+    }
+
+    /// Who sent a request, by the value of its Authorization field: `Bearer` and a token (RFC 6750,
+    /// section 2.1). Spaces and tabs at both ends of the value don't count.
+    pub fn who(&self, header: Option<&[u8]>) -> Who
+        ensures who { result ≡ who_of self.now (option_copied header.entry) }
+        ensures within { IsWithin self.now result }
+    {
+        match header {
+            None => Who::Anonymous,
+            Some(header) => self.who_is(header),
+        }
+    }
+
+    fn who_is(&self, header: &[u8]) -> Who
+        ensures { result ≡ who_of self.now (Some header.now) }
+    {
+        match token_of(header) {
+            None => Who::Unknown,
+            Some(token) => self.who_has(token),
+        }
+    }
+
+    fn who_has(&self, token: &[u8]) -> Who
+        ensures { result ≡ who_at (place_of self.now token.now) }
+    {
+        match self.users.get_index_of(token) {
+            None => Who::Unknown,
+            Some(place) => Who::Known(place as u64),
+        }
+    }
+
+    /// The user at a place, counted from 0.
+    pub fn user(&self, place: u64) -> &User
+        requires { place < length self.now }
+        ensures { slice_get (map (λ row. row.user) self.now) place ≡ Some result.now }
+    {
+        &self.users[place as usize]
+    }
+}
+
+#[cfg(test)]
+mod tests {
+    use super::*;
+    use std::test::Fail;
+
+    fn sender(alloc: Global, header: Option<&[u8]>) -> Result<Who, UsersFault> {
+        let table = UserTable::read(
+            alloc,
+            b"1 alicetoken user alice\n2 bobtoken moderator bob\n",
+        )?;
+        Ok(table.who(header))
+    }
+
+    #[test]
+    fn no_header_is_anonymous(rt: HostRuntime) -> Result<(), Fail> {
+        assert_eq!(rt; sender(rt.alloc(), None)?, Who::Anonymous);
+        Ok(())
+    }
+
+    #[test]
+    fn the_word_may_be_in_any_case(rt: HostRuntime) -> Result<(), Fail> {
+        assert_eq!(rt;
+            sender(rt.alloc(), Some(b"bearer  bobtoken"))?,
+            Who::Known(1)
+        );
+        Ok(())
+    }
+
+    #[test]
+    fn another_scheme_is_unknown(rt: HostRuntime) -> Result<(), Fail> {
+        assert_eq!(rt; sender(rt.alloc(), Some(b"Basic x"))?, Who::Unknown);
+        Ok(())
+    }
+
+    #[test]
+    fn the_second_user_is_bob(rt: HostRuntime) -> Result<(), Fail> {
+        let text = b"# the team\r\n1 alicetoken user alice\r\n\n2 bobtoken moderator bob";
+        let table = UserTable::read(rt.alloc(), text)?;
+        let who = table.who(Some(b"Bearer bobtoken"));
+        assert_eq!(rt; who, Who::Known(1));
+        if let Who::Known(place) = who {
+            let bob = table.user(place);
+            assert_eq!(rt; bob.id, 2);
+            assert_eq!(rt; bob.name.as_str(), "bob");
+            assert!(rt; bob.moderator);
+        }
+        Ok(())
+    }
+
+    fn fault_of(alloc: Global, text: &[u8]) -> Option<UsersFault> {
+        UserTable::read(alloc, text).err()
+    }
+
+    #[test]
+    fn a_line_twice_is_a_double_id(rt: HostRuntime) {
+        let fault = fault_of(rt.alloc(), b"1 a user x\n1 a user x\n");
+        assert_eq!(rt; fault, Some(UsersFault::DoubleId { line: 2 }));
+    }
+}
