@@ -1,0 +1,20 @@
+//! Messages of HTTP/1.1 read from a source, and replies written to a sink.
+#![tactic(auto)]
+
+mod block;
+mod body;
+mod buffer;
+mod end;
+mod fields;
+mod head;
+mod law;
+mod message;
+mod reply;
+mod search;
+mod wire;
+
+pub use end::WireEnd;
+pub use law::one_message;
+pub use message::Message;
+pub use reply::write_reply;
+pub use wire::Wire;
