@@ -8,7 +8,9 @@ use Rattle.http_wire.specs.declared.end.WireEnd.{WireEnd}
 use Rattle.http_wire.specs.declared.end.WireEnd.TheVariants.{BadHead, Coded, BadLength, BodyLong, Memory}
 use Rattle.osm_base.specs.declared.limits.TheConstants.{BODY_LIMIT}
 use Rattle.osm_base.specs.declared.limits.TheConstants.{HEAD_LIMIT}
-use Rattle.http_wire.specs.Fields.{NamedValue, first_value, body_length}
+use Rattle.http_wire.specs.Fields.{NamedValue, first_value}
+use Rattle.http_wire.specs.Length.{body_length}
+use Rattle.http_wire.specs.Close.{ends_link}
 use Rattle.http_wire.specs.Block.{IsBlockAt}
 
 -- The block is, in full, that request head, and has no more fields than it may have.
@@ -37,6 +39,7 @@ pub record ReadsHead (block : List ℕ) (kept : Head) : Type 0 where
   pub fits : kept.length ≤ BODY_LIMIT
   pub method : kept.method ≡ head.method
   pub target : kept.target ≡ head.target
+  pub close : kept.close ≡ ends_link head.minor (fields_of head)
   pub authorization : kept.authorization ≡ first_value (codes "authorization") (fields_of head)
   pub media : kept.media ≡ first_value (codes "content-type") (fields_of head)
 

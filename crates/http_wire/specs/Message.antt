@@ -1,5 +1,5 @@
 -- A message, and a list of messages, in bytes.
-use Rattle.std.specs.Prelude.{◌≡◌, ℕ, ◌≤◌, List, [], ◌∷◌, ◌++◌, length, slice_range, drop, Result, Ok, Err, false}
+use Rattle.std.specs.Prelude.{◌≡◌, ℕ, ◌≤◌, List, [], ◌∷◌, ◌++◌, length, slice_range, drop, Result, Ok, Err}
 use Rattle.osm_base.specs.declared.limits.TheConstants.{HEAD_LIMIT}
 use Rattle.http_wire.specs.declared.end.WireEnd.{WireEnd}
 use Rattle.http_wire.specs.declared.head.Head.{Head}
@@ -13,7 +13,7 @@ abbrev pub message_of : Head → List ℕ → Message
 message_of kept body = record {
   method = kept.method;
   target = kept.target;
-  close = false;
+  close = kept.close;
   authorization = kept.authorization;
   media = kept.media;
   body = body;

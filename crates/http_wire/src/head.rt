@@ -5,8 +5,10 @@ ghost use Rattle.httparse.specs.Spans.{IsRequestAt, IsRequestWithin};
 ghost use Rattle.http_wire.specs.Head.{IsHeadOf, HasNoHead, ReadsHead, RefusesHead};
 ghost use Rattle.osm_base.specs.declared.limits.TheConstants.{FIELD_LIMIT};
 
+use crate::close::ends_link;
 use crate::end::WireEnd;
-use crate::fields::{body_length, first_value};
+use crate::fields::first_value;
+use crate::length::body_length;
 use httparse::Status;
 use httparse::spans::{EMPTY_HEADER_SPAN, HeaderSpan, RequestSpans, parse_request};
 use osm_base::{BODY_LIMIT, Bytes, FIELD_LIMIT, Memory};
@@ -17,6 +19,8 @@ use std::alloc::Global;
 pub struct Head {
     pub method: Bytes,
     pub target: Bytes,
+    /// Whether the link ends after the reply.
+    pub close: bool,
     pub authorization: Option<Bytes>,
     pub media: Option<Bytes>,
     /// The length of the body.
@@ -72,6 +76,7 @@ pub fn read_head(alloc: Global, block: &[u8]) -> Result<Head, WireEnd>
     Ok(Head {
         method: Bytes::of(alloc, found.method.of(block))?,
         target: Bytes::of(alloc, found.path.of(block))?,
+        close: ends_link(found.version, block, headers),
         authorization: copied(alloc, authorization)?,
         media: copied(alloc, media)?,
         length,

@@ -4,10 +4,12 @@
 mod block;
 mod body;
 mod buffer;
+mod close;
 mod end;
 mod fields;
 mod head;
 mod law;
+mod length;
 mod message;
 mod reply;
 mod search;

@@ -35,6 +35,7 @@ fn message_of(head: Head, body: Bytes) -> Message
     let Head {
         method,
         target,
+        close,
         authorization,
         media,
         length: _,
@@ -42,7 +43,7 @@ fn message_of(head: Head, body: Bytes) -> Message
     Message {
         method,
         target,
-        close: false,
+        close,
         authorization,
         media,
         body,

@@ -3,15 +3,15 @@ ghost use Rattle.std.specs.Prelude.{◌≡◌, ◌+◌, ◌<◌, ◌≤◌, ◌+
 ghost use Rattle.arrayvec.specs.ArrayVec.{array_vec_len};
 ghost use Rattle.http_wire.specs.Reply.{IsStatus, status_text, close_line, reply_head, reply};
 ghost use Rattle.http_wire.specs.Written.{Writes};
-ghost use Rattle.http_wire.specs.declared.reply.TheConstants.{HEAD_ROOM};
+ghost use Rattle.http_wire.specs.declared.reply.TheConstants.{PIECE_ROOM};
 ghost use Rattle.osm_outside.specs.Told.{Rose};
 
 use arrayvec::ArrayVec;
 use itoa::Buffer;
 use osm_outside::{Failed, Outside, Sink};
 
-/// Room for the head of any reply.
-const HEAD_ROOM: usize = 192;
+/// A reply of at most so many bytes is written in one piece. The head of any reply has fewer.
+const PIECE_ROOM: usize = 1_024;
 
 /// A status and its reason.
 fn status_text(status: u16) -> &'static [u8]
@@ -37,8 +37,8 @@ fn status_text(status: u16) -> &'static [u8]
 }
 
 /// Appends a piece of the head.
-fn append(head: &mut ArrayVec<u8, HEAD_ROOM>, piece: &[u8])
-    requires { array_vec_len head.old + length piece.now ≤ HEAD_ROOM }
+fn append(head: &mut ArrayVec<u8, PIECE_ROOM>, piece: &[u8])
+    requires { array_vec_len head.old + length piece.now ≤ PIECE_ROOM }
     ensures items { head.new.items ≡ head.old.items ++ piece.now }
     ensures len { array_vec_len head.new ≡ array_vec_len head.old + length piece.now }
 {
@@ -47,7 +47,7 @@ fn append(head: &mut ArrayVec<u8, HEAD_ROOM>, piece: &[u8])
 
 /// The head of a reply with a body of that many bytes.
 #[tactic(auto, unfolding(crate::specs::Reply::reply_head))]
-fn reply_head(status: u16, size: usize, close: bool) -> ArrayVec<u8, HEAD_ROOM>
+fn reply_head(status: u16, size: usize, close: bool) -> ArrayVec<u8, PIECE_ROOM>
     ensures { result.items ≡ reply_head status size close }
 {
     let mut digits = Buffer::new();
@@ -95,7 +95,12 @@ pub fn write_reply<S: Sink>(
     ensures writes { Writes (S.told sink.old) (S.told sink.new) (reply status body.now close) result }
     ensures failed { IsErr result → Rose (S.told sink.old).write_faults (S.told sink.new).write_faults }
 {
-    let head = reply_head(status, body.len(), close);
+    let mut head = reply_head(status, body.len(), close);
+    // A second small write would wait on a real socket.
+    if body.len() <= PIECE_ROOM - head.len() {
+        append(&mut head, body);
+        return write_all(sink, head.as_slice());
+    }
     write_all(sink, head.as_slice())?;
     write_all(sink, body)
 }
