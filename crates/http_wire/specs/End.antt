@@ -40,3 +40,17 @@ abbrev pub AgreesWithInput : WireEnd → Option (List ℕ) → Type 0
 AgreesWithInput End left = IsAtEnd left
 AgreesWithInput Truncated left = IsAtEnd left
 AgreesWithInput other left = ⊤
+
+-- The bytes alone tell this end. A fault in reading and want of memory may come at any bytes.
+abbrev pub IsTold : WireEnd → Type 0
+IsTold ReadFault = ⊥
+IsTold Memory = ⊥
+IsTold other = ⊤
+
+-- The bytes so far tell this end, whatever follows. The others wait for the end of the input.
+abbrev pub IsSettled : WireEnd → Type 0
+IsSettled End = ⊥
+IsSettled Truncated = ⊥
+IsSettled ReadFault = ⊥
+IsSettled Memory = ⊥
+IsSettled other = ⊤
