@@ -220,8 +220,10 @@ told_is_truncated bytes rest m e begins told ends = by_side (sides bytes e told 
   where
     w : HasBlock bytes
     w = HasBlock-from_message bytes rest m begins
+
     reads : ReadsHead (block_of bytes w) begins.1.kept
     reads = head_of_message bytes rest m begins
+
     by_side : Sides bytes e → e ≡ Truncated
     by_side (inl x) = absurd (x.0 w)
     by_side (inr x) =

@@ -109,12 +109,16 @@ same_without_zeros xs ys p q e = by_parts s.first t.first
   where
     s : Stripped xs (without_zeros xs)
     s = stripped xs p
+
     t : Stripped ys (without_zeros ys)
     t = stripped ys q
+
     same : digits_value_after 10 0 (without_zeros xs) ≡ digits_value_after 10 0 (without_zeros ys)
     same = s.value ∙ e ∙ sym t.value
+
     Starts : List ℕ → Type 0
     Starts l = (l ≡ []) ⊎ ((x : ℕ) × (more : List ℕ) × (l ≡ x ∷ more) × (x ≢ 48))
+
     shorter : (l k : List ℕ) → Starts l → IsDigits l → IsDigits k → digits_value_after 10 0 l ≡ digits_value_after 10 0 k → ¬ (length k < length l)
     shorter l k (inl none) dl dk v below = absurd (omega (arith, ap length none))
     shorter l k (inr some) dl dk v below =
@@ -122,6 +126,7 @@ same_without_zeros xs ys p q e = by_parts s.first t.first
         not_longer some.0 some.1 k some.3 (subst IsDigits l_is dl) dk
         (subst (λ (m : List ℕ). length k < length m) l_is below)
         (subst (λ (m : List ℕ). digits_value_after 10 0 m ≡ digits_value_after 10 0 k) l_is v)
+
     by_parts : Starts (without_zeros xs) → Starts (without_zeros ys) → without_zeros xs ≡ without_zeros ys
     by_parts a b =
         let no = shorter (without_zeros xs) (without_zeros ys) a s.passes t.passes same in
@@ -134,8 +139,7 @@ pub same_numbers : (text digits : List ℕ) → IsDigits text → IsDigits digit
 same_numbers text digits p q =
     let s = stripped text p in
     let t = stripped digits q in
-    same_from_decides (bytes_eq (without_zeros text) (without_zeros digits)) (digits_value 10 text == digits_value 10 digits)
-    (
+    same_from_decides (bytes_eq (without_zeros text) (without_zeros digits)) (digits_value 10 text == digits_value 10 digits) (
       λ e. sym s.value ∙ ap (digits_value 10) ((bytes_eq-Decides (without_zeros text) (without_zeros digits)).0 e) ∙ t.value,
       λ e. (bytes_eq-Decides (without_zeros text) (without_zeros digits)).1 (same_without_zeros text digits p q e),
     )

@@ -14,15 +14,16 @@ use std::marker::Model;
 #[derive(Drop)]
 pub struct Buffer {
     bytes: Vec<u8>,
-    len: usize,
+    start: usize,
+    end: usize,
 }
 
 impl Model for Buffer {
     ghost Value = { List ℕ };
 
-    ghost view = { λ b. take b.len b.bytes.items };
+    ghost view = { λ b. drop b.start (take b.end b.bytes.items) };
 
-    ghost invariant = { λ b. (b.len ≤ HEAD_LIMIT) × (vec_len b.bytes ≡ HEAD_LIMIT) };
+    ghost invariant = { λ b. (b.start ≤ b.end) × (b.end ≤ HEAD_LIMIT) × (vec_len b.bytes ≡ HEAD_LIMIT) };
 }
 
 impl Buffer {
@@ -32,7 +33,8 @@ impl Buffer {
     {
         Ok(Buffer {
             bytes: Vec::from_elem(alloc, 0, HEAD_LIMIT)?,
-            len: 0,
+            start: 0,
+            end: 0,
         })
     }
 
@@ -41,19 +43,19 @@ impl Buffer {
         ensures bytes { result.now ≡ self.now }
         ensures limit { length self.now ≤ HEAD_LIMIT }
     {
-        &self.bytes[..self.len]
+        &self.bytes[self.start..self.end]
     }
 
-    /// Lets the first bytes go. It moves the others, once for each message.
+    /// Lets the first bytes go.
     pub fn drop_front(&mut self, count: usize)
         requires { count ≤ length self.old }
         ensures { self.new ≡ drop count self.old }
     {
-        move_to_front(self.bytes.as_mut_slice(), count, self.len);
-        self.len -= count;
+        self.start += count;
     }
 
-    /// Reads some bytes to the end, if there are some.
+    /// Reads some bytes to the end, if there are some. Those that are there move to the front first. A caller reads more only
+    /// where they aren't a whole message, so each byte moves once at most.
     pub fn fill<S: Source>(&mut self, source: &mut S) -> Result<usize, Failed>
         requires { length self.old < HEAD_LIMIT }
         ensures received { Receives (S.told source.old) (S.told source.new) self.old self.new }
@@ -62,8 +64,12 @@ impl Buffer {
         ensures err { OnErr result (self.new ≡ self.old) }
         ensures failed { IsErr result → Rose (S.told source.old).read_faults (S.told source.new).read_faults }
     {
-        let count = read_behind(self.bytes.as_mut_slice(), self.len, source)?;
-        self.len += count;
+        let len = self.end - self.start;
+        move_to_front(self.bytes.as_mut_slice(), self.start, self.end);
+        self.start = 0;
+        self.end = len;
+        let count = read_behind(self.bytes.as_mut_slice(), len, source)?;
+        self.end += count;
         Ok(count)
     }
 }
@@ -75,7 +81,9 @@ fn move_to_front(bytes: &mut [u8], start: usize, end: usize)
     ensures front { take (end - start) bytes.new ≡ drop start (take end bytes.old) }
     ensures len { length bytes.new ≡ length bytes.old }
 {
-    bytes.copy_within(start..end, 0);
+    if start > 0 {
+        bytes.copy_within(start..end, 0);
+    }
 }
 
 /// Reads some bytes to the places from `len` on.

@@ -50,9 +50,7 @@ fn is_close(part: &[u8]) -> bool
 fn says_close(value: &[u8]) -> bool
     ensures { result ≡ says_close value.now }
 {
-    value
-        .split(|byte| *byte == b',')
-        .any(|part| is_close(part))
+    value.split(|byte| *byte == b',').any(|part| is_close(part))
 }
 
 /// Whether the version is HTTP/1.0, or some Connection field says close.
