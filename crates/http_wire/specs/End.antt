@@ -31,8 +31,8 @@ EndsAs bytes BadHead = RefusesBlock bytes BadHead
 EndsAs bytes Coded = RefusesBlock bytes Coded
 EndsAs bytes BadLength = RefusesBlock bytes BadLength
 EndsAs bytes BodyLong = RefusesBlock bytes BodyLong
--- each whole message before it was given
-EndsAs bytes ReadFault = HasNoBlock bytes ⊎ IsOpenBody bytes
+-- reading failed before the next message was whole
+EndsAs bytes ReadFault = (HasNoBlock bytes × (length bytes < HEAD_LIMIT)) ⊎ IsOpenBody bytes
 EndsAs bytes Memory = ⊤
 
 -- The input is at its end where the end says so.
