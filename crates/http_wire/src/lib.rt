@@ -16,7 +16,13 @@ mod search;
 mod wire;
 
 pub use end::WireEnd;
-pub use law::{end_in_any_pieces, end_stays, message_in_any_pieces, message_stays, no_empty_message, no_end_at_a_message, one_end, one_message, one_reading};
+pub use law::{
+    end_in_any_pieces, end_stays, message_in_any_pieces, message_stays, no_empty_message,
+    no_end_at_a_message, one_end, one_message, one_reading,
+};
 pub use message::Message;
 pub use reply::write_reply;
 pub use wire::Wire;
+
+#[cfg(test)]
+mod tests;
