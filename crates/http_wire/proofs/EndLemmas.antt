@@ -1,11 +1,10 @@
 -- Bytes come to one end at most, and to none where a message begins.
-use Rattle.std.proofs.Common.{◌≡◌, ℕ, suc, ◌+◌, ◌-◌, ◌<◌, ◌≤◌, ◌⊎◌, inl, inr, Bool, true, false, nat_le, nat_lt, List, [], ◌∷◌, ◌++◌, length, take, drop, get_or, slice_range, codes, Option, Some, None, IsNone, IsSomeAnd, is_some, if◌then◌else◌, refl, sym, ap, subst, ◌∙◌, arith, append_assoc, length-append, length-drop}
+use Rattle.std.proofs.Common.{◌≡◌, ℕ, suc, ◌-◌, ◌<◌, ◌≤◌, ◌⊎◌, inl, inr, Bool, true, false, nat_le, nat_lt, List, [], ◌∷◌, ◌++◌, length, take, get_or, slice_range, codes, Option, Some, None, IsNone, IsSomeAnd, is_some, if◌then◌else◌, refl, sym, ap, subst, ◌∙◌, arith, append_assoc, length-append, length-drop}
 use Rattle.std.specs.List.{list_all}
-use Rattle.std.specs.Option.{option_map_or}
 use Rattle.std.proofs.lemmas.Bool.{false≢true, and_from}
 use Rattle.std.proofs.lemmas.Bool.Decides.{nat_tests}
 use Rattle.std.proofs.lemmas.List.Folds.{list_all_at}
-use Rattle.std.proofs.lemmas.List.{take-append-le, drop-append-le, drop_at}
+use Rattle.std.proofs.lemmas.List.{take-append-le}
 use Rattle.httparse.specs.Grammar.{RequestHead}
 use Rattle.httparse.proofs.GrammarLemmas.{request_unique}
 use Rattle.osm_base.specs.declared.limits.TheConstants.{HEAD_LIMIT, BODY_LIMIT}
@@ -13,12 +12,12 @@ use Rattle.http_wire.specs.declared.end.WireEnd.{WireEnd}
 use Rattle.http_wire.specs.declared.end.WireEnd.TheVariants.{End, Truncated, BadHead, HeadLong, BadLength, BodyLong, Coded, ReadFault, Memory}
 use Rattle.http_wire.specs.declared.head.Head.{Head}
 use Rattle.http_wire.specs.declared.message.Message.{Message}
-use Rattle.http_wire.specs.Block.{is_line_byte, BeginsAt, IsBlockAt, IsBlank, IsOpenBlock, HasNoBlock}
+use Rattle.http_wire.specs.Block.{is_line_byte, IsBlockAt, IsBlank, IsOpenBlock, HasNoBlock}
 use Rattle.http_wire.specs.Fields.{first_value}
 use Rattle.http_wire.specs.Length.{body_length}
 use Rattle.http_wire.specs.Head.{IsHeadOf, HasNoHead, ReadsHead, RefusesHead, RefusesBlock, fields_of, IsPlain}
 use Rattle.http_wire.specs.End.{EndsAs, IsCut, IsOpenBody, IsTold, IsSettled}
-use Rattle.http_wire.specs.Message.{IsMessage, BeginsWith, HasMessages, AreMessages}
+use Rattle.http_wire.specs.Message.{BeginsWith, HasMessages, AreMessages}
 use Rattle.http_wire.proofs.BlockLemmas.{IsBlockAt-append, IsBlockAt-take}
 use Rattle.http_wire.proofs.ListLemmas.{slice_range-append}
 use Rattle.http_wire.proofs.UniqueLemmas.{one_begin, one_end, same_head, one_message}
@@ -51,9 +50,6 @@ long_no_block bytes none w =
       block = IsBlockAt-take bytes HEAD_LIMIT w.begin w.end w.limit w.block;
       limit = w.limit;
     })
-
-blank_not_open : (bytes : List ℕ) → IsBlank bytes → ¬ (IsOpenBlock bytes)
-blank_not_open bytes blank o = false≢true (sym o.begins.begun ∙ blank o.begin o.begins.within)
 
 -- two whole head blocks at the front are one
 same_begin : (bytes : List ℕ) (v w : HasBlock bytes) → v.begin ≡ w.begin

@@ -2,12 +2,10 @@
 use Rattle.std.specs.Prelude.{◌≡◌, ℕ, ◌<◌, ◌≤◌, List, [], Some, length, map, codes, IsNone, IsSomeAnd, slice_range, ⊤}
 use Rattle.httparse.specs.Grammar.{RequestHead, ReadsRequest}
 use Rattle.httparse.specs.Spans.{name_and_value}
-use Rattle.osm_base.specs.declared.limits.TheConstants.{FIELD_LIMIT}
+use Rattle.osm_base.specs.declared.limits.TheConstants.{HEAD_LIMIT, FIELD_LIMIT, BODY_LIMIT}
 use Rattle.http_wire.specs.declared.head.Head.{Head}
 use Rattle.http_wire.specs.declared.end.WireEnd.{WireEnd}
 use Rattle.http_wire.specs.declared.end.WireEnd.TheVariants.{BadHead, Coded, BadLength, BodyLong, Memory}
-use Rattle.osm_base.specs.declared.limits.TheConstants.{BODY_LIMIT}
-use Rattle.osm_base.specs.declared.limits.TheConstants.{HEAD_LIMIT}
 use Rattle.http_wire.specs.Fields.{NamedValue, first_value}
 use Rattle.http_wire.specs.Length.{body_length}
 use Rattle.http_wire.specs.Close.{ends_link}

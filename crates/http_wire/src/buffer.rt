@@ -1,5 +1,5 @@
 //! The bytes that were read and aren't used yet.
-ghost use Rattle.std.specs.Prelude.{◌≡◌, ◌≤◌, ◌<◌, ◌+◌, ◌-◌, ◌++◌, [], List, ℕ, length, take, drop, IfOk, OnErr, IsErr, vec_len};
+ghost use Rattle.std.specs.Prelude.{◌≡◌, ◌≤◌, ◌<◌, ◌+◌, ◌-◌, [], List, ℕ, length, take, drop, IfOk, OnErr, IsErr, vec_len};
 ghost use Rattle.std.specs.Io.KnownBytes.{IsAtEnd};
 ghost use Rattle.http_wire.specs.Received.{Receives};
 ghost use Rattle.osm_base.specs.declared.limits.TheConstants.{HEAD_LIMIT};

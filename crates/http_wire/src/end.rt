@@ -2,22 +2,23 @@
 ghost use Rattle.std.specs.Prelude.{◌≡◌};
 ghost use Rattle.http_wire.specs.declared.end.WireEnd.TheVariants.{Memory};
 
-/// Why no message was read.
+/// Why no message was read. The faults of a whole head are looked for in the order `BadHead`,
+/// `Coded`, `BadLength`, `BodyLong`.
 #[derive(Clone, Copy, Debug, PartialEq, Eq)]
 pub enum WireEnd {
     /// The input ended between messages.
     End,
     /// The input ended inside a message.
     Truncated,
-    /// The head isn't one of HTTP/1.0 or HTTP/1.1 with at most 64 fields.
+    /// The head isn't, in full, one of HTTP/1.0 or HTTP/1.1 with at most `FIELD_LIMIT` fields.
     BadHead,
-    /// The head has more bytes than a head may have.
+    /// No head ends within `HEAD_LIMIT` bytes, counted from the end of the message before it.
     HeadLong,
-    /// The lengths of the body that the head gives aren't one number.
+    /// The Content-Length fields aren't digits that all write one number.
     BadLength,
-    /// The body has more bytes than a body may have.
+    /// The body has more than `BODY_LIMIT` bytes.
     BodyLong,
-    /// The body is coded, or has a coding that isn't read.
+    /// The head has a Transfer-Encoding field, and no coding is read.
     Coded,
     /// Reading failed.
     ReadFault,

@@ -1,5 +1,5 @@
 //! The length of a body, by the Content-Length fields. Numbers of any size are compared exactly.
-ghost use Rattle.std.specs.Prelude.{◌≡◌, ◌+◌, map, min, length, All, IsTrue, Option, option_map, codes};
+ghost use Rattle.std.specs.Prelude.{◌≡◌, ◌+◌, map, min, length, All, IsTrue, option_map};
 ghost use Rattle.std.specs.Char.{is_ascii_digit};
 ghost use Rattle.std.specs.List.{list_all};
 ghost use Rattle.std.specs.Str.Parse.{digits_value};

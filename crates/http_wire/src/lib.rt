@@ -1,4 +1,4 @@
-//! Messages of HTTP/1.1 read from a source, and replies written to a sink.
+//! Messages of HTTP/1.1 (RFC 9112) read from a source, and replies written to a sink.
 #![tactic(auto)]
 
 mod block;

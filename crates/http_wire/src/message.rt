@@ -1,5 +1,5 @@
 //! One message.
-ghost use Rattle.std.specs.Prelude.{◌≡◌, ◌<◌, IfErr, IsErrOf};
+ghost use Rattle.std.specs.Prelude.{◌≡◌, IfErr, IsErrOf};
 ghost use Rattle.http_wire.specs.End.{AgreesWithInput};
 ghost use Rattle.http_wire.specs.Message.{message_of};
 ghost use Rattle.http_wire.specs.Wire.{Reads};
@@ -14,12 +14,13 @@ use osm_base::Bytes;
 use osm_outside::{Outside, Source};
 use std::alloc::Global;
 
-/// A request as it came.
+/// A request as it came (RFC 9112, sections 2 to 6). The target is kept as it was written.
 #[derive(Drop)]
 pub struct Message {
     pub method: Bytes,
     pub target: Bytes,
-    /// Whether the link ends after the reply.
+    /// Whether the link ends after the reply: the version is HTTP/1.0, or a Connection field says
+    /// `close`.
     pub close: bool,
     /// The value of the first Authorization field.
     pub authorization: Option<Bytes>,

@@ -1,7 +1,7 @@
 //! Replies written to a sink.
-ghost use Rattle.std.specs.Prelude.{◌≡◌, ◌+◌, ◌<◌, ◌≤◌, ◌++◌, length, codes, decimal, IsErr};
+ghost use Rattle.std.specs.Prelude.{◌≡◌, ◌+◌, ◌≤◌, ◌++◌, length, IsErr};
 ghost use Rattle.arrayvec.specs.ArrayVec.{array_vec_len};
-ghost use Rattle.http_wire.specs.Reply.{IsStatus, status_text, close_line, reply_head, reply};
+ghost use Rattle.http_wire.specs.Reply.{IsStatus, status_text, reply_head, reply};
 ghost use Rattle.http_wire.specs.Written.{Writes};
 ghost use Rattle.http_wire.specs.declared.reply.TheConstants.{PIECE_ROOM};
 ghost use Rattle.osm_outside.specs.Told.{Rose};
@@ -84,7 +84,8 @@ fn write_all<S: Sink>(sink: &mut S, bytes: &[u8]) -> Result<(), Failed>
     Ok(())
 }
 
-/// Writes a reply. At a fault a beginning of it was written.
+/// Writes a reply with a JSON body (RFC 9112, section 4), in one write where it fits `PIECE_ROOM` bytes and the sink takes
+/// all. `close` says in a Connection field that the link ends after it. At a fault a beginning of it was written.
 pub fn write_reply<S: Sink>(
     sink: &mut S,
     status: u16,

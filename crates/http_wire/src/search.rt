@@ -1,5 +1,5 @@
 //! Reading until a head block is whole.
-ghost use Rattle.std.specs.Prelude.{◌≡◌, ◌<◌, ◌≤◌, length, IfOk, IfErr, IsErrOf};
+ghost use Rattle.std.specs.Prelude.{◌≤◌, length, IfOk, IfErr, IsErrOf};
 ghost use Rattle.http_wire.specs.Block.{IsBlockAt};
 ghost use Rattle.http_wire.specs.End.{EndsAs, AgreesWithInput};
 ghost use Rattle.http_wire.specs.Received.{Receives};

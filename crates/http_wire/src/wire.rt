@@ -1,5 +1,5 @@
 //! Messages one after another.
-ghost use Rattle.std.specs.Prelude.{◌≡◌, ◌<◌, [], IfOk, IfErr, IsErrOf, IsFalse, is_err};
+ghost use Rattle.std.specs.Prelude.{◌≡◌, [], IfOk, IfErr, IsErrOf, IsFalse, is_err};
 ghost use Rattle.http_wire.specs.End.{AgreesWithInput};
 ghost use Rattle.http_wire.specs.Wire.{Reads};
 ghost use Rattle.osm_outside.specs.Told.{Rose};
