@@ -1,0 +1,62 @@
+use crate::refusals::Refusal;
+use osm_base::{Box7, Items, Key, Kind, Owner, Stamp};
+use osm_element::{Tags, Version};
+
+/// What one operation of an upload came to, as the client is told (OpenStreetMap wiki, API v0.6,
+/// "Diff upload"). A delete that was applied has neither new id nor new version.
+#[derive(Clone, Copy, Debug)]
+pub struct DiffRow {
+    pub kind: Kind,
+    pub old_id: i64,
+    pub new_id: Option<u64>,
+    pub new_version: Option<u64>,
+}
+
+/// One row for each operation, in the order of the upload.
+pub type DiffRows = Items<DiffRow>;
+
+/// One version of an element, with the owner of its changeset.
+#[derive(Debug, Drop)]
+pub struct ElementRow {
+    pub key: Key,
+    pub number: u64,
+    pub version: Version,
+    pub owner: Owner,
+}
+
+/// Nodes, then ways, then relations, each by id; a history and a download keep their own order.
+pub type ElementRows = Items<ElementRow>;
+
+/// A changeset, as the client is told. It is open where `closes` is missing.
+#[derive(Debug, Drop)]
+pub struct ChangesetRow {
+    pub count: u64,
+    pub closes: Option<Stamp>,
+    pub created: Stamp,
+    pub id: u64,
+    pub touched: Option<Box7>,
+    pub tags: Tags,
+    pub owner: Owner,
+}
+
+/// The newest changeset first.
+pub type ChangesetRows = Items<ChangesetRow>;
+
+/// What a call of the server answers.
+#[derive(Debug, Drop)]
+pub enum Answer {
+    /// A new id, or a new version.
+    Number(u64),
+    Nothing,
+    Diff(DiffRows),
+    /// Elements; the map call gives its box as their bounds.
+    Elements {
+        bounds: Option<Box7>,
+        rows: ElementRows,
+    },
+    /// The versions that a changeset made.
+    Change(ElementRows),
+    Changeset(ChangesetRow),
+    Changesets(ChangesetRows),
+    Refused(Refusal),
+}

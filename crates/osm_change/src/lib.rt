@@ -1,0 +1,18 @@
+//! What an upload asks, and what the server answers.
+#![tactic(auto)]
+
+mod answers;
+mod changes;
+mod listed;
+mod operations;
+mod raw;
+mod refusals;
+
+pub use answers::{
+    Answer, ChangesetRow, ChangesetRows, DiffRow, DiffRows, ElementRow, ElementRows,
+};
+pub use changes::Change;
+pub use listed::{kind_of, names_listed};
+pub use operations::{FirstIds, Name, Named, Op, OpDone, OpDones};
+pub use raw::{Action, RawOp};
+pub use refusals::{Refusal, Said};

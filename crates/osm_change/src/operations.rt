@@ -1,0 +1,102 @@
+use osm_base::{Items, Kind, Memory, TryCopy};
+use osm_element::{Content, Tags};
+use std::alloc::Global;
+
+/// The element that an operation names: one of before the upload, by its id, or the one that an
+/// earlier operation creates, by the place of that operation, counted from 0.
+#[derive(Clone, Copy, Debug)]
+pub enum Name {
+    Old(u64),
+    New(u32),
+}
+
+impl TryCopy for Name {
+    fn copy(&self, _: Global) -> Result<Name, Memory> {
+        Ok(*self)
+    }
+}
+
+/// An element as an operation names it.
+#[derive(Clone, Copy, Debug)]
+pub struct Named {
+    pub kind: Kind,
+    pub name: Name,
+}
+
+/// One operation of an upload.
+#[derive(Debug, Drop)]
+pub enum Op {
+    Create {
+        placeholder: i64,
+        content: Content<Name>,
+        tags: Tags,
+    },
+    Modify {
+        name: Name,
+        version: u64,
+        content: Content<Name>,
+        tags: Tags,
+    },
+    Delete {
+        kind: Kind,
+        name: Name,
+        version: u64,
+        if_unused: bool,
+    },
+}
+
+impl TryCopy for Op {
+    fn copy(&self, alloc: Global) -> Result<Op, Memory> {
+        match self {
+            Op::Create {
+                placeholder,
+                content,
+                tags,
+            } => Ok(Op::Create {
+                placeholder: *placeholder,
+                content: content.copy(alloc)?,
+                tags: tags.copy(alloc)?,
+            }),
+            Op::Modify {
+                name,
+                version,
+                content,
+                tags,
+            } => Ok(Op::Modify {
+                name: *name,
+                version: *version,
+                content: content.copy(alloc)?,
+                tags: tags.copy(alloc)?,
+            }),
+            Op::Delete {
+                kind,
+                name,
+                version,
+                if_unused,
+            } => Ok(Op::Delete {
+                kind: *kind,
+                name: *name,
+                version: *version,
+                if_unused: *if_unused,
+            }),
+        }
+    }
+}
+
+/// What an accepted operation did: made the version with this number, or left the element at it.
+#[derive(Clone, Copy, Debug)]
+pub enum OpDone {
+    Applied { version: u64 },
+    Skipped { version: u64 },
+}
+
+/// One for each operation of an upload, in order.
+pub type OpDones = Items<OpDone>;
+
+/// The ids that the next elements of each kind get.
+#[derive(Clone, Copy, Debug)]
+pub struct FirstIds {
+    pub node: u64,
+    pub way: u64,
+    pub relation: u64,
+}
