@@ -11,4 +11,6 @@ pub use end::LinkEnd;
 pub use link::serve_desk;
 
 #[cfg(test)]
+mod clock_tests;
+#[cfg(test)]
 mod tests;

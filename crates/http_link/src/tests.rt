@@ -23,11 +23,9 @@ impl Desk for LengthDesk {
     }
 }
 
+/// How a link with this input in pieces of that size ends, and the link.
 fn served(alloc: Global, input: &[u8], cut: usize) -> Result<(LinkEnd, MemLink), Memory> {
-    let mut cuts = Vec::new(alloc);
-    for _ in 0..input.len() {
-        cuts.push(cut).map_err(|_| Memory)?;
-    }
+    let cuts = Vec::from_elem(alloc, cut, input.len())?;
     let input = Bytes::of(alloc, input)?;
     let mut link = MemLink::new(
         alloc,
