@@ -11,6 +11,7 @@ pub record Exchange : Type 0 where
   pub moment : ℕ
   pub answer : Reply
 
+-- their messages, in order
 abbrev pub messages_of : List Exchange → List Message
 messages_of exchanges = map (λ e. e.message) exchanges
 

@@ -16,6 +16,7 @@ use Rattle.http_link.specs.Exchange.{Exchange, Chain, messages_of, text_of, text
 use Rattle.http_link.specs.Input.{EndsByInput}
 use Rattle.http_link.specs.Turn.{refusal}
 
+-- the moments at which their messages were whole, in order
 abbrev pub moments_of : List Exchange → List ℕ
 moments_of exchanges = map (λ e. e.moment) exchanges
 
@@ -39,6 +40,7 @@ pub record Served {D : Type 0} (allows : D → Message → ℕ → Reply → D �
   pub answered : Chain allows start exchanges now
   -- the clock was read once for each message
   pub moments : Appends before.moments after.moments (moments_of exchanges)
+  -- a clock that was fixed gave that moment each time
   pub fixed : IfSome before.fixed (λ at. AllByRecursion (λ e. e.moment ≡ at) exchanges)
   pub stays : after.fixed ≡ before.fixed
   pub output : Appends before.written after.written written
