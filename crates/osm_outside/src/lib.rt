@@ -2,8 +2,16 @@
 //! stand-ins in memory.
 #![tactic(auto)]
 
+mod answered;
+mod calls;
+mod host;
 mod memory;
 mod outside;
+mod watch;
 
+pub use host::MemHost;
 pub use memory::MemLink;
 pub use outside::{Clock, Failed, Host, HostFault, Link, Outside, Sink, Source};
+
+#[cfg(test)]
+mod tests;

@@ -4,7 +4,7 @@ ghost use Rattle.std.specs.Io.KnownBytes.{ReadConsumes, WriteAppends, Appends};
 ghost use Rattle.osm_base.specs.declared.limits.TheConstants.{USERS_LIMIT};
 ghost use Rattle.osm_outside.specs.Told.{Told, HostTold, Rose, OnlyReads, OnlyWrites, OnlyTime, OnlyFaults};
 
-use osm_base::Bytes;
+use osm_base::{Bytes, Memory};
 use std::alloc::Global;
 
 /// A read, a write or an accept failed.
@@ -64,6 +64,16 @@ pub enum HostFault {
     Failed,
     /// There was no memory.
     Memory,
+}
+
+impl From<Memory> for HostFault {
+    ghost use Rattle.osm_outside.specs.declared.outside.HostFault.TheVariants as fault;
+
+    ghost from_gives = { λ _ why. why ≡ fault.Memory };
+
+    fn from(_: Memory) -> HostFault {
+        HostFault::Memory
+    }
 }
 
 /// What the program is run on, beside its standard link.

@@ -1,0 +1,4 @@
+pub mod TurnLemmas
+pub mod LinkLemmas
+pub mod InputLemmas
+pub mod ServesLemmas

@@ -1,0 +1,128 @@
+//! One message and its reply.
+ghost use Rattle.std.specs.Prelude.{◌≡◌, ◌+◌, ◌<◌, IsErr, IsFalse};
+ghost use Rattle.osm_base.specs.declared.limits.TheConstants.{REQUEST_LIMIT};
+ghost use Rattle.osm_outside.specs.Told.{Rose};
+ghost use Rattle.http_wire.specs.Reply.{IsStatus, reply};
+ghost use Rattle.http_wire.specs.Written.{Writes};
+ghost use Rattle.http_link.specs.Desk.{counted_reply};
+ghost use Rattle.http_link.specs.Exchange.{closes};
+ghost use Rattle.http_link.specs.Turn.{Replies, Refuses, TakesTurn, refusal, end_of};
+
+use crate::desk::{Desk, Reply};
+use crate::end::LinkEnd;
+use http_wire::{Message, Wire, WireEnd, write_reply};
+use osm_base::{Memory, REQUEST_LIMIT};
+use osm_outside::{Clock, Failed, Link, Outside, Sink};
+use std::alloc::Global;
+
+/// What a turn leads to.
+#[derive(Clone, Copy, Debug, PartialEq, Eq)]
+pub enum Turn {
+    /// The link goes on.
+    Answered,
+    Over(LinkEnd),
+}
+
+/// Writes the reply that an answer stands for.
+fn send<S: Sink>(sink: &mut S, answer: &Result<Reply, Memory>, close: bool) -> Result<(), Failed>
+    requires { IsStatus (counted_reply answer.now).status }
+    ensures writes { Writes (S.told sink.old) (S.told sink.new)
+        (reply (counted_reply answer.now).status (counted_reply answer.now).body close) result }
+    ensures failed { IsErr result → Rose (S.told sink.old).write_faults (S.told sink.new).write_faults }
+{
+    match answer {
+        Ok(reply) => write_reply(sink, reply.status, reply.body.as_slice(), close),
+        Err(_) => write_reply(sink, 503, b"{\"error\":\"memory\"}", close),
+    }
+}
+
+/// Whether the reply to the message ends the link, where so many were answered before it.
+fn closes(message: &Message, count: usize) -> bool
+    requires { count < REQUEST_LIMIT }
+    ensures { result ≡ closes count message.now }
+{
+    message.close || count + 1 == REQUEST_LIMIT
+}
+
+/// Answers a message, before which so many were answered.
+pub fn answer_message<D: Desk, L: Link>(
+    alloc: Global,
+    desk: &mut D,
+    link: &mut L,
+    message: Message,
+    count: usize,
+) -> Result<(), Failed>
+    requires { count < REQUEST_LIMIT }
+    ensures replies { Replies D.allows desk.old desk.new (L.told link.old) (L.told link.new) count message result }
+    ensures failed { IsErr result → Rose (L.told link.old).write_faults (L.told link.new).write_faults }
+{
+    let close = closes(&message, count);
+    let moment = link.now();
+    let answer = desk.answer(alloc, message, moment);
+    send(link, &answer, close)
+}
+
+/// Writes the reply to an end, where it has one.
+fn send_refusal<S: Sink>(sink: &mut S, why: WireEnd) -> Result<(), Failed>
+    ensures writes { Writes (S.told sink.old) (S.told sink.new) (refusal why) result }
+    ensures failed { IsErr result → Rose (S.told sink.old).write_faults (S.told sink.new).write_faults }
+{
+    match why {
+        WireEnd::BadHead => write_reply(sink, 400, b"{\"error\":\"bad_head\"}", true),
+        WireEnd::HeadLong => write_reply(sink, 431, b"{\"error\":\"head_long\"}", true),
+        WireEnd::Coded => write_reply(sink, 501, b"{\"error\":\"coded\"}", true),
+        WireEnd::BadLength => write_reply(sink, 400, b"{\"error\":\"bad_length\"}", true),
+        WireEnd::BodyLong => write_reply(sink, 413, b"{\"error\":\"body_long\"}", true),
+        WireEnd::Memory => write_reply(sink, 503, b"{\"error\":\"memory\"}", true),
+        _ => Ok(()),
+    }
+}
+
+/// Answers an end, and says how the link ends.
+fn refuse<S: Sink>(sink: &mut S, why: WireEnd) -> LinkEnd
+    ensures { Refuses (S.told sink.old) (S.told sink.new) why result }
+{
+    match send_refusal(sink, why) {
+        Ok(()) => end_of(why),
+        Err(_) => LinkEnd::WriteFault,
+    }
+}
+
+/// How the link ends where its wire does.
+fn end_of(why: WireEnd) -> LinkEnd
+    ensures { result ≡ end_of why }
+{
+    match why {
+        WireEnd::End => LinkEnd::Ended,
+        WireEnd::ReadFault => LinkEnd::ReadFault,
+        WireEnd::Memory => LinkEnd::Memory,
+        other => LinkEnd::Refused(other),
+    }
+}
+
+/// Reads a message and answers it, where so many were answered before it.
+pub fn take_turn<D: Desk, L: Link>(
+    alloc: Global,
+    wire: &mut Wire,
+    desk: &mut D,
+    link: &mut L,
+    count: usize,
+) -> Turn
+    requires few { count < REQUEST_LIMIT }
+    requires going_on { IsFalse wire.old.ended }
+    ensures turn { TakesTurn D.allows desk.old desk.new (L.told link.old) (L.told link.new)
+        wire.old.kept wire.new.kept count result }
+    ensures going_on { result ≡ Turn.Answered → IsFalse wire.new.ended }
+{
+    match wire.read_message(alloc, link) {
+        Ok(message) => {
+            let close = message.close;
+            match answer_message(alloc, desk, link, message, count) {
+                Err(_) => Turn::Over(LinkEnd::WriteFault),
+                Ok(()) if close => Turn::Over(LinkEnd::Closed),
+                Ok(()) => Turn::Answered,
+            }
+        }
+        Err(why) => Turn::Over(refuse(link, why)),
+    }
+}

@@ -1,0 +1,56 @@
+-- What stands in the place of a message.
+use Rattle.std.specs.Prelude.{ℕ, ◌<◌, ◌≤◌, ◌⊎◌, List, length, take, drop, slice_range, Option, ⊤}
+use Rattle.std.specs.Io.KnownBytes.{IsAtEnd}
+use Rattle.osm_base.specs.declared.limits.TheConstants.{HEAD_LIMIT}
+use Rattle.http_wire.specs.declared.head.Head.{Head}
+use Rattle.http_wire.specs.declared.end.WireEnd.{WireEnd}
+use Rattle.http_wire.specs.declared.end.WireEnd.TheVariants.{End, Truncated, BadHead, HeadLong, BadLength, BodyLong, Coded, ReadFault, Memory}
+use Rattle.http_wire.specs.Block.{IsBlank, IsOpenBlock, HasNoBlock, IsBlockAt}
+use Rattle.http_wire.specs.Head.{ReadsHead, RefusesBlock}
+
+-- The head is whole, and the body isn't.
+pub record IsOpenBody (bytes : List ℕ) : Type 0 where
+  pub begin : ℕ
+  pub end : ℕ
+  pub block : IsBlockAt bytes begin end
+  pub limit : end ≤ HEAD_LIMIT
+  pub kept : Head
+  pub head : ReadsHead (slice_range bytes begin end) kept
+  pub short : length (drop end bytes) < kept.length
+
+-- A message has begun, and isn't whole.
+abbrev pub IsCut : List ℕ → Type 0
+IsCut bytes = (IsOpenBlock bytes × (length bytes < HEAD_LIMIT)) ⊎ IsOpenBody bytes
+
+-- The bytes, from the end of the message before them on, come to this end.
+abbrev pub EndsAs : List ℕ → WireEnd → Type 0
+EndsAs bytes End = IsBlank bytes × (length bytes < HEAD_LIMIT)
+EndsAs bytes Truncated = IsCut bytes
+EndsAs bytes HeadLong = (HEAD_LIMIT ≤ length bytes) × HasNoBlock (take HEAD_LIMIT bytes)
+EndsAs bytes BadHead = RefusesBlock bytes BadHead
+EndsAs bytes Coded = RefusesBlock bytes Coded
+EndsAs bytes BadLength = RefusesBlock bytes BadLength
+EndsAs bytes BodyLong = RefusesBlock bytes BodyLong
+-- reading failed before the next message was whole
+EndsAs bytes ReadFault = (HasNoBlock bytes × (length bytes < HEAD_LIMIT)) ⊎ IsOpenBody bytes
+EndsAs bytes Memory = ⊤
+
+-- The input is at its end where the end says so.
+abbrev pub AgreesWithInput : WireEnd → Option (List ℕ) → Type 0
+AgreesWithInput End left = IsAtEnd left
+AgreesWithInput Truncated left = IsAtEnd left
+AgreesWithInput other left = ⊤
+
+-- The bytes alone tell this end. A fault in reading and want of memory may come at any bytes.
+abbrev pub IsTold : WireEnd → Type 0
+IsTold ReadFault = ⊥
+IsTold Memory = ⊥
+IsTold other = ⊤
+
+-- The bytes so far tell this end, whatever follows. The others wait for the end of the input.
+abbrev pub IsSettled : WireEnd → Type 0
+IsSettled End = ⊥
+IsSettled Truncated = ⊥
+IsSettled ReadFault = ⊥
+IsSettled Memory = ⊥
+IsSettled other = ⊤

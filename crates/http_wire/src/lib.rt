@@ -1,0 +1,28 @@
+//! Messages of HTTP/1.1 (RFC 9112) read from a source, and replies written to a sink.
+#![tactic(auto)]
+
+mod block;
+mod body;
+mod buffer;
+mod close;
+mod end;
+mod fields;
+mod head;
+mod law;
+mod length;
+mod message;
+mod reply;
+mod search;
+mod wire;
+
+pub use end::WireEnd;
+pub use law::{
+    end_in_any_pieces, end_stays, message_in_any_pieces, message_stays, no_empty_message,
+    no_end_at_a_message, one_end, one_message, one_reading,
+};
+pub use message::Message;
+pub use reply::write_reply;
+pub use wire::Wire;
+
+#[cfg(test)]
+mod tests;

@@ -1,0 +1,66 @@
+//! Messages one after another.
+ghost use Rattle.std.specs.Prelude.{◌≡◌, [], IfOk, IfErr, IsErrOf, IsFalse, is_err};
+ghost use Rattle.http_wire.specs.End.{AgreesWithInput};
+ghost use Rattle.http_wire.specs.Wire.{Reads};
+ghost use Rattle.osm_outside.specs.Told.{Rose};
+
+use crate::buffer::Buffer;
+use crate::end::WireEnd;
+use crate::message::{Message, read_next};
+use osm_base::Memory;
+use osm_outside::{Outside, Source};
+use std::alloc::Global;
+use std::marker::Model;
+
+/// Reads the messages of one link. It keeps the bytes that it read past a message.
+#[derive(Drop)]
+pub struct Wire {
+    buffer: Buffer,
+    ended: bool,
+}
+
+impl Model for Wire {
+    ghost use Rattle.http_wire.specs.Wire.{WireState};
+
+    ghost Value = { WireState };
+
+    ghost view = { λ w. record { kept = w.buffer; ended = w.ended } };
+}
+
+impl Wire {
+    /// A wire that has read nothing.
+    pub fn new(alloc: Global) -> Result<Wire, Memory>
+        ensures kept { IfOk result (λ wire. wire.kept ≡ []) }
+        ensures open { IfOk result (λ wire. IsFalse wire.ended) }
+    {
+        Ok(Wire {
+            buffer: Buffer::new(alloc)?,
+            ended: false,
+        })
+    }
+
+    /// Whether it has answered an end.
+    pub fn ended(&self) -> bool
+        ensures { result ≡ self.now.ended }
+    {
+        self.ended
+    }
+
+    /// Reads the next message, or the end that stands in its place. How the bytes are cut into reads makes no difference.
+    pub fn read_message<S: Source>(
+        &mut self,
+        alloc: Global,
+        source: &mut S,
+    ) -> Result<Message, WireEnd>
+        requires { IsFalse self.old.ended }
+        ensures reads { Reads (S.told source.old) (S.told source.new) self.old.kept result self.new.kept }
+        ensures at_end { IfErr result (λ e. AgreesWithInput e (S.told source.new).left) }
+        ensures fault { IsErrOf result WireEnd.ReadFault
+            → Rose (S.told source.old).read_faults (S.told source.new).read_faults }
+        ensures ended { self.new.ended ≡ is_err result }
+    {
+        let result = read_next(&mut self.buffer, alloc, source);
+        self.ended = result.is_err();
+        result
+    }
+}
