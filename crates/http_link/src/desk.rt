@@ -1,6 +1,6 @@
 //! What answers messages.
 ghost use Rattle.std.specs.Prelude.{IfOk};
-ghost use Rattle.http_wire.specs.Reply.{IsStatus};
+ghost use Rattle.osm_base.specs.Status.{IsStatus};
 
 use http_wire::Message;
 use osm_base::{Bytes, Memory};

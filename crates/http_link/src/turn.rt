@@ -2,7 +2,8 @@
 ghost use Rattle.std.specs.Prelude.{◌≡◌, ◌+◌, ◌<◌, IsErr, IsFalse};
 ghost use Rattle.osm_base.specs.declared.limits.TheConstants.{REQUEST_LIMIT};
 ghost use Rattle.osm_outside.specs.Told.{Rose};
-ghost use Rattle.http_wire.specs.Reply.{IsStatus, reply};
+ghost use Rattle.http_wire.specs.Reply.{reply};
+ghost use Rattle.osm_base.specs.Status.{IsStatus};
 ghost use Rattle.http_wire.specs.Written.{Writes};
 ghost use Rattle.http_link.specs.Desk.{counted_reply};
 ghost use Rattle.http_link.specs.Exchange.{closes};

@@ -1,7 +1,8 @@
 //! Replies written to a sink.
 ghost use Rattle.std.specs.Prelude.{◌≡◌, ◌+◌, ◌≤◌, ◌++◌, length, IsErr};
 ghost use Rattle.arrayvec.specs.ArrayVec.{array_vec_len};
-ghost use Rattle.http_wire.specs.Reply.{IsStatus, status_text, reply_head, reply};
+ghost use Rattle.http_wire.specs.Reply.{status_text, reply_head, reply};
+ghost use Rattle.osm_base.specs.Status.{IsStatus};
 ghost use Rattle.http_wire.specs.Written.{Writes};
 ghost use Rattle.http_wire.specs.declared.reply.TheConstants.{PIECE_ROOM};
 ghost use Rattle.osm_outside.specs.Told.{Rose};

@@ -1,0 +1,86 @@
+-- What one request is answered, whatever it comes to.
+use Rattle.std.proofs.Common.{◌≡◌, ℕ, List, [], ◌∷◌, ◌++◌, Option, Some, None, Result, Ok, Err, refl, sym, ap, ◌∙◌, subst, inl, inr, append-nil}
+use Rattle.std.specs.Prelude.{IfOk, OnOk, OnErr}
+use Rattle.osm_base.specs.declared.memory.Memory.{Memory}
+use Rattle.osm_base.specs.declared.people.User.{User}
+use Rattle.osm_change.specs.declared.answers.Answer.TheVariants.{Refused}
+use Rattle.osm_change.specs.declared.refusals.Refusal.{Refusal}
+use Rattle.osm_model.specs.declared.commands.Command.{Command}
+use Rattle.osm_model.specs.declared.commands.Entry.{Entry}
+use Rattle.osm_model.specs.declared.states.Accepted.{Accepted}
+use Rattle.osm_model.specs.Act.{act, judge}
+use Rattle.osm_model.specs.Journal.{replay, appended, journal_after, next_entry}
+use Rattle.osm_model.specs.Answered.{Request, refused, does, Place, all_of, stamp_on, IsRow, LacksMemory}
+use Rattle.http_wire.specs.declared.message.Message.{Message}
+use Rattle.http_link.specs.declared.desk.Reply.{Reply}
+use Rattle.http_link.specs.Desk.{counted_reply}
+use Rattle.user_table.specs.Rows.{Row}
+use Rattle.api_desk.specs.Request.{request_of}
+use Rattle.api_desk.specs.Answers.{Answers, reply_of}
+use Rattle.api_desk.proofs.Rows.{row_of_act}
+
+-- want of memory is a row of every request
+lacking : (F : List Entry) (s : ℕ) (p : Place) (q : Request) (m : ℕ) → IsRow F s p q m None p
+lacking F s p (refused r) m = inr (record { told = refl; stays = refl })
+lacking F s p (does user c) m = inr (inr (inl (record { told = refl; stays = refl })))
+
+-- a journal keeps what it had
+appended_more :
+    (es : List Entry) (e : Entry) (j : Result Accepted Refusal)
+    → (more : List Entry) × (appended es e j ≡ es ++ more)
+appended_more es e (Ok done) = (e ∷ [], refl)
+appended_more es e (Err r) = ([], sym (append-nil es))
+
+-- want of memory leaves the journal
+pub memory_answers :
+    (users : List Row) (s : ℕ) (old new : List Entry) (message : Message) (moment : ℕ)
+    → new ≡ old
+    → Answers users s old new message moment (reply_of None)
+memory_answers users s old new message moment same = record {
+  answer = None;
+  row = subst (λ (es : List Entry). IsRow es s (all_of s old) (request_of users message) moment None (all_of s es)) (sym same) (lacking old s (all_of s old) (request_of users message) moment);
+  text = refl;
+  more = [];
+  grown = same ∙ sym (append-nil old);
+}
+
+-- a command
+pub change_answers :
+    (users : List Row) (s : ℕ) (old new : List Entry) (message : Message) (moment : ℕ) (user : User) (c : Command)
+    (result : Result Reply Memory)
+    → request_of users message ≡ does user c
+    → IfOk result (λ reply. reply ≡ reply_of (Some (act (replay old) user moment c).1))
+    → OnOk result (new ≡ journal_after old s user moment c)
+    → OnErr result (new ≡ old)
+    → Answers users s old new message moment (counted_reply result)
+change_answers users s old new message moment user c (Ok reply) asks text after same =
+    let more = appended_more old (next_entry old s user moment c) (judge (replay old) user (stamp_on (replay old) moment) c) in
+    record {
+      answer = Some (act (replay old) user moment c).1;
+      row = subst
+          (λ (es : List Entry). IsRow es s (all_of s old) (request_of users message) moment (Some (act (replay old) user moment c).1) (all_of s es))
+          (sym after)
+          (subst
+          (λ (q : Request). IsRow (journal_after old s user moment c) s (all_of s old) q moment (Some (act (replay old) user moment c).1) (all_of s (journal_after old s user moment c)))
+          (sym asks)
+          (row_of_act old s user moment c));
+      text = text;
+      more = more.0;
+      grown = after ∙ more.1;
+    }
+change_answers users s old new message moment user c (Err memory) asks text after same = memory_answers users s old new message moment same
+
+-- a request that is refused by itself
+pub refusal_answers :
+    (users : List Row) (s : ℕ) (es : List Entry) (message : Message) (moment : ℕ) (r : Refusal) (result : Result Reply Memory)
+    → request_of users message ≡ refused r
+    → IfOk result (λ reply. reply ≡ reply_of (Some (Refused r)))
+    → Answers users s es es message moment (counted_reply result)
+refusal_answers users s es message moment r (Ok reply) asks text = record {
+  answer = Some (Refused r);
+  row = subst (λ (q : Request). IsRow es s (all_of s es) q moment (Some (Refused r)) (all_of s es)) (sym asks) (inl (record { told = refl; stays = refl }));
+  text = text;
+  more = [];
+  grown = sym (append-nil es);
+}
+refusal_answers users s es message moment r (Err memory) asks text = memory_answers users s es es message moment refl

@@ -1,0 +1,165 @@
+-- One request: acting on a journal is a row of "answered", and stays one where the journal grows.
+use Rattle.std.proofs.Common.{◌≡◌, ℕ, suc, zero, ◌+◌, ◌<◌, ◌≤◌, ◌⊎◌, inl, inr, ⊎_elim, List, [], ◌∷◌, ◌++◌, length, take, Bool, true, Option, Some, None, Result, Ok, Err, refl, sym, ap, ◌∙◌, subst, arith, length-append}
+use Rattle.std.specs.Prelude.{slice_get, ◌==◌, cond}
+use Rattle.std.proofs.lemmas.List.{take-append-le}
+use Rattle.std.proofs.lemmas.List.Sums.{sum_by-append}
+use Rattle.std.proofs.lemmas.Option.{slice_get_within}
+use Rattle.std.proofs.lemmas.Bool.Decides.{nat_tests}
+use Rattle.std.proofs.Math.Seq.{take-append_seam, take-length}
+use Rattle.osm_base.specs.declared.people.User.{User}
+use Rattle.osm_change.specs.declared.answers.Answer.{Answer}
+use Rattle.osm_change.specs.declared.refusals.Refusal.{Refusal}
+use Rattle.osm_model.specs.declared.commands.Command.{Command}
+use Rattle.osm_model.specs.declared.commands.Entry.{Entry}
+use Rattle.osm_model.specs.declared.states.Accepted.{Accepted}
+use Rattle.osm_model.specs.declared.states.State.{State}
+use Rattle.osm_model.specs.Act.{act, judge, settle}
+use Rattle.osm_model.specs.Journal.{replay, calls_of, appended, next_entry, journal_after}
+use Rattle.osm_model.specs.Answered.{Request, refused, does, Place, all_of, map_at, stamp_on, RefusesRequest, RefusesCommand, AcceptsCommand, LacksMemory, IsOwed, IsRow}
+
+-- ---- lists
+
+-- an item stays where it is when others follow
+slice_get-append : {A : Type 0} (xs ys : List A) (n : ℕ) (x : A) → slice_get xs n ≡ Some x → slice_get (xs ++ ys) n ≡ Some x
+slice_get-append [] ys n x found = cc
+slice_get-append (z ∷ xs) ys zero x found = found
+slice_get-append (z ∷ xs) ys (suc n) x found = slice_get-append xs ys n x found
+
+-- what follows a list is its next item
+slice_get-next : {A : Type 0} (xs : List A) (x : A) → slice_get (xs ++ x ∷ []) (length xs) ≡ Some x
+slice_get-next [] x = refl
+slice_get-next (z ∷ xs) x = slice_get-next xs x
+
+length-next : {A : Type 0} (xs : List A) (x : A) → length (xs ++ x ∷ []) ≡ length xs + 1
+length-next [] x = refl
+length-next (z ∷ xs) x = omega (arith, length-next xs x)
+
+-- ---- the map at a point
+
+map_at-all : (es : List Entry) → map_at es (length es) ≡ replay es
+map_at-all es = ap replay (take-length es)
+
+map_at-next : (es : List Entry) (e : Entry) → map_at (es ++ e ∷ []) (length es) ≡ replay es
+map_at-next es e = ap replay (take-append_seam es (e ∷ []))
+
+map_at-append : (es more : List Entry) (n : ℕ) → n ≤ length es → map_at (es ++ more) n ≡ map_at es n
+map_at-append es more n h = ap replay (take-append-le n es more h)
+
+-- ---- one more entry of a session
+
+same_number : (n : ℕ) → (n == n) ≡ true
+same_number n = grind (arith, nat_tests)
+
+calls_of-next : (es : List Entry) (e : Entry) → calls_of e.session (es ++ e ∷ []) ≡ calls_of e.session es + 1
+calls_of-next es e =
+    let split = sum_by-append (λ (x : Entry). cond (x.session == e.session) 1 0) es (e ∷ []) in
+    let one : ◌≡◌ {A = ℕ} (cond (e.session == e.session) 1 0) 1 = ap (λ (b : Bool). cond b 1 0) (same_number e.session) in
+    omega (arith, split, one)
+
+all_of-next :
+    (es : List Entry) (e : Entry)
+    → all_of e.session (es ++ e ∷ []) ≡ record { point = length es + 1; calls = calls_of e.session es + 1; debts = 0 }
+all_of-next es e =
+    ap (λ (n : ℕ). record { point = n; calls = calls_of e.session (es ++ e ∷ []); debts = 0 }) (length-next es e)
+    ∙ ap (λ (n : ℕ). record { point = length es + 1; calls = n; debts = 0 }) (calls_of-next es e)
+
+-- ---- a command
+
+-- what a command comes to on all of a journal is a row, whatever it comes to
+row_of_judged :
+    (es : List Entry) (s : ℕ) (user : User) (m : ℕ) (c : Command) (j : Result Accepted Refusal)
+    → judge (replay es) user (stamp_on (replay es) m) c ≡ j
+    → IsRow
+    (appended es (next_entry es s user m c) j)
+    s
+    (all_of s es)
+    (does user c)
+    m
+    (Some (settle (replay es) (stamp_on (replay es) m) j).1)
+    (all_of s (appended es (next_entry es s user m c) j))
+row_of_judged es s user m c (Err r) judged = inl (record {
+  refusal = r;
+  later = omega arith;
+  judged = subst (λ (P : State). judge P user (stamp_on P m) c ≡ Err r) (sym (map_at-all es)) judged;
+  told = refl;
+  calls = refl;
+  debts = refl;
+})
+row_of_judged es s user m c (Ok done) judged =
+    let e : Entry = next_entry es s user m c in
+    inr (inl (record {
+      at = length es;
+      done = done;
+      later = omega arith;
+      judged = subst (λ (P : State). judge P user (stamp_on P m) c ≡ Ok done) (sym (map_at-next es e)) judged;
+      told = refl;
+      entry = slice_get-next es e ∙ ap
+          (λ (P : State). Some (record { session = s; call = calls_of s es + 1; user = user; stamp = stamp_on P m; command = c }))
+          (sym (map_at-next es e));
+      comes_to = all_of-next es e;
+    }))
+
+-- acting on a journal is a row of it
+pub row_of_act :
+    (es : List Entry) (s : ℕ) (user : User) (m : ℕ) (c : Command)
+    → IsRow
+    (journal_after es s user m c)
+    s
+    (all_of s es)
+    (does user c)
+    m
+    (Some (act (replay es) user m c).1)
+    (all_of s (journal_after es s user m c))
+row_of_act es s user m c = row_of_judged es s user m c (judge (replay es) user (stamp_on (replay es) m) c) refl
+
+-- ---- a longer journal
+
+refuses-append :
+    (F more : List Entry) (before after : Place) (user : User) (c : Command) (m : ℕ) (reply : Option Answer)
+    → after.point ≤ length F
+    → RefusesCommand F before user c m reply after
+    → RefusesCommand (F ++ more) before user c m reply after
+refuses-append F more before after user c m reply within row = record {
+  refusal = row.refusal;
+  later = row.later;
+  judged = subst
+      (λ (P : State). judge P user (stamp_on P m) c ≡ Err row.refusal)
+      (sym (map_at-append F more after.point within))
+      row.judged;
+  told = row.told;
+  calls = row.calls;
+  debts = row.debts;
+}
+
+accepts-append :
+    (F more : List Entry) (s : ℕ) (before after : Place) (user : User) (c : Command) (m : ℕ) (reply : Option Answer)
+    → AcceptsCommand F s before user c m reply after
+    → AcceptsCommand (F ++ more) s before user c m reply after
+accepts-append F more s before after user c m reply row =
+    let there : row.at < length F = slice_get_within F row.at _ row.entry in
+    let within : row.at ≤ length F = omega (arith, there) in
+    let same : map_at (F ++ more) row.at ≡ map_at F row.at = map_at-append F more row.at within in
+    record {
+      at = row.at;
+      done = row.done;
+      later = row.later;
+      judged = subst (λ (P : State). judge P user (stamp_on P m) c ≡ Ok row.done) (sym same) row.judged;
+      told = row.told;
+      entry = slice_get-append F more row.at _ row.entry ∙ ap
+          (λ (P : State). Some (record { session = s; call = before.calls + 1; user = user; stamp = stamp_on P m; command = c }))
+          (sym same);
+      comes_to = row.comes_to;
+    }
+
+-- a row of a journal is a row of each longer one
+pub row-append :
+    (F more : List Entry) (s : ℕ) (before after : Place) (q : Request) (m : ℕ) (reply : Option Answer)
+    → after.point ≤ length F
+    → IsRow F s before q m reply after
+    → IsRow (F ++ more) s before q m reply after
+row-append F more s before after (refused r) m reply within row = row
+row-append F more s before after (does user c) m reply within row =
+    ⊎_elim
+    (λ refuses. inl (refuses-append F more before after user c m reply within refuses))
+    (λ other. inr (⊎_elim (λ accepts. inl (accepts-append F more s before after user c m reply accepts)) (λ lacks. inr lacks) other))
+    row

@@ -1,0 +1,32 @@
+use Rattle.api_desk.proofs.Replies.{change_answers, refusal_answers}
+use Rattle.api_desk.proofs.desk.answer_on.Goals as goal
+
+pub returns-in-Ok-clause-answers : goal.returns-in-Ok-clause-answers
+returns-in-Ok-clause-answers c =
+    change_answers
+    c.args.users.now
+    c.args.session
+    c.args.journal.now
+    c.change.new.journal
+    c.args.message.now
+    c.args.moment
+    c.in-Ok.asked.user
+    c.in-Ok.asked.command
+    c.change.result
+    c.in-Ok.ensures.gives
+    c.change.ensures.reply
+    c.change.ensures.journal
+    c.change.ensures.memory
+
+pub returns-in-Err-Refused-clause-answers : goal.returns-in-Err-Refused-clause-answers
+returns-in-Err-Refused-clause-answers c =
+    refusal_answers
+    c.args.users.now
+    c.args.session
+    c.args.journal.now
+    c.args.message.now
+    c.args.moment
+    c.in-Err-Refused.refusal
+    c.reply_to.result
+    (rw c.in-Err-Refused.field-0-is at c.in-Err-Refused.ensures.gives)
+    (rw c.in-Err-Refused.refusal-is at c.reply_to.ensures.reply)

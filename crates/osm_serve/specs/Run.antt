@@ -1,0 +1,74 @@
+-- What a run of the program does, and which status it ends with.
+use Rattle.std.specs.Prelude.{◌≡◌, ℕ, ◌⊎◌, List, Option, Some, None, Ok, Err}
+use Rattle.osm_outside.specs.Told.{Told, HostTold, OnlyTime, OnlyFaults, Rose}
+use Rattle.http_link.specs.declared.end.LinkEnd.{LinkEnd}
+use Rattle.http_link.specs.declared.end.LinkEnd.TheVariants.{Ended, Closed, Budget, Refused, ReadFault, WriteFault, Memory}
+use Rattle.user_table.specs.Rows.{Row}
+use Rattle.user_table.specs.Users.{table_of}
+use Rattle.osm_serve.specs.Words.{Reading}
+use Rattle.osm_serve.specs.Serve.{ServesPipe}
+use Rattle.osm_serve.specs.Users.{IsTextOf, IsRefused}
+
+-- the status that an end of the standard link is
+abbrev pub status_of : LinkEnd → ℕ
+status_of Ended = 0
+status_of Closed = 0
+status_of Budget = 0
+status_of ReadFault = 3
+status_of WriteFault = 4
+status_of Memory = 5
+status_of (Refused why) = 7
+
+-- The clock is fixed where a moment is given, and nothing else is changed.
+abbrev pub IsStarted : Option ℕ → Told → Told → Type 0
+IsStarted None before after = after ≡ before
+IsStarted (Some at) before after = OnlyTime before after × (after.fixed ≡ Some at)
+
+-- The standard link was served from its start to an end, which tells the status.
+pub record ServesFrom (users : List Row) (at : Option ℕ) (before after : Told) (status : ℕ) : Type 0 where
+  pub start : Told
+  pub started : IsStarted at before start
+  pub end : LinkEnd
+  pub serves : ServesPipe users start after end
+  pub status_is : status ≡ status_of end
+
+-- The users text was read and accepted, and the link served.
+pub record Serves (reading : Reading) (host host' : HostTold) (before after : Told) (status : ℕ) : Type 0 where
+  pub text : List ℕ
+  pub told : IsTextOf host text
+  pub users : List Row
+  pub table : table_of text ≡ Ok users
+  pub serves : ServesFrom users reading.at before after status
+
+-- The users text was read and refused, and the link left alone.
+pub record RefusesUsers (host : HostTold) (before after : Told) (status : ℕ) : Type 0 where
+  pub text : List ℕ
+  pub told : IsTextOf host text
+  pub refused : IsRefused text
+  pub unserved : after ≡ before
+  pub status_is : status ≡ 2
+
+-- The host failed, and the link was left alone.
+pub record LacksUsers (host host' : HostTold) (before after : Told) (status : ℕ) : Type 0 where
+  pub failed : Rose host.faults host'.faults
+  pub unserved : after ≡ before
+  pub status_is : status ≡ 3
+
+-- There was no memory for the users, and the link was left alone.
+pub record LacksRoom (before after : Told) (status : ℕ) : Type 0 where
+  pub unserved : after ≡ before
+  pub status_is : status ≡ 5
+
+-- what `pipe` comes to
+pub record RunsPipe (reading : Reading) (host host' : HostTold) (before after : Told) (status : ℕ) : Type 0 where
+  pub keeps : OnlyFaults host host'
+  pub comes_to :
+      Serves reading host host' before after status
+      ⊎ RefusesUsers host before after status
+      ⊎ LacksUsers host host' before after status
+      ⊎ LacksRoom before after status
+
+-- words without a reading are status 1, and nothing is read or written
+abbrev pub Runs : Option Reading → HostTold → HostTold → Told → Told → ℕ → Type 0
+Runs None host host' before after status = (status ≡ 1) × (host' ≡ host) × (after ≡ before)
+Runs (Some reading) host host' before after status = RunsPipe reading host host' before after status

@@ -1,0 +1,69 @@
+//! The top call.
+ghost use Rattle.std.specs.Prelude.{◌≡◌, map, string_bytes, IfSome, IfNone};
+ghost use Rattle.osm_serve.specs.Words.{reading_of};
+ghost use Rattle.osm_serve.specs.Shown.{shown};
+ghost use Rattle.osm_serve.specs.Run.{Runs, RunsPipe, ServesFrom, IsStarted, status_of};
+
+use crate::serve::serve_pipe;
+use crate::users::{NoUsers, read_users};
+use crate::words::{Pipe, read_words};
+use http_link::LinkEnd;
+use osm_outside::{Clock, Host, Link, Outside};
+use std::alloc::Global;
+use user_table::UserTable;
+
+/// The status that an end of the standard link is: 0 where it was served to its end, 3 for a read
+/// fault, 4 for a write fault, 5 for want of memory, 7 where what came was refused.
+fn status_of(end: LinkEnd) -> u8
+    ensures { result ≡ status_of end }
+{
+    match end {
+        LinkEnd::Ended | LinkEnd::Closed | LinkEnd::Budget => 0,
+        LinkEnd::ReadFault => 3,
+        LinkEnd::WriteFault => 4,
+        LinkEnd::Memory => 5,
+        LinkEnd::Refused(_) => 7,
+    }
+}
+
+/// Fixes the clock, where a moment is given.
+fn start<L: Link>(link: &mut L, at: Option<u64>)
+    ensures { IsStarted at (L.told link.old) (L.told link.new) }
+{
+    if let Some(seconds) = at {
+        link.fix(seconds);
+    }
+}
+
+fn serve<L: Link>(alloc: Global, users: &UserTable, at: Option<u64>, standard: &mut L) -> u8
+    ensures { ServesFrom users.now at (L.told standard.old) (L.told standard.new) result }
+{
+    start(standard, at);
+    status_of(serve_pipe(alloc, users, standard))
+}
+
+fn run_pipe<H: Host, L: Link>(alloc: Global, pipe: &Pipe<'_>, host: &mut H, standard: &mut L) -> u8
+    ensures { RunsPipe (shown pipe.now) (H.told host.old) (H.told host.new)
+        (L.told standard.old) (L.told standard.new) result }
+{
+    match read_users(alloc, pipe.users, host) {
+        Ok(users) => serve(alloc, &users, pipe.at, standard),
+        Err(NoUsers::Failed) => 3,
+        Err(NoUsers::Refused) => 2,
+        Err(NoUsers::Memory) => 5,
+    }
+}
+
+/// Does what the words ask on the host and the standard link, and answers the program's status: 1
+/// where the words have no reading, 2 where the users text is refused, 3 for a fault of the host
+/// or in reading, 4 for a fault in writing, 5 for want of memory outside an answer, 7 where what
+/// came on the link was refused, and 0 otherwise.
+pub fn run<H: Host, L: Link>(alloc: Global, words: &[String], host: &mut H, standard: &mut L) -> u8
+    ensures { Runs (reading_of (map string_bytes words.now)) (H.told host.old) (H.told host.new)
+        (L.told standard.old) (L.told standard.new) result }
+{
+    match read_words(words) {
+        Some(pipe) => run_pipe(alloc, &pipe, host, standard),
+        None => 1,
+    }
+}

@@ -1,0 +1,22 @@
+//! Serving one link by one session, over a journal of its own.
+ghost use Rattle.osm_serve.specs.Serve.{ServesPipe};
+
+use api_desk::{OneDesk, desk_answers};
+use http_link::{LinkEnd, serve_desk};
+use osm_model::Journal;
+use osm_outside::{Link, Outside};
+use std::alloc::Global;
+use user_table::UserTable;
+
+/// The number of the one session.
+const SESSION: u32 = 0;
+
+/// Answers the requests of the link over a new journal, until the link ends.
+pub fn serve_pipe<L: Link>(alloc: Global, users: &UserTable, link: &mut L) -> LinkEnd
+    ensures { ServesPipe users.now (L.told link.old) (L.told link.new) result }
+{
+    let mut journal = Journal::new(alloc);
+    let mut desk = OneDesk::new(&mut journal, users, SESSION);
+    desk_answers();
+    serve_desk(alloc, &mut desk, link)
+}
