@@ -52,7 +52,7 @@ fn read_block(value: &Value) -> Option<Block<'_>>
 fn read_each_block<'v>(alloc: Global, list: &'v [Value]) -> Result<Vec<Block<'v>>, PartFault>
     ensures { Reads (λ v. map block_view v.items) result (each_of block_of (items_view list.now)) }
 {
-    let mut found = Vec::new(alloc);
+    let mut found = Vec::with_capacity(alloc, list.len())?;
     for value in list {
         found.push(read_block(value).ok_or(PartFault::Malformed)?)?;
     }
