@@ -1,4 +1,4 @@
-//! What the definitions are meant to say, at values of the tables and of worked sessions.
+//! What the definitions are meant to say, at values of the tables and of worked examples.
 
 mod answers;
 mod bodies;
