@@ -1,5 +1,5 @@
 -- The status and the body of an answer.
-use Rattle.std.specs.Prelude.{ℕ, ◌≤◌, All, List, [], ◌∷◌, ◌==◌, IsTrue}
+use Rattle.std.specs.Prelude.{ℕ, All, List, [], ◌∷◌, ◌==◌, IsTrue}
 use Rattle.std.specs.Option.{ForSome}
 use Rattle.serde_json.specs.Data.{Data}
 use Rattle.serde_json.specs.Written.{compact_text}
@@ -9,6 +9,7 @@ use Rattle.osm_change.specs.declared.answers.ChangesetRow.{ChangesetRow}
 use Rattle.osm_change.specs.declared.answers.ElementRow.{ElementRow}
 use Rattle.osm_change.specs.declared.refusals.Refusal.{Refusal}
 use Rattle.osm_change.specs.declared.refusals.Refusal.TheVariants as refusals
+use Rattle.osm_json.specs.Moment.{IsShownMoment}
 use Rattle.osm_json.specs.Shown.{record_of, natural}
 use Rattle.osm_json.specs.Rows.{diff, elements, download, changeset, changesets}
 use Rattle.osm_json.specs.Refused.{refusal, refusal_status}
@@ -35,10 +36,6 @@ abbrev pub body_of : Answer → List ℕ
 body_of a = compact_text (answer a)
 
 -- ---- what has a body
-
--- a moment whose year is below 10,000, a day after the last stamp at most
-abbrev pub IsShownMoment : ℕ → Type 0
-IsShownMoment seconds = seconds ≤ 253_000_086_400
 
 abbrev pub HasShownStamp : ElementRow → Type 0
 HasShownStamp r = IsShownMoment r.version.stamp

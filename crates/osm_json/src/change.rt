@@ -1,5 +1,5 @@
 //! The document of an upload.
-ghost use Rattle.std.specs.Prelude.{◌≡◌, ◌<◌, ◌^◌, map, option_map, vec_len, All, IfOk};
+ghost use Rattle.std.specs.Prelude.{◌≡◌, ◌<◌, ◌^◌, map, option_map, vec_len, IfOk};
 ghost use Rattle.serde_json.specs.Data.{Data};
 ghost use Rattle.serde_json.specs.View.{view, items_view};
 ghost use Rattle.osm_json.specs.Reading.{Gives, Reads, block_of, blocks_of, each_of, steps_among, change_of, data_of};
@@ -52,7 +52,7 @@ fn read_block(value: &Value) -> Option<Block<'_>>
 fn read_each_block<'v>(alloc: Global, list: &'v [Value]) -> Result<Vec<Block<'v>>, PartFault>
     ensures { Reads (λ v. map block_view v.items) result (each_of block_of (items_view list.now)) }
 {
-    let mut found = Vec::new(alloc);
+    let mut found = Vec::with_capacity(alloc, list.len())?;
     for value in list {
         found.push(read_block(value).ok_or(PartFault::Malformed)?)?;
     }
@@ -112,8 +112,7 @@ pub(crate) fn document(alloc: Global, body: &[u8]) -> Result<Value, BodyFault>
 /// Memory counts as out, too, where the list would have 2^32 operations.
 pub fn read_change(alloc: Global, body: &[u8]) -> Result<Vec<RawOp>, BodyFault>
     ensures value { Gives (λ v. v.items) result (change_of body.now) }
-    ensures count { IfOk result (λ v. vec_len v < 2 ^ 32) }
-    ensures raw { IfOk result (λ v. All IsRaw v.items) }
+    ensures raw { IfOk result (λ v. IsRaw v.items) }
 {
     let document = document(alloc, body)?;
     let blocks = match read_blocks(alloc, &document) {

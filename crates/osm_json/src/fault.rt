@@ -39,6 +39,17 @@ pub(crate) enum PartFault {
     Memory,
 }
 
+impl From<AllocError> for PartFault {
+    ghost use Rattle.std.specs.Prelude.{◌≡◌};
+    ghost use Rattle.osm_json.specs.declared.fault.PartFault.{PartFault};
+
+    ghost from_gives = { λ _ fault. fault ≡ PartFault.Memory };
+
+    fn from(_refused: AllocError) -> PartFault {
+        PartFault::Memory
+    }
+}
+
 impl From<Memory> for PartFault {
     ghost use Rattle.std.specs.Prelude.{◌≡◌};
     ghost use Rattle.osm_json.specs.declared.fault.PartFault.{PartFault};

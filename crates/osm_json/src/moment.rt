@@ -1,5 +1,5 @@
-ghost use Rattle.std.specs.Prelude.{◌≡◌, ◌≤◌, IfOk, string_bytes};
-ghost use Rattle.osm_json.specs.Moment.{stamp_text as text_of};
+ghost use Rattle.std.specs.Prelude.{◌≡◌, IfOk, string_bytes};
+ghost use Rattle.osm_json.specs.Moment.{stamp_text as text_of, IsShownMoment};
 
 use jiff::Timestamp;
 use jiff::tz::Offset;
@@ -8,14 +8,14 @@ use std::alloc::{AllocError, Global};
 
 /// The text of a moment in UTC, as `2023-11-14T22:13:20Z`.
 pub fn stamp_text(alloc: Global, stamp: Stamp) -> Result<Text, Memory>
-    requires { stamp ≤ 253_000_086_400 }
+    requires { IsShownMoment stamp }
     ensures { IfOk result (λ text. text ≡ text_of stamp) }
 {
     Ok(Text::from_string(moment_text(alloc, stamp)?))
 }
 
 pub(crate) fn moment_text(alloc: Global, stamp: Stamp) -> Result<String, AllocError>
-    requires { stamp ≤ 253_000_086_400 }
+    requires { IsShownMoment stamp }
     ensures { IfOk result (λ text. string_bytes text ≡ text_of stamp) }
 {
     let seconds = stamp.seconds();

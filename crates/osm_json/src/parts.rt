@@ -17,7 +17,7 @@ use std::alloc::Global;
 fn ids(alloc: Global, list: &[Value]) -> Result<Vec<i64>, PartFault>
     ensures { Reads (λ v. v.items) result (each_of id_of (items_view list.now)) }
 {
-    let mut found = Vec::new(alloc);
+    let mut found = Vec::with_capacity(alloc, list.len())?;
     for value in list {
         found.push(id(value).ok_or(PartFault::Malformed)?)?;
     }
@@ -38,7 +38,7 @@ fn reference(alloc: Global, value: &Value) -> Result<Member<i64>, PartFault>
 fn references(alloc: Global, list: &[Value]) -> Result<Vec<Member<i64>>, PartFault>
     ensures { Reads (λ v. v.items) result (each_of reference_of (items_view list.now)) }
 {
-    let mut found = Vec::new(alloc);
+    let mut found = Vec::with_capacity(alloc, list.len())?;
     for value in list {
         found.push(reference(alloc, value)?)?;
     }
@@ -49,7 +49,7 @@ fn references(alloc: Global, list: &[Value]) -> Result<Vec<Member<i64>>, PartFau
 fn pairs(alloc: Global, map: &Map<String, Value>) -> Result<Vec<(Text, Text)>, PartFault>
     ensures { Reads (λ v. v.items) result (pairs_of (members_view map.now.entries)) }
 {
-    let mut found = Vec::new(alloc);
+    let mut found = Vec::with_capacity(alloc, map.len())?;
     for (key, value) in map {
         let text = value.as_str().ok_or(PartFault::Malformed)?;
         let key = Text::of(alloc, key.as_str())?;

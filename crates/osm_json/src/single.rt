@@ -1,8 +1,8 @@
 //! The bodies of changesets and of single elements.
-ghost use Rattle.std.specs.Prelude.{◌≡◌, IsTrue, IfOk};
+ghost use Rattle.std.specs.Prelude.{◌≡◌, IfOk};
 ghost use Rattle.serde_json.specs.View.{view};
-ghost use Rattle.osm_json.specs.Reading.{Gives, Reads, changeset_tags, tags_among, is_id, single_of, single_in};
-ghost use Rattle.osm_json.specs.Raw.{IsRaw};
+ghost use Rattle.osm_json.specs.Reading.{Gives, Reads, changeset_tags, tags_among, single_of, single_in};
+ghost use Rattle.osm_json.specs.Raw.{IsReference, IsRawOp};
 
 use crate::change::document;
 use crate::fault::{BodyFault, PartFault};
@@ -83,7 +83,7 @@ pub fn read_single(
     id: i64,
 ) -> Result<(u64, RawOp), BodyFault>
     ensures value { Gives (λ p. p) result (single_in action kind id body.now) }
-    ensures raw { IsTrue (is_id id) → IfOk result (λ p. IsRaw p.1) }
+    ensures raw { IsReference id → IfOk result (λ p. IsRawOp p.1) }
 {
     let document = document(alloc, body)?;
     match single(alloc, &document, action, kind, id) {

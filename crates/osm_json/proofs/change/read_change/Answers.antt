@@ -1,4 +1,4 @@
-use Rattle.std.proofs.Common.{map, Some, ap, sym, ◌∙◌, arith}
+use Rattle.std.proofs.Common.{◌≡◌, length, vec_len, rules, map, Some, ap, sym, ◌∙◌, arith}
 use Rattle.osm_json.specs.Walk.{block_view}
 use Rattle.osm_json.proofs.Walking.{all_read}
 use Rattle.osm_json.proofs.Raws.{change_is}
@@ -13,4 +13,6 @@ pub returns-clause-value : goal.returns-clause-value
 returns-clause-value c = value c
 
 pub returns-clause-raw : goal.returns-clause-raw
-returns-clause-raw c = change_is c.args.body.now c.loop-block.ops.items (value c)
+returns-clause-raw c =
+    let counted : vec_len c.loop-block.ops ≡ length c.loop-block.ops.items = search rules in
+    record { few = omega (arith, counted, c.loop-block.invariant.0); each = change_is c.args.body.now c.loop-block.ops.items (value c) }

@@ -1,0 +1,5 @@
+//! What the definitions are meant to say, at values of the tables and of worked examples.
+
+mod answers;
+mod bodies;
+mod refusals;
