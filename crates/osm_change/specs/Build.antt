@@ -1,5 +1,5 @@
 -- How an upload is read: what its placeholders name, and why it is refused (OpenStreetMap wiki, API v0.6, "Diff upload").
-use Rattle.std.specs.Prelude.{◌≡◌, ◌≢◌, ℕ, suc, ◌+◌, ◌-◌, ◌^◌, ◌<◌, ◌≤◌, Bool, true, false, ◌&&◌, ◌==◌, if◌then◌else◌, List, [], ◌∷◌, ◌++◌, length, position, Option, Some, None, is_some, Result, Ok, Err, MatchOption, All, ⊤, ℤ, pos, negsuc, ◌≤ℤ◌}
+use Rattle.std.specs.Prelude.{◌≡◌, ◌≢◌, ℕ, ◌+◌, ◌-◌, ◌^◌, ◌<◌, ◌≤◌, Bool, true, false, ◌&&◌, ◌==◌, if◌then◌else◌, List, [], ◌∷◌, ◌++◌, length, position, Option, Some, None, is_some, Result, Ok, Err, MatchOption, All, ⊤, ℤ, pos, negsuc, ◌≤ℤ◌}
 use Rattle.std.specs.Ordering.{int_eq}
 use Rattle.osm_base.specs.Key.{kind_eq}
 use Rattle.osm_base.specs.Place.{is_position}
@@ -121,14 +121,19 @@ abbrev pub operations_after : List RawOp → List RawOp → Result (List Op) Sha
 operations_after before [] = Ok []
 operations_after before (r ∷ rest) = or_fault (length before) (op_of (created_at before) r) >>= (λ o. cons_ok o (operations_after (before ++ r ∷ []) rest))
 
-abbrev pub other_at : ℕ → ℕ → Option ℕ → Option ShapeFault → Option ShapeFault
-other_at changeset place None later = later
-other_at changeset place (Some named) later = if named == changeset then later else Some (fault_at place (OtherChangeset named))
+-- the changeset that an operation names, where it is another one
+abbrev pub other_name : ℕ → Option ℕ → Option ℕ
+other_name changeset None = None
+other_name changeset (Some named) = if named == changeset then None else Some named
+
+abbrev pub other_at : ℕ → Option ℕ → Option ShapeFault → Option ShapeFault
+other_at place None later = later
+other_at place (Some named) later = Some (fault_at place (OtherChangeset named))
 
 -- the first operation that names another changeset
 abbrev pub other_changeset : ℕ → ℕ → List RawOp → Option ShapeFault
 other_changeset changeset place [] = None
-other_changeset changeset place (r ∷ rest) = other_at changeset place r.changeset (other_changeset changeset (suc place) rest)
+other_changeset changeset place (r ∷ rest) = other_at place (other_name changeset r.changeset) (other_changeset changeset (place + 1) rest)
 
 -- the operations of an upload to a changeset, or why there are none
 abbrev pub change_of : ℕ → List RawOp → Result (List Op) ShapeFault

@@ -1,8 +1,8 @@
-ghost use Rattle.std.specs.Prelude.{◌≡◌, ◌+◌, ◌^◌, ◌<◌, length, map, List, [], None, Some, Ok, Err, OnOk, IfOk, MatchOption, All, ⊤};
+ghost use Rattle.std.specs.Prelude.{◌≡◌, true, ◌+◌, ◌^◌, ◌<◌, length, map, List, [], None, Some, Ok, Err, OnOk, IfOk, MatchOption, All, ⊤};
 ghost use Rattle.osm_base.specs.Place.{is_position};
 ghost use Rattle.placeholder_map.specs.Placeholders.{look_of, bound};
 ghost use Rattle.osm_change.specs.Outcome.{Gives, unless, each, fault_at, GivesChange};
-ghost use Rattle.osm_change.specs.Build.{IsRaw, IsRawOp, IsReference, HasContent, IsPlaced, name_of, member_named, content_unless, local_cause, version_named, created, modified, deleted, op_of, operations_after, other_changeset, change_of};
+ghost use Rattle.osm_change.specs.Build.{IsRaw, IsRawOp, IsReference, HasContent, IsPlaced, name_of, member_named, content_unless, local_cause, version_named, created, modified, deleted, op_of, noted, operations_after, other_name, other_changeset, change_of};
 
 use crate::causes::{Cause, ShapeFault};
 use crate::changes::Change;
@@ -26,11 +26,7 @@ fn name_of(placeholders: &PlaceholderMap, kind: Kind, id: i64) -> Result<Name, C
     }
 }
 
-fn names_of(
-    alloc: Global,
-    placeholders: &PlaceholderMap,
-    ids: &[i64],
-) -> Result<Refs<Name>, Cause>
+fn names_of(alloc: Global, placeholders: &PlaceholderMap, ids: &[i64]) -> Result<Refs<Name>, Cause>
     ensures { Gives (each (name_of (look_of placeholders.now) Kind.Node) ids.now) result }
 {
     let mut names = Vec::with_capacity(alloc, ids.len())?;
@@ -77,18 +73,22 @@ fn content_named(
     requires { MatchOption later (IsPlaced content) (λ _. ⊤) }
     ensures { Gives (content_unless (look_of placeholders.now) content later) result }
 {
-    let named = match content {
+    match content {
         RawContent::Node { lat7, lon7 } => {
             refuse(later)?;
-            return Ok(Content::Node(position(lat7, lon7)));
+            Ok(Content::Node(position(lat7, lon7)))
         }
-        RawContent::Way(nodes) => Content::Way(names_of(alloc, placeholders, nodes.items())?),
+        RawContent::Way(nodes) => {
+            let names = names_of(alloc, placeholders, nodes.items())?;
+            refuse(later)?;
+            Ok(Content::Way(names))
+        }
         RawContent::Relation(members) => {
-            Content::Relation(members_named(alloc, placeholders, members.into_vec())?)
+            let named = members_named(alloc, placeholders, members.into_vec())?;
+            refuse(later)?;
+            Ok(Content::Relation(named))
         }
-    };
-    refuse(later)?;
-    Ok(named)
+    }
 }
 
 fn refuse(cause: Option<Cause>) -> Result<(), Cause>
@@ -173,4 +173,80 @@ fn deleted(placeholders: &PlaceholderMap, op: RawOp, if_unused: bool) -> Result<
         version,
         if_unused,
     })
+}
+
+fn operation(
+    alloc: Global,
+    placeholders: &mut PlaceholderMap,
+    place: u32,
+    mut op: RawOp,
+) -> Result<Op, Cause>
+    requires { IsRawOp op }
+    ensures gives { Gives (op_of (look_of placeholders.old) op) result }
+    ensures noted { OnOk result (placeholders.new ≡ noted placeholders.old op place) }
+{
+    let content = op.content.take();
+    match (op.action, content) {
+        (Action::Create, Some(content)) => created(alloc, placeholders, place, op, content),
+        (Action::Modify, Some(content)) => modified(alloc, placeholders, op, content),
+        (Action::Delete { if_unused }, _) => deleted(placeholders, op, if_unused),
+        (Action::Create | Action::Modify, None) => unreachable!(),
+    }
+}
+
+fn operations(alloc: Global, raw: Vec<RawOp>) -> Result<Items<Op>, ShapeFault>
+    requires { IsRaw raw.items }
+    ensures { GivesChange (operations_after [] raw.items) result }
+{
+    let mut placeholders = PlaceholderMap::new(alloc);
+    let mut operations = Vec::with_capacity(alloc, raw.len())?;
+    let mut place = 0;
+    for op in raw {
+        match operation(alloc, &mut placeholders, place, op) {
+            Ok(operation) => operations.push(operation)?,
+            Err(cause) => return Err(ShapeFault::at(place, cause)),
+        }
+        place += 1;
+    }
+    Ok(Items::of(operations))
+}
+
+/// The changeset that an operation names, where it is another one.
+fn other_name(changeset: u64, named: Option<u64>) -> Option<u64>
+    ensures { result ≡ other_name changeset named }
+{
+    match named {
+        Some(named) if named != changeset => Some(named),
+        _ => None,
+    }
+}
+
+/// The first operation that names another changeset.
+fn other_changeset(changeset: u64, raw: &[RawOp]) -> Option<ShapeFault>
+    requires { length raw.now < 2 ^ 32 }
+    ensures { result ≡ other_changeset changeset 0 raw.now }
+{
+    for place in 0..raw.len() {
+        if let Some(named) = other_name(changeset, raw[place].changeset) {
+            let cause = Cause::OtherChangeset { named };
+            return Some(ShapeFault::at(place as u32, cause));
+        }
+    }
+    None
+}
+
+impl Change {
+    /// Reads the operations of an upload to the changeset. First the first operation with one of
+    /// the lower causes counts, then the first that names another changeset.
+    pub fn build(alloc: Global, changeset: u64, raw: Vec<RawOp>) -> Result<Change, ShapeFault>
+        requires { IsRaw raw.items }
+        ensures { GivesChange (change_of changeset raw.items) result }
+    {
+        let other = other_changeset(changeset, raw.as_slice());
+        let operations = operations(alloc, raw)?;
+        match other {
+            Some(fault) => Err(fault),
+            None => Ok(Change::of(operations)),
+        }
+    }
 }

@@ -9,6 +9,7 @@ mod listed;
 mod operations;
 mod raw;
 mod refusals;
+mod single;
 
 pub use answers::{
     Answer, ChangesetRow, ChangesetRows, DiffRow, DiffRows, ElementRow, ElementRows,
@@ -19,3 +20,4 @@ pub use listed::{kind_of, names_listed};
 pub use operations::{FirstIds, Name, Named, Op, OpDone, OpDones};
 pub use raw::{Action, RawOp};
 pub use refusals::{Refusal, Said};
+pub use single::OneOp;
