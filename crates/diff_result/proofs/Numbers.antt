@@ -1,9 +1,9 @@
 -- The ids of the creates, counted on.
-use Rattle.std.proofs.Common.{◌≡◌, ℕ, zero, suc, ◌+◌, ◌-◌, ◌^◌, ◌<◌, ◌≤◌, Bool, true, false, cond, List, [], ◌∷◌, ◌++◌, length, take, drop, Option, Some, None, refl, sym, ap, ◌∙◌, subst, arith, slice_get, add-one, add-zero}
-use Rattle.std.specs.Prelude.{count_by, slice_index}
+use Rattle.std.proofs.Common.{◌≡◌, ℕ, zero, suc, ◌+◌, ◌-◌, ◌<◌, cond, List, [], ◌∷◌, ◌++◌, length, take, drop, Option, Some, None, refl, sym, ap, ◌∙◌, subst, arith, slice_get, add-one, add-zero}
+use Rattle.std.specs.Prelude.{count_by}
 use Rattle.std.proofs.Math.ListN.{get_or}
 use Rattle.std.proofs.Math.Seq.{drop-cons}
-use Rattle.std.proofs.lemmas.List.{append_assoc, append-nil}
+use Rattle.std.proofs.lemmas.List.{append_assoc}
 use Rattle.std.proofs.lemmas.List.Sums.{sum_by-cons}
 use Rattle.osm_base.specs.declared.keys.Kind.{Kind}
 use Rattle.osm_base.specs.declared.keys.Kind.TheVariants.{Node, Way, Relation}
@@ -11,7 +11,7 @@ use Rattle.osm_change.specs.Change.{created_kind}
 use Rattle.osm_change.specs.declared.operations.FirstIds.{FirstIds}
 use Rattle.osm_change.specs.declared.operations.Op.{Op}
 use Rattle.diff_result.specs.Rows.{first_of, is_kind, creates_kind, new_id, HasNumbers}
-use Rattle.diff_result.specs.Ids.{counted, next_id, next_ids, ids_from, made_in}
+use Rattle.diff_result.specs.Ids.{next_id, next_ids, ids_from, made_in}
 
 pub ids-step : (ops : List Op) (i : ℕ) (d : Op) (ids more : List ℕ) (next then : FirstIds) (id : ℕ) → i < length ops → id ≡ next_id next (created_kind (get_or ops i d)) → then ≡ next_ids next (created_kind (get_or ops i d)) → more ≡ ids ++ id ∷ [] → ids ++ ids_from next (drop i ops) ≡ more ++ ids_from then (drop (i + 1) ops)
 ids-step ops i d ids more next then id lt is moves pushed =

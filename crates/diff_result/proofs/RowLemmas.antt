@@ -1,12 +1,12 @@
 -- Rows by a list of ids are the rows that the rule gives.
-use Rattle.std.proofs.Common.{◌≡◌, ◌⊎◌, inl, inr, ℕ, zero, suc, ◌+◌, ◌^◌, ◌<◌, List, [], ◌∷◌, ◌++◌, length, drop, Option, Some, None, refl, sym, ap, ◌∙◌, subst, arith, slice_get, add-one, add-zero}
-use Rattle.std.specs.Prelude.{All, MatchOption, IsSome}
+use Rattle.std.proofs.Common.{◌≡◌, ℕ, zero, suc, ◌+◌, ◌<◌, List, [], ◌∷◌, ◌++◌, length, drop, Option, Some, None, refl, sym, ap, ◌∙◌, subst, arith, slice_get, add-one, add-zero}
+use Rattle.std.specs.Prelude.{MatchOption, IsSome}
 use Rattle.std.proofs.Math.ListN.{get_or}
 use Rattle.std.proofs.Math.Seq.{drop-cons}
-use Rattle.std.proofs.lemmas.List.{append_assoc, append-nil}
+use Rattle.std.proofs.lemmas.List.{append_assoc}
 use Rattle.std.proofs.lemmas.List.Elements.{All-head}
 use Rattle.osm_base.specs.declared.keys.Kind.{Kind}
-use Rattle.osm_change.specs.Change.{kind_of, named, names_given, names_listed, created_kind, IsNamedBefore, IsWellFormed}
+use Rattle.osm_change.specs.Change.{kind_of, named, names_listed, created_kind, IsNamedBefore, IsWellFormed}
 use Rattle.osm_change.specs.Said.{IsSaid, said}
 use Rattle.osm_change.specs.declared.answers.DiffRow.{DiffRow}
 use Rattle.osm_change.specs.declared.operations.FirstIds.{FirstIds}

@@ -1,4 +1,4 @@
-use Rattle.std.proofs.Common.{◌≡◌, ◌∙◌, arith}
+use Rattle.std.proofs.Common.{◌≡◌, ◌∙◌}
 use Rattle.osm_change.specs.Change.{IsWellFormed}
 use Rattle.diff_result.specs.Rows.{rows_from}
 use Rattle.diff_result.specs.Ids.{ids_from, made_in}
