@@ -2,17 +2,22 @@
 #![tactic(auto)]
 
 mod answers;
+mod build;
+mod causes;
 mod changes;
 mod listed;
 mod operations;
 mod raw;
 mod refusals;
+mod single;
 
 pub use answers::{
     Answer, ChangesetRow, ChangesetRows, DiffRow, DiffRows, ElementRow, ElementRows,
 };
+pub use causes::{Cause, ShapeFault};
 pub use changes::Change;
 pub use listed::{kind_of, names_listed};
 pub use operations::{FirstIds, Name, Named, Op, OpDone, OpDones};
 pub use raw::{Action, RawOp};
 pub use refusals::{Refusal, Said};
+pub use single::OneOp;

@@ -1,0 +1,6 @@
+mod Each
+mod Steps
+mod Positions
+mod Looks
+mod Reading
+pub mod WellFormed

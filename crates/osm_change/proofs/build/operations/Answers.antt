@@ -1,0 +1,18 @@
+use Rattle.std.proofs.Common.{List, subst, arith}
+use Rattle.osm_change.specs.declared.raw.RawOp.{RawOp}
+use Rattle.osm_change.proofs.Reading.{IsReading, reading-goes, reading-small}
+use Rattle.osm_change.proofs.build.operations.Goals as goal
+
+pub at-requires : goal.at-requires
+at-requires c =
+    let P : List RawOp → Type 0 = λ rest. IsReading c.args.raw.items c.loop-op.yielded rest c.loop-op.placeholders c.loop-op.operations.items c.loop-op.place in
+    let was = subst P c.in-Some.ensures.steps.0 c.loop-op.invariant.2 in
+    let small = reading-small c.args.raw.items c.loop-op.yielded _ c.loop-op.placeholders c.loop-op.operations.items c.loop-op.place c.in-Some.op was in
+    let few = c.requires.few in
+    omega arith
+
+pub loop-op-preserved : goal.loop-op-preserved
+loop-op-preserved c =
+    let P : List RawOp → Type 0 = λ rest. IsReading c.args.raw.items c.loop-op.yielded rest c.loop-op.placeholders c.loop-op.operations.items c.loop-op.place in
+    let was = subst P c.in-Some.ensures.steps.0 c.loop-op.invariant.2 in
+    (tt, tt, reading-goes c.args.raw.items c.loop-op.yielded _ c.loop-op.placeholders c.loop-op.operations.items c.loop-op.place c.in-Some.op c.in-Ok.operation c.operation.new.placeholders c.push.new.self.items was c.in-Ok.ensures.gives c.in-Ok.ensures.noted c.in_ok-push-in-Ok.ensures.items)
