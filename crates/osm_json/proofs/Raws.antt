@@ -18,7 +18,7 @@ use Rattle.osm_change.specs.declared.raw.Action.TheVariants.{Create, Modify, Del
 use Rattle.osm_change.specs.declared.raw.RawOp.{RawOp}
 use Rattle.osm_json.specs.declared.fault.BodyFault.{BodyFault}
 use Rattle.osm_json.specs.Reading.{◌>>=◌, only_if, needed, optional, if_there, integer_of, is_id, id_of, is_count, count_of, kind_of, given_tags, repeated, single_id, single_of, each_of, list_of, reference_of, content_of, version_of, given_content, operation_of, Step, read_first, operations_from, operations_in, in_json, change_of, data_of, blocks_of, steps_of, Block}
-use Rattle.osm_json.specs.Raw.{IsReference, IsRawContent, HasContent, IsRawOp}
+use Rattle.osm_change.specs.Build.{IsReference, IsRawContent, HasContent, IsRawOp}
 
 -- ---- steps that gave something
 

@@ -1,7 +1,6 @@
 pub mod Answered
 pub mod Fields
 pub mod Moment
-pub mod Raw
 pub mod Reading
 pub mod Refused
 pub mod Rows

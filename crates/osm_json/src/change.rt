@@ -3,7 +3,7 @@ ghost use Rattle.std.specs.Prelude.{◌≡◌, ◌<◌, ◌^◌, map, option_map
 ghost use Rattle.serde_json.specs.Data.{Data};
 ghost use Rattle.serde_json.specs.View.{view, items_view};
 ghost use Rattle.osm_json.specs.Reading.{Gives, Reads, block_of, blocks_of, each_of, steps_among, change_of, data_of};
-ghost use Rattle.osm_json.specs.Raw.{IsRaw};
+ghost use Rattle.osm_change.specs.Build.{IsRaw};
 ghost use Rattle.osm_json.specs.Walk.{block_view, ReadsOn, MatchDocument};
 
 use crate::fault::{BodyFault, PartFault};

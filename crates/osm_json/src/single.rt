@@ -2,7 +2,7 @@
 ghost use Rattle.std.specs.Prelude.{◌≡◌, IfOk};
 ghost use Rattle.serde_json.specs.View.{view};
 ghost use Rattle.osm_json.specs.Reading.{Gives, Reads, changeset_tags, tags_among, single_of, single_in};
-ghost use Rattle.osm_json.specs.Raw.{IsReference, IsRawOp};
+ghost use Rattle.osm_change.specs.Build.{IsReference, IsRawOp};
 
 use crate::change::document;
 use crate::fault::{BodyFault, PartFault};
