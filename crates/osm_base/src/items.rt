@@ -1,9 +1,10 @@
-ghost use Rattle.std.specs.Prelude.{◌≡◌, ◌++◌, ◌∷◌, [], length, ◌<◌, slice_set, OnOk, OnErr};
+ghost use Rattle.std.specs.Prelude.{◌≡◌, ◌++◌, ◌∷◌, [], length, ◌<◌, slice_set, slice_get, Some, OnOk, OnErr};
 
 use crate::copies::{TryCopy, copy_all};
 use crate::memory::Memory;
 use std::alloc::Global;
 use std::marker::Model;
+use std::mem;
 
 /// A list, which contracts see as the list of its items.
 #[derive(Debug, Drop)]
@@ -61,6 +62,15 @@ impl<T: Drop> Items<T> {
         ensures { self.new ≡ slice_set self.old place item }
     {
         self.items[place] = item;
+    }
+
+    /// Puts an item in the place of another, which it gives back.
+    pub fn replace(&mut self, place: usize, item: T) -> T
+        requires { place < length self.old }
+        ensures list { self.new ≡ slice_set self.old place item }
+        ensures old { slice_get self.old place ≡ Some result }
+    {
+        mem::replace(&mut self.items[place], item)
     }
 }
 

@@ -1,0 +1,113 @@
+ghost use Rattle.std.specs.Prelude.{◌≡◌, ◌≤◌, ◌<◌, length, option_copied, IfOk, IfSome, MatchResult, Ok, Err};
+ghost use Rattle.map_state.specs.Changeset.{new_changeset, closed_at, changeset_row};
+ghost use Rattle.map_state.specs.State.{changeset, own_changeset};
+
+use crate::states::{Changeset, State};
+use osm_base::{Items, Memory, Stamp, TryCopy, User};
+use osm_change::{ChangesetRow, Refusal};
+use osm_element::Tags;
+use std::alloc::Global;
+
+/// When the changeset closed, where it isn't open.
+fn closed_at(kept: &Changeset, at: Stamp) -> Option<Stamp>
+    ensures { result ≡ closed_at kept.now at }
+{
+    match kept.ended {
+        Some(ended) => {
+            if at.seconds() < ended.seconds() {
+                None
+            } else {
+                Some(ended)
+            }
+        }
+        None => {
+            let idle = u128::from(kept.activity.seconds()) + 3_600;
+            let old = u128::from(kept.created.seconds()) + 86_400;
+            let closes = idle.min(old);
+            if u128::from(at.seconds()) < closes {
+                None
+            } else {
+                Some(Stamp(closes as u64))
+            }
+        }
+    }
+}
+
+/// The record of a changeset.
+pub fn find_changeset(state: &State, id: u64) -> Option<&Changeset>
+    ensures found { option_copied result ≡ changeset state.now id }
+    ensures known { IfSome result (λ _. (0 < id) × (id ≤ length state.now.changesets)) }
+{
+    if id == 0 {
+        return None;
+    }
+    state.changesets.items().get(id as usize - 1)
+}
+
+/// The record of a changeset that the user may work on at a stamp.
+pub fn own_changeset<'a>(
+    state: &'a State,
+    user: &User,
+    at: Stamp,
+    id: u64,
+) -> Result<&'a Changeset, Refusal>
+    ensures value { MatchResult result (λ kept. own_changeset state.now user.now at id ≡ Ok kept.now)
+        (λ refusal. own_changeset state.now user.now at id ≡ Err refusal) }
+    ensures known { IfOk result (λ _. (0 < id) × (id ≤ length state.now.changesets)) }
+{
+    let Some(kept) = find_changeset(state, id) else {
+        return Err(Refusal::NoChangeset { id });
+    };
+    if kept.owner.id != user.id {
+        return Err(Refusal::NotOwner {
+            changeset: id,
+            owner: kept.owner.id,
+        });
+    }
+    match closed_at(kept, at) {
+        None => Ok(kept),
+        Some(closed_at) => Err(Refusal::Closed {
+            changeset: id,
+            closed_at,
+        }),
+    }
+}
+
+/// The record of a changeset that the user opens.
+pub fn new_changeset(
+    alloc: Global,
+    user: &User,
+    at: Stamp,
+    tags: &Tags,
+) -> Result<Changeset, Memory>
+    ensures { IfOk result (λ made. made ≡ new_changeset user.now at tags.now) }
+{
+    let owner = user.owner(alloc)?;
+    let tags = tags.copy(alloc)?;
+    Ok(Changeset {
+        owner,
+        tags,
+        created: at,
+        activity: at,
+        ended: None,
+        touched: None,
+        did: Items::none(alloc),
+    })
+}
+
+/// A changeset as the client is told at a stamp.
+pub fn row(alloc: Global, id: u64, kept: &Changeset, at: Stamp) -> Result<ChangesetRow, Memory>
+    ensures { IfOk result (λ row. row ≡ changeset_row id kept.now at) }
+{
+    let owner = kept.owner.copy(alloc)?;
+    let tags = kept.tags.copy(alloc)?;
+    Ok(ChangesetRow {
+        id,
+        owner,
+        tags,
+        created: kept.created,
+        closes: closed_at(kept, at),
+        count: kept.did.len() as u64,
+        touched: kept.touched,
+    })
+}
