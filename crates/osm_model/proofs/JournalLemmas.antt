@@ -1,0 +1,72 @@
+-- A journal stays legal, and its state its replay, where an accepted command is appended.
+use Rattle.std.proofs.Common.{◌≡◌, ℕ, ◌<◌, ◌≤◌, List, [], ◌∷◌, ◌++◌, length, take, Some, Ok, refl, sym, ap, ◌∙◌, subst, inl, inr, ⊎_elim, ◌⊎◌, zero, suc, arith}
+use Rattle.std.proofs.lemmas.List.{take-append-le}
+use Rattle.std.proofs.Math.Seq.{take-append_seam}
+use Rattle.std.specs.Prelude.{slice_get, Result}
+use Rattle.std.proofs.lemmas.List.Sums.{fold-append}
+use Rattle.osm_base.specs.Stamp.{stamp_after}
+use Rattle.osm_change.specs.declared.refusals.Refusal.{Refusal}
+use Rattle.osm_model.specs.declared.commands.Entry.{Entry}
+use Rattle.osm_model.specs.declared.states.Accepted.{Accepted}
+use Rattle.osm_model.specs.declared.states.State.{State}
+use Rattle.osm_model.specs.State.{empty}
+use Rattle.osm_model.specs.Act.{judge, settle}
+use Rattle.osm_model.specs.declared.journals.Judged.{Judged}
+use Rattle.osm_model.specs.Step.{state_after, accepted}
+use Rattle.osm_model.specs.Judged.{IsJudgedOn}
+use Rattle.osm_model.specs.Journal.{IsLegal, Follows, replay, after}
+
+pub stamp_after-stamp_after : (last m : ℕ) → stamp_after last (stamp_after last m) ≡ stamp_after last m
+stamp_after-stamp_after last m = omega arith
+
+pub replay-push : (es : List Entry) (e : Entry) → replay (es ++ e ∷ []) ≡ after (replay es) e
+replay-push es e = fold-append after empty es (e ∷ [])
+
+-- an item of a list with one more at its end
+pub found_in_push :
+    {A : Type 0} (xs : List A) (y : A) (n : ℕ) (x : A)
+    → slice_get (xs ++ y ∷ []) n ≡ Some x
+    → (slice_get xs n ≡ Some x) × (n < length xs) ⊎ (n ≡ length xs) × (x ≡ y)
+found_in_push [] y zero x found = inr (refl, cc)
+found_in_push [] y (suc n) x found = cc
+found_in_push (z ∷ zs) y zero x found = inl (found, omega arith)
+found_in_push (z ∷ zs) y (suc n) x found =
+    ⊎_elim (λ a. inl (a.0, omega (arith, a.1))) (λ b. inr (ap suc b.0, b.1)) (found_in_push zs y n x found)
+
+-- what follows the entries may be appended
+pub IsLegal-push : (es : List Entry) (e : Entry) → IsLegal es → Follows es e → IsLegal (es ++ e ∷ [])
+IsLegal-push es e legal follows = record {
+  each = λ n x found. ⊎_elim
+      (λ old. let le : n ≤ length es = omega (arith, old.1) in
+      subst (λ before. Follows before x) (sym (take-append-le n es (e ∷ []) le)) (legal.each n x old.0))
+      (λ new. subst
+      (λ k. Follows (take k (es ++ e ∷ [])) x)
+      (sym new.0)
+      (subst (λ before. Follows before x) (sym (take-append_seam es (e ∷ []))) (subst (λ y. Follows es y) (sym new.1) follows)))
+      (found_in_push es e n x found);
+}
+
+-- the state after an accepted entry
+pub after-accepted :
+    (P : State) (e : Entry) (done : Accepted)
+    → stamp_after P.last e.stamp ≡ e.stamp
+    → judge P e.user e.stamp e.command ≡ Ok done
+    → after P e ≡ record done.state { last = e.stamp }
+after-accepted P e done stamped accepted =
+    ap (λ (t : ℕ). (settle P t (judge P e.user t e.command)).0) stamped
+    ∙ ap (λ (judged : Result Accepted Refusal). (settle P e.stamp judged).0) accepted
+
+-- what was judged on a journal makes a journal of it
+pub keeps :
+    (es : List Entry) (P Q : State) (j : Judged)
+    → P ≡ replay es
+    → IsLegal es
+    → IsJudgedOn es j
+    → Q ≡ state_after P j.step
+    → IsLegal (es ++ j.entry ∷ []) × (record Q { last = j.entry.stamp } ≡ replay (es ++ j.entry ∷ []))
+keeps es P Q j same legal on stepped = (
+  IsLegal-push es j.entry legal on.follows,
+  ap (λ (q : State). record q { last = j.entry.stamp }) stepped
+      ∙ ap (λ (p : State). record (state_after p j.step) { last = j.entry.stamp }) same
+      ∙ sym (replay-push es j.entry ∙ after-accepted (replay es) j.entry (accepted (replay es) j.step j.answer) on.follows.stamped on.judged),
+)

@@ -1,0 +1,155 @@
+ghost use Rattle.std.specs.Prelude.{◌≡◌, ◌<◌, ◌^◌, [], IfOk, OnOk, OnErr};
+ghost use Rattle.osm_model.specs.Act.{act};
+ghost use Rattle.osm_model.specs.Journal.{IsLegal, replay, journal_after, calls_of};
+ghost use Rattle.osm_model.specs.Judged.{IsJudgedOn, answer_of, kept_after};
+
+use crate::acts::{Step, judge, take_step};
+use crate::commands::{Command, Entry};
+use crate::states::State;
+use osm_base::{Memory, Stamp, TryCopy, User};
+use osm_change::Answer;
+use std::alloc::Global;
+use std::marker::Model;
+
+/// The accepted commands in order, and the state that they make. Contracts see it as the list of
+/// its entries.
+#[derive(Debug, Drop)]
+pub struct Journal {
+    entries: Vec<Entry>,
+    state: State,
+}
+
+impl Model for Journal {
+    ghost use Rattle.std.specs.Prelude.{List};
+    ghost use Rattle.osm_model.specs.declared.commands.Entry.{Entry};
+
+    ghost Value = { List Entry };
+
+    ghost use Rattle.osm_model.specs.Journal.{IsJournal};
+
+    ghost view = { λ j. j.entries.items };
+
+    ghost invariant = { λ j. IsJournal j.entries.items j.state };
+}
+
+/// What a command comes to on a journal, before it is kept there.
+#[derive(Debug, Drop)]
+pub struct Judged {
+    entry: Entry,
+    step: Step,
+    answer: Answer,
+}
+
+impl Judged {
+    /// What the command is answered.
+    pub fn answer(&self) -> &Answer
+        ensures { result.now ≡ answer_of self.now }
+    {
+        &self.answer
+    }
+}
+
+impl Journal {
+    /// A journal without entries. It takes no memory.
+    pub fn new(alloc: Global) -> Journal
+        ensures { result ≡ [] }
+    {
+        Journal {
+            entries: Vec::new(alloc),
+            state: State::empty(alloc),
+        }
+    }
+
+    /// The accepted commands, the first one first.
+    pub fn entries(&self) -> &[Entry]
+        ensures all { result.now ≡ self.now }
+        ensures legal { IsLegal self.now }
+    {
+        self.entries.as_slice()
+    }
+
+    /// The map that the entries make.
+    pub fn state(&self) -> &State
+        ensures { result.now ≡ replay self.now }
+    {
+        &self.state
+    }
+
+    /// Judges the command. Nothing is kept yet, so the answer can be put into its last form first.
+    pub fn judge(
+        &self,
+        alloc: Global,
+        session: u32,
+        user: &User,
+        moment: u64,
+        command: Command,
+    ) -> Result<Judged, Memory>
+        ensures answer { IfOk result (λ judged. answer_of judged ≡ (act (replay self.now) user.now moment command).1) }
+        ensures judged { IfOk result (IsJudgedOn self.now) }
+        ensures after { IfOk result (λ judged. kept_after self.now judged
+            ≡ journal_after self.now session user.now moment command) }
+    {
+        let at = Stamp::after(self.state.last, moment);
+        let (step, answer) = judge(alloc, &self.state, user, at, &command)?;
+        let entry = Entry {
+            session,
+            call: calls_of(self.entries.as_slice(), session) + 1,
+            user: user.copy(alloc)?,
+            stamp: at,
+            command,
+        };
+        Ok(Judged {
+            entry,
+            step,
+            answer,
+        })
+    }
+
+    /// Keeps what was judged on this journal, and gives its answer back.
+    pub fn keep(&mut self, judged: Judged) -> Result<Answer, Memory>
+        requires { IsJudgedOn self.old judged }
+        ensures answer { IfOk result (λ answer. answer ≡ answer_of judged) }
+        ensures ok { OnOk result (self.new ≡ kept_after self.old judged) }
+        ensures legal { OnOk result (IsLegal self.new) }
+        ensures memory { OnErr result (self.new ≡ self.old) }
+    {
+        let Judged {
+            entry,
+            step,
+            answer,
+        } = judged;
+        self.entries.reserve(1)?;
+        take_step(&mut self.state, step)?;
+        self.state.last = entry.stamp;
+        self.entries.push_reserved(entry);
+        Ok(answer)
+    }
+
+    /// Does the command, and keeps it where it is accepted.
+    pub fn act(
+        &mut self,
+        alloc: Global,
+        session: u32,
+        user: &User,
+        moment: u64,
+        command: Command,
+    ) -> Result<Answer, Memory>
+        ensures answer { IfOk result (λ answer. answer ≡ (act (replay self.old) user.now moment command).1) }
+        ensures entries { OnOk result (self.new ≡ journal_after self.old session user.now moment command) }
+        ensures memory { OnErr result (self.new ≡ self.old) }
+    {
+        let judged = self.judge(alloc, session, user, moment, command)?;
+        self.keep(judged)
+    }
+}
+
+/// How many of the entries are of the session.
+fn calls_of(entries: &[Entry], session: u32) -> u64
+    ensures counted { result ≡ calls_of session entries.now }
+    ensures few { result < 2 ^ 63 }
+{
+    entries
+        .iter()
+        .filter(|entry| entry.session == session)
+        .count() as u64
+}
