@@ -13,8 +13,11 @@ use Rattle.osm_element.specs.declared.contents.Content.{Content}
 use Rattle.osm_element.specs.declared.versions.Version.{Version}
 use Rattle.osm_element.specs.declared.elements.Elements.{Elements}
 use Rattle.osm_element.specs.Elements.{histories, next_id, history_in, history, count, version_in, content_of, refs_in, add_version, push_version, mark_in, mark, IsConsistent}
+use Rattle.osm_element.proofs.Used.{known}
 use Rattle.osm_element.proofs.Pushed.{histories-with, history-push, last_content}
-use Rattle.map_state.specs.Later.{contents, IsBegun, IsLater}
+use Rattle.std.proofs.lemmas.Option.{get_or_from_slice_get}
+use Rattle.map_state.proofs.Replaced.{set_twice}
+use Rattle.map_state.specs.Later.{contents, IsBegun, IsLater, Keeps}
 
 -- -- orders
 
@@ -325,3 +328,62 @@ consistent-mark E k n m counted within consistent = record {
   seen = λ a b listed. ap is_some (content-mark E k b n m counted within)
       ∙ consistent.seen a b (sym (ap (λ (c : Option (Content ℕ)). lists_key (refs_in c) b) (content-mark E k a n m counted within)) ∙ listed);
 }
+
+-- -- all of it
+
+pub keeps-refl : (E : Elements) → Keeps E E
+keeps-refl E = record { later = later-refl E; consistent = λ before. before; begun = λ before. before }
+
+pub keeps-mark :
+    (E : Elements) (k : Key) (n : ℕ) (m : Option ℕ)
+    → 0 < k.id
+    → k.id ≤ length (histories E k.kind)
+    → Keeps E (mark E k n m)
+keeps-mark E k n m counted within = record {
+  later = later-mark E k n m counted within;
+  consistent = λ before. consistent-mark E k n m counted within before;
+  begun = λ before. begun-mark E k n m counted within before;
+}
+
+-- an element that has a version has an id that is given
+pub given-there : (E : Elements) (k : Key) → (count E k == 0) ≡ false → (0 < k.id) × (k.id ≤ length (histories E k.kind))
+given-there E k some = ⊎_elim (λ none. absurd (contrary (count E k) (ap length none) some)) (λ there. there) (known E k)
+  where
+    contrary : (n : ℕ) → n ≡ 0 → (n == 0) ≡ false → ⊥
+    contrary n e f = grind (arith, nat_tests)
+
+pub given_some : (E : Elements) (k : Key) → 0 < count E k → (0 < k.id) × (k.id ≤ length (histories E k.kind))
+given_some E k some = given-there E k (nonzero (count E k) some)
+  where
+    nonzero : (n : ℕ) → 0 < n → (n == 0) ≡ false
+    nonzero n h = grind (arith, nat_tests)
+
+pub history_in_there : (hs : List (List Version)) (id : ℕ) → 0 < id → id ≤ length hs → (h : List Version) → slice_get hs (id - 1) ≡ Some h → h ≡ history_in hs id
+history_in_there hs id counted within h found =
+    sym (ap (λ (b : Bool). if b then [] else get_or hs (id - 1) []) (nonzero id counted) ∙ get_or_from_slice_get hs (id - 1) h [] found)
+  where
+    nonzero : (n : ℕ) → 0 < n → (n == 0) ≡ false
+    nonzero n h = grind (arith, nat_tests)
+
+pub mark_of_is :
+    (hs : List (List Version)) (id n : ℕ) (m : Option ℕ) (h none : List Version)
+    → 0 < id
+    → id ≤ length hs
+    → slice_get hs (id - 1) ≡ Some h
+    → slice_set (slice_set hs (id - 1) none) (id - 1) (mark_in h n m) ≡ slice_set hs (id - 1) (mark_in (history_in hs id) n m)
+mark_of_is hs id n m h none counted within found =
+    set_twice hs (id - 1) none (mark_in h n m)
+    ∙ ap (λ (vs : List Version). slice_set hs (id - 1) (mark_in vs n m)) (history_in_there hs id counted within h found)
+
+pub mark_in_there :
+    (vs : List Version) (n : ℕ) (m : Option ℕ) (v hidden : Version)
+    → 0 < n
+    → slice_get vs (n - 1) ≡ Some v
+    → slice_set (slice_set vs (n - 1) hidden) (n - 1) (record v { redaction = m }) ≡ mark_in vs n m
+mark_in_there vs n m v hidden counted found =
+    set_twice vs (n - 1) hidden (record v { redaction = m })
+    ∙ ap (λ (o : Option Version). option_map_or (λ v. slice_set vs (n - 1) (record v { redaction = m })) o vs)
+    (sym (ap (λ (b : Bool). if b then None else slice_get vs (n - 1)) (nonzero n counted) ∙ found))
+  where
+    nonzero : (n : ℕ) → 0 < n → (n == 0) ≡ false
+    nonzero n h = grind (arith, nat_tests)

@@ -14,8 +14,11 @@ use Rattle.osm_change.specs.declared.refusals.Refusal.TheVariants as refused
 use Rattle.map_state.specs.declared.states.Changeset.{Changeset}
 
 -- an hour after the last activity and a day after the creation at the latest, unless it was closed
+abbrev pub closes_by : ℕ → ℕ → Option ℕ → ℕ
+closes_by created activity ended = option_map_or (λ t. t) ended (min (activity + 3600) (created + 86400))
+
 abbrev pub closes : Changeset → ℕ
-closes r = option_map_or (λ ended. ended) r.ended (min (r.activity + 3600) (r.created + 86400))
+closes r = closes_by r.created r.activity r.ended
 
 abbrev pub is_open : Changeset → ℕ → Bool
 is_open r t = nat_lt t (closes r)

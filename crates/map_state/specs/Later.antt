@@ -2,7 +2,7 @@
 use Rattle.std.specs.Prelude.{◌≡◌, ℕ, ◌≤◌, ◌<◌, List, ◌++◌, map, Option}
 use Rattle.osm_base.specs.declared.keys.Kind.{Kind}
 use Rattle.osm_base.specs.declared.keys.Key.{Key}
-use Rattle.osm_element.specs.Elements.{next_id, history, count}
+use Rattle.osm_element.specs.Elements.{next_id, history, count, IsConsistent}
 use Rattle.osm_element.specs.declared.contents.Content.{Content}
 use Rattle.osm_element.specs.declared.elements.Elements.{Elements}
 
@@ -18,3 +18,9 @@ pub record IsBegun (E : Elements) : Type 0 where
 pub record IsLater (E F : Elements) : Type 0 where
   pub grown : (kind : Kind) → next_id E kind ≤ next_id F kind
   pub kept : (k : Key) → (more : List (Option (Content ℕ))) × (contents F k ≡ contents E k ++ more)
+
+-- what every accepted command keeps of the elements
+pub record Keeps (E F : Elements) : Type 0 where
+  pub later : IsLater E F
+  pub consistent : IsConsistent E → IsConsistent F
+  pub begun : IsBegun E → IsBegun F

@@ -1,9 +1,10 @@
 -- The map: its elements, changesets, redactions and last stamp.
-use Rattle.std.specs.Prelude.{ℕ, ◌+◌, ◌-◌, ◌==◌, if◌then◌else◌, [], slice_get, slice_set, Option, None, Result, Err}
+use Rattle.std.specs.Prelude.{List, ℕ, ◌+◌, ◌-◌, ◌==◌, if◌then◌else◌, [], slice_get, slice_set, Option, Some, None, Result, Err}
 use Rattle.std.specs.Option.{option_map_or}
 use Rattle.osm_base.specs.declared.keys.Key.{Key}
 use Rattle.osm_base.specs.declared.people.User.{User}
-use Rattle.osm_element.specs.Elements.{no_elements, count, push_version}
+use Rattle.osm_element.specs.Elements.{no_elements, count, push_version, mark}
+use Rattle.osm_element.specs.Tags.{Tag}
 use Rattle.osm_element.specs.declared.contents.Content.{Content}
 use Rattle.osm_element.specs.declared.versions.Version.{Version}
 use Rattle.osm_change.specs.declared.refusals.Refusal.{Refusal}
@@ -25,6 +26,17 @@ with_changeset P c r = record P { changesets = slice_set P.changesets (c - 1) r 
 -- the record of a changeset that the user may work on
 abbrev pub own_changeset : State → User → ℕ → ℕ → Result Changeset Refusal
 own_changeset P user t c = option_map_or (own_record user t c) (changeset P c) (Err (refused.NoChangeset c))
+
+-- the state with one record changed, where there is such a changeset
+abbrev pub with_tags : State → ℕ → List Tag → ℕ → State
+with_tags P c tags t = option_map_or (λ r. with_changeset P c (record r { tags = tags; activity = t })) (changeset P c) P
+
+abbrev pub with_end : State → ℕ → ℕ → State
+with_end P c t = option_map_or (λ r. with_changeset P c (record r { ended = Some t })) (changeset P c) P
+
+-- the state with a mark on a version, or without it
+abbrev pub with_mark : State → Key → ℕ → Option ℕ → State
+with_mark P k n redaction = record P { elements = mark P.elements k n redaction }
 
 -- work is activity
 abbrev pub active : State → ℕ → ℕ → State

@@ -1,5 +1,5 @@
-ghost use Rattle.std.specs.Prelude.{◌≡◌, ◌≤◌, ◌<◌, length, option_copied, IfOk, IfSome, MatchResult, Ok, Err};
-ghost use Rattle.map_state.specs.Changeset.{new_changeset, closed_at, changeset_row};
+ghost use Rattle.std.specs.Prelude.{◌≡◌, ◌≤◌, ◌<◌, nat_lt, if◌then◌else◌, length, option_copied, Some, None, IfOk, IfSome, MatchResult, Ok, Err};
+ghost use Rattle.map_state.specs.Changeset.{new_changeset, closes_by, changeset_row};
 ghost use Rattle.map_state.specs.State.{changeset, own_changeset};
 
 use crate::states::{Changeset, State};
@@ -8,11 +8,12 @@ use osm_change::{ChangesetRow, Refusal};
 use osm_element::Tags;
 use std::alloc::Global;
 
-/// When the changeset closed, where it isn't open.
-fn closed_at(kept: &Changeset, at: Stamp) -> Option<Stamp>
-    ensures { result ≡ closed_at kept.now at }
+/// When a changeset closes: when it was closed, or an hour after its last activity, but a day
+/// after its creation at the latest. `None` while it is open.
+fn closed_at(created: Stamp, activity: Stamp, ended: Option<Stamp>, at: Stamp) -> Option<Stamp>
+    ensures { result ≡ (if nat_lt at (closes_by created activity ended) then None else Some (closes_by created activity ended)) }
 {
-    match kept.ended {
+    match ended {
         Some(ended) => {
             if at.seconds() < ended.seconds() {
                 None
@@ -21,8 +22,8 @@ fn closed_at(kept: &Changeset, at: Stamp) -> Option<Stamp>
             }
         }
         None => {
-            let idle = u128::from(kept.activity.seconds()) + 3_600;
-            let old = u128::from(kept.created.seconds()) + 86_400;
+            let idle = u128::from(activity.seconds()) + 3_600;
+            let old = u128::from(created.seconds()) + 86_400;
             let closes = idle.min(old);
             if u128::from(at.seconds()) < closes {
                 None
@@ -53,7 +54,7 @@ pub fn own_changeset<'a>(
 ) -> Result<&'a Changeset, Refusal>
     ensures value { MatchResult result (λ kept. own_changeset state.now user.now at id ≡ Ok kept.now)
         (λ refusal. own_changeset state.now user.now at id ≡ Err refusal) }
-    ensures known { IfOk result (λ _. (0 < id) × (id ≤ length state.now.changesets)) }
+    ensures found { IfOk result (λ kept. changeset state.now id ≡ Some kept.now) }
 {
     let Some(kept) = find_changeset(state, id) else {
         return Err(Refusal::NoChangeset { id });
@@ -64,7 +65,7 @@ pub fn own_changeset<'a>(
             owner: kept.owner.id,
         });
     }
-    match closed_at(kept, at) {
+    match closed_at(kept.created, kept.activity, kept.ended, at) {
         None => Ok(kept),
         Some(closed_at) => Err(Refusal::Closed {
             changeset: id,
@@ -99,14 +100,28 @@ pub fn new_changeset(
 pub fn row(alloc: Global, id: u64, kept: &Changeset, at: Stamp) -> Result<ChangesetRow, Memory>
     ensures { IfOk result (λ row. row ≡ changeset_row id kept.now at) }
 {
+    row_with(alloc, id, kept, &kept.tags, kept.activity, at)
+}
+
+/// A changeset as the client is told at a stamp, with these tags and this last activity.
+pub fn row_with(
+    alloc: Global,
+    id: u64,
+    kept: &Changeset,
+    tags: &Tags,
+    activity: Stamp,
+    at: Stamp,
+) -> Result<ChangesetRow, Memory>
+    ensures { IfOk result (λ row. row ≡ changeset_row id (record kept.now { tags = tags.now; activity = activity }) at) }
+{
     let owner = kept.owner.copy(alloc)?;
-    let tags = kept.tags.copy(alloc)?;
+    let tags = tags.copy(alloc)?;
     Ok(ChangesetRow {
         id,
         owner,
         tags,
         created: kept.created,
-        closes: closed_at(kept, at),
+        closes: closed_at(kept.created, activity, kept.ended, at),
         count: kept.did.len() as u64,
         touched: kept.touched,
     })

@@ -2,7 +2,7 @@ ghost use Rattle.std.specs.Prelude.{◌≡◌, ◌+◌, ◌≤◌, ◌<◌, fals
 ghost use Rattle.osm_element.specs.Elements.{count, position, add_version, push_version};
 ghost use Rattle.map_state.specs.declared.states.Changeset.{Changeset};
 ghost use Rattle.map_state.specs.Changeset.{touched_positions, widen_all, worked};
-ghost use Rattle.map_state.specs.State.{active, changeset, with_changeset, with_work, with_version};
+ghost use Rattle.map_state.specs.State.{active, changeset, with_changeset, with_tags, with_end, with_work, with_version};
 
 use crate::changesets::find_changeset;
 use crate::lookups::{count, position, refs_in, refs_of};
@@ -140,6 +140,29 @@ pub fn set_activity(alloc: Global, state: &mut State, id: u64, at: Stamp)
     if is_changeset(state, id) {
         let mut kept = take_out(alloc, state, id);
         kept.activity = at;
+        put_back(state, id, kept);
+    }
+}
+
+/// Gives a changeset other tags, which is activity. It takes no memory.
+pub fn set_tags(alloc: Global, state: &mut State, id: u64, tags: Tags, at: Stamp)
+    ensures { state.new ≡ with_tags state.old id tags at }
+{
+    if is_changeset(state, id) {
+        let mut kept = take_out(alloc, state, id);
+        kept.tags = tags;
+        kept.activity = at;
+        put_back(state, id, kept);
+    }
+}
+
+/// Closes a changeset. It takes no memory.
+pub fn set_end(alloc: Global, state: &mut State, id: u64, at: Stamp)
+    ensures { state.new ≡ with_end state.old id at }
+{
+    if is_changeset(state, id) {
+        let mut kept = take_out(alloc, state, id);
+        kept.ended = Some(at);
         put_back(state, id, kept);
     }
 }

@@ -4,13 +4,13 @@ use Rattle.std.proofs.Common.{◌≡◌, ℕ, zero, suc, ◌+◌, ◌<◌, ◌�
 use Rattle.std.specs.Prelude.{Option, Result, slice_get, option_and_then, nat_lt, ◌==◌, if◌then◌else◌}
 use Rattle.std.specs.Option.{option_map_or}
 use Rattle.std.proofs.lemmas.Bool.Decides.{nat_tests}
-use Rattle.osm_base.specs.Key.{kind_eq, key_eq, lists_key}
+use Rattle.osm_base.specs.Key.{kind_eq, lists_key}
 use Rattle.osm_base.specs.declared.limits.TheConstants.{CHANGE_LIMIT}
 use Rattle.osm_base.specs.declared.keys.Kind.{Kind}
 use Rattle.osm_base.specs.declared.keys.Key.{Key}
 use Rattle.osm_base.specs.declared.people.User.{User}
 use Rattle.osm_base.proofs.KeyOrder.{bool_cases}
-use Rattle.osm_element.specs.Elements.{key, histories, next_id, history, count, is_visible, refs_in, uses, users, push_version, IsConsistent, KeepsConsistent}
+use Rattle.osm_element.specs.Elements.{key, next_id, count, is_visible, users, push_version, IsConsistent, KeepsConsistent}
 use Rattle.osm_element.specs.Tags.{Tag}
 use Rattle.osm_element.specs.declared.contents.Content.{Content}
 use Rattle.osm_element.specs.declared.elements.Elements.{Elements}
@@ -26,7 +26,7 @@ use Rattle.osm_change.specs.declared.refusals.Refusal.{Refusal}
 use Rattle.osm_change.specs.declared.refusals.Refusal.TheVariants as refused
 use Rattle.map_state.specs.declared.states.Changeset.{Changeset}
 use Rattle.map_state.specs.declared.states.State.{State}
-use Rattle.map_state.specs.Later.{IsBegun, IsLater}
+use Rattle.map_state.specs.Later.{IsBegun, IsLater, Keeps}
 use Rattle.map_state.specs.Outcome.{refuse_if}
 use Rattle.map_state.specs.State.{own_changeset, changeset, with_changeset, active}
 use Rattle.map_state.proofs.Later.{later-refl, later-trans, later-push, begun-push, next-push}
@@ -286,16 +286,11 @@ elements-finished g n c t = along (n == 0)
     along true = refl
     along false = elements-active g.state c t (changeset g.state c)
 
--- what an accepted upload keeps
-pub record UploadKeeps (E F : Elements) : Type 0 where
-  pub later : IsLater E F
-  pub consistent : IsConsistent E → IsConsistent F
-  pub begun : IsBegun E → IsBegun F
-
+-- an accepted upload
 pub upload-keeps :
     (P : State) (user : User) (t c : ℕ) (ops : List Op) (g : Progress)
     → upload P user t c ops ≡ Ok g
-    → UploadKeeps P.elements g.state.elements
+    → Keeps P.elements g.state.elements
 upload-keeps P user t c ops g passed =
     let u : Upload = record { before = P.elements; changeset = c; stamp = t; operations = ops } in
     let own = bind-Ok (own_changeset P user t c) (λ (r : Changeset). upload_own u P r) g passed in
@@ -316,4 +311,4 @@ upload-keeps P user t c ops g passed =
     let same : g.state.elements ≡ fold.0.state.elements =
     ap (λ (p : Progress). p.state.elements) (sym (Ok-same (finished fold.0 (applied_count fold.0) c t) g full.2)) ∙ elements-finished fold.0 (applied_count fold.0) c t
     in
-    subst (λ (F : Elements). UploadKeeps P.elements F) (sym same) (record { later = on.later; consistent = on.consistent; begun = on.begun })
+    subst (λ (F : Elements). Keeps P.elements F) (sym same) (record { later = on.later; consistent = on.consistent; begun = on.begun })

@@ -9,7 +9,7 @@ use Rattle.osm_change.specs.declared.operations.Name.{Name}
 use Rattle.osm_change.specs.declared.operations.Op.{Op}
 use Rattle.osm_change.specs.declared.operations.Op.TheVariants.{Create, Modify, Delete}
 use Rattle.osm_change.specs.declared.refusals.Refusal.{Refusal}
-use Rattle.map_state.specs.Outcome.{◌>>=◌, refuse_if}
+use Rattle.map_state.specs.Outcome.{◌>>=◌}
 use Rattle.map_upload.specs.declared.uploads.Progress.{Progress}
 use Rattle.map_upload.specs.Upload.{Upload}
 use Rattle.map_upload.specs.Operation.{operate, operate_all, references_visible, next_key, created, applied, skipped, named_key, named_version, modified, modify_known, modify_current, or_skipped, delete_unless_used, delete_visible, delete_known, used, gone}

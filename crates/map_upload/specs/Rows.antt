@@ -1,5 +1,5 @@
 -- The rows that tell what an upload did (wiki, API v0.6, "Diff upload").
-use Rattle.std.specs.Prelude.{ℕ, if◌then◌else◌, List, map, zip, slice_get, Some, None, ℤ, pos}
+use Rattle.std.specs.Prelude.{ℕ, if◌then◌else◌, List, [], ◌∷◌, map, zip, slice_get, Option, Some, None, ℤ, pos}
 use Rattle.osm_base.specs.declared.keys.Kind.{Kind}
 use Rattle.osm_base.specs.declared.keys.Key.{Key}
 use Rattle.osm_change.specs.Change.{kind_of}
@@ -36,6 +36,16 @@ row ops (Create placeholder content tags) k done = whole_row (kind_of content) p
 row ops (Modify name version content tags) k done = whole_row (kind_of content) (old_id ops name) k done
 row ops (Delete kind name version if_unused) k done = deletion_row kind (old_id ops name) k done
 
+abbrev pub side_by_side : {A B C : Type 0} → List A → List B → List C → List (A × (B × C))
+side_by_side ls ms ns = zip ls (zip ms ns)
+
+-- what stands at a place of each list
+abbrev pub at_place : {A B C : Type 0} → Option A → Option B → Option C → List (A × (B × C))
+at_place None b c = []
+at_place (Some a) None c = []
+at_place (Some a) (Some b) None = []
+at_place (Some a) (Some b) (Some c) = (a, (b, c)) ∷ []
+
 -- one row for each operation, in order
 abbrev pub diff : List Op → Progress → List DiffRow
-diff ops g = map (λ p. row ops p.0 p.1.0 p.1.1) (zip ops (zip g.keys g.done))
+diff ops g = map (λ p. row ops p.0 p.1.0 p.1.1) (side_by_side ops g.keys g.done)

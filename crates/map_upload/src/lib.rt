@@ -10,5 +10,5 @@ mod rows;
 mod uploads;
 
 pub use judged::upload;
-pub use rows::done_version;
+pub use rows::{diff, done_version};
 pub use uploads::{Progress, UploadTask};
