@@ -7,14 +7,16 @@ use Rattle.std.proofs.lemmas.List.Sums.{fold-append}
 use Rattle.osm_base.specs.Stamp.{stamp_after}
 use Rattle.osm_change.specs.declared.refusals.Refusal.{Refusal}
 use Rattle.osm_model.specs.declared.commands.Entry.{Entry}
-use Rattle.osm_model.specs.declared.states.Accepted.{Accepted}
-use Rattle.osm_model.specs.declared.states.State.{State}
-use Rattle.osm_model.specs.State.{empty}
+use Rattle.osm_model.specs.declared.commands.Accepted.{Accepted}
+use Rattle.map_state.specs.declared.states.State.{State}
+use Rattle.map_state.specs.State.{empty}
 use Rattle.osm_model.specs.Act.{judge, settle}
-use Rattle.osm_model.specs.declared.journals.Judged.{Judged}
+use Rattle.osm_model.specs.declared.journals.Kept.{Kept}
 use Rattle.osm_model.specs.Step.{state_after, accepted}
-use Rattle.osm_model.specs.Judged.{IsJudgedOn}
-use Rattle.osm_model.specs.Journal.{IsLegal, Follows, replay, after}
+use Rattle.osm_model.specs.Judged.{IsKeptOn}
+use Rattle.map_state.specs.Later.{Keeps}
+use Rattle.osm_model.proofs.Kept.{judge-keeps}
+use Rattle.osm_model.specs.Journal.{IsJournal, IsLegal, Follows, replay, after}
 
 pub stamp_after-stamp_after : (last m : ℕ) → stamp_after last (stamp_after last m) ≡ stamp_after last m
 stamp_after-stamp_after last m = omega arith
@@ -58,15 +60,24 @@ after-accepted P e done stamped accepted =
 
 -- what was judged on a journal makes a journal of it
 pub keeps :
-    (es : List Entry) (P Q : State) (j : Judged)
-    → P ≡ replay es
-    → IsLegal es
-    → IsJudgedOn es j
-    → Q ≡ state_after P j.step
-    → IsLegal (es ++ j.entry ∷ []) × (record Q { last = j.entry.stamp } ≡ replay (es ++ j.entry ∷ []))
-keeps es P Q j same legal on stepped = (
-  IsLegal-push es j.entry legal on.follows,
-  ap (λ (q : State). record q { last = j.entry.stamp }) stepped
-      ∙ ap (λ (p : State). record (state_after p j.step) { last = j.entry.stamp }) same
-      ∙ sym (replay-push es j.entry ∙ after-accepted (replay es) j.entry (accepted (replay es) j.step j.answer) on.follows.stamped on.judged),
-)
+    (es : List Entry) (P Q : State) (k : Kept)
+    → IsJournal es P
+    → IsKeptOn es k
+    → Q ≡ state_after P k.step
+    → IsJournal (es ++ k.entry ∷ []) (record Q { last = k.entry.stamp })
+keeps es P Q k journal on stepped =
+    let same : P ≡ replay es = journal.replayed in
+    let now : Q ≡ state_after (replay es) k.step = stepped ∙ ap (λ (p : State). state_after p k.step) same in
+    let kept : Keeps (replay es).elements (state_after (replay es) k.step).elements =
+    judge-keeps (replay es) k.entry.user k.entry.stamp k.entry.command (accepted (replay es) k.step on.answer) on.judged
+    in
+    let held : Keeps P.elements Q.elements =
+    subst (λ (q : State). Keeps P.elements q.elements) (sym now) (subst (λ (p : State). Keeps p.elements (state_after (replay es) k.step).elements) (sym same) kept)
+    in
+    record {
+      legal = IsLegal-push es k.entry journal.legal on.follows;
+      replayed = ap (λ (q : State). record q { last = k.entry.stamp }) now
+          ∙ sym (replay-push es k.entry ∙ after-accepted (replay es) k.entry (accepted (replay es) k.step on.answer) on.follows.stamped on.judged);
+      consistent = held.consistent journal.consistent;
+      begun = held.begun journal.begun;
+    }

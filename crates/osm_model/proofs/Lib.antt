@@ -1,1 +1,3 @@
+pub mod Stepped
+pub mod Kept
 pub mod JournalLemmas

@@ -7,8 +7,8 @@ use Rattle.osm_change.specs.declared.answers.Answer.TheVariants as answer
 use Rattle.osm_change.specs.declared.refusals.Refusal.{Refusal}
 use Rattle.osm_model.specs.declared.commands.Command.{Command}
 use Rattle.osm_model.specs.declared.commands.Entry.{Entry}
-use Rattle.osm_model.specs.declared.states.Accepted.{Accepted}
-use Rattle.osm_model.specs.declared.states.State.{State}
+use Rattle.osm_model.specs.declared.commands.Accepted.{Accepted}
+use Rattle.map_state.specs.declared.states.State.{State}
 use Rattle.osm_model.specs.Act.{judge}
 use Rattle.osm_model.specs.Journal.{replay, calls_of}
 

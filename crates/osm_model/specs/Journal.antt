@@ -5,9 +5,11 @@ use Rattle.osm_base.specs.declared.people.User.{User}
 use Rattle.osm_change.specs.declared.refusals.Refusal.{Refusal}
 use Rattle.osm_model.specs.declared.commands.Command.{Command}
 use Rattle.osm_model.specs.declared.commands.Entry.{Entry}
-use Rattle.osm_model.specs.declared.states.Accepted.{Accepted}
-use Rattle.osm_model.specs.declared.states.State.{State}
-use Rattle.osm_model.specs.State.{empty}
+use Rattle.osm_model.specs.declared.commands.Accepted.{Accepted}
+use Rattle.map_state.specs.declared.states.State.{State}
+use Rattle.map_state.specs.State.{empty}
+use Rattle.osm_element.specs.Elements.{IsConsistent}
+use Rattle.map_state.specs.Later.{IsBegun}
 use Rattle.osm_model.specs.Act.{act, judge}
 
 -- the state after an entry
@@ -53,3 +55,5 @@ journal_after entries session user moment c =
 pub record IsJournal (entries : List Entry) (P : State) : Type 0 where
   pub legal : IsLegal entries
   pub replayed : P ≡ replay entries
+  pub consistent : IsConsistent P.elements
+  pub begun : IsBegun P.elements

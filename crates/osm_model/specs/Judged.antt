@@ -1,20 +1,35 @@
 -- A command that was judged on a journal, and isn't kept yet.
-use Rattle.std.specs.Prelude.{◌≡◌, List, [], ◌∷◌, ◌++◌, Ok}
+use Rattle.std.specs.Prelude.{◌≡◌, ⊤, List, [], ◌∷◌, ◌++◌, Option, Some, None, Ok}
 use Rattle.osm_change.specs.declared.answers.Answer.{Answer}
 use Rattle.osm_model.specs.declared.commands.Entry.{Entry}
 use Rattle.osm_model.specs.declared.journals.Judged.{Judged}
+use Rattle.osm_model.specs.declared.journals.Kept.{Kept}
 use Rattle.osm_model.specs.Act.{judge}
 use Rattle.osm_model.specs.Journal.{replay, Follows}
-use Rattle.osm_model.specs.Step.{accepted}
+use Rattle.osm_model.specs.Step.{accepted, CanStep}
 
 abbrev pub answer_of : Judged → Answer
 answer_of j = j.answer
 
--- the journal that keeps it
+abbrev pub appended_kept : List Entry → Option Kept → List Entry
+appended_kept entries None = entries
+appended_kept entries (Some k) = entries ++ k.entry ∷ []
+
+-- the journal that keeps it: a refused command isn't kept
 abbrev pub kept_after : List Entry → Judged → List Entry
-kept_after entries j = entries ++ j.entry ∷ []
+kept_after entries j = appended_kept entries j.kept
+
+-- the entry may follow these, and its step is what its command does
+pub record IsKeptOn (entries : List Entry) (k : Kept) : Type 0 where
+  pub follows : Follows entries k.entry
+  pub answer : Answer
+  pub judged : judge (replay entries) k.entry.user k.entry.stamp k.entry.command ≡ Ok (accepted (replay entries) k.step answer)
+  pub can : CanStep (replay entries) k.step
+
+abbrev pub OnKept : List Entry → Option Kept → Type 0
+OnKept entries None = ⊤
+OnKept entries (Some k) = IsKeptOn entries k
 
 -- It was judged on a journal of these entries.
-pub record IsJudgedOn (entries : List Entry) (j : Judged) : Type 0 where
-  pub follows : Follows entries j.entry
-  pub judged : judge (replay entries) j.entry.user j.entry.stamp j.entry.command ≡ Ok (accepted (replay entries) j.step j.answer)
+abbrev pub IsJudgedOn : List Entry → Judged → Type 0
+IsJudgedOn entries j = OnKept entries j.kept

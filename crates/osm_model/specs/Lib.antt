@@ -1,7 +1,6 @@
-pub mod State
-pub mod Changeset
 pub mod Act
 pub mod Step
 pub mod Journal
 pub mod Judged
+pub mod Ask
 pub mod Answered

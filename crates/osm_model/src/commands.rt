@@ -1,11 +1,42 @@
-use osm_base::{Memory, Stamp, TryCopy, User};
+use map_state::State;
+use osm_base::{Key, Memory, Stamp, Text, TryCopy, User};
+use osm_change::{Answer, Change};
 use osm_element::Tags;
 use std::alloc::Global;
 
-/// What a user asks to change.
+/// What a user asks to change. `Single` has a change of one operation.
 #[derive(Debug, Drop)]
 pub enum Command {
-    CreateChangeset { tags: Tags },
+    CreateChangeset {
+        tags: Tags,
+    },
+    Retag {
+        changeset: u64,
+        tags: Tags,
+    },
+    CloseChangeset {
+        changeset: u64,
+    },
+    Upload {
+        changeset: u64,
+        change: Change,
+    },
+    Single {
+        changeset: u64,
+        change: Change,
+    },
+    MakeRedaction {
+        title: Text,
+    },
+    Redact {
+        key: Key,
+        version: u64,
+        redaction: u64,
+    },
+    Unredact {
+        key: Key,
+        version: u64,
+    },
 }
 
 impl TryCopy for Command {
@@ -13,6 +44,37 @@ impl TryCopy for Command {
         match self {
             Command::CreateChangeset { tags } => Ok(Command::CreateChangeset {
                 tags: tags.copy(alloc)?,
+            }),
+            Command::Retag { changeset, tags } => Ok(Command::Retag {
+                changeset: *changeset,
+                tags: tags.copy(alloc)?,
+            }),
+            Command::CloseChangeset { changeset } => Ok(Command::CloseChangeset {
+                changeset: *changeset,
+            }),
+            Command::Upload { changeset, change } => Ok(Command::Upload {
+                changeset: *changeset,
+                change: change.copy(alloc)?,
+            }),
+            Command::Single { changeset, change } => Ok(Command::Single {
+                changeset: *changeset,
+                change: change.copy(alloc)?,
+            }),
+            Command::MakeRedaction { title } => Ok(Command::MakeRedaction {
+                title: title.copy(alloc)?,
+            }),
+            Command::Redact {
+                key,
+                version,
+                redaction,
+            } => Ok(Command::Redact {
+                key: *key,
+                version: *version,
+                redaction: *redaction,
+            }),
+            Command::Unredact { key, version } => Ok(Command::Unredact {
+                key: *key,
+                version: *version,
             }),
         }
     }
@@ -40,4 +102,11 @@ impl TryCopy for Entry {
             command,
         })
     }
+}
+
+/// What an accepted command leaves and answers.
+#[derive(Debug, Drop)]
+pub struct Accepted {
+    pub state: State,
+    pub answer: Answer,
 }

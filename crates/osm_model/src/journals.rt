@@ -1,11 +1,14 @@
-ghost use Rattle.std.specs.Prelude.{◌≡◌, ◌<◌, ◌^◌, [], IfOk, OnOk, OnErr};
+ghost use Rattle.std.specs.Prelude.{◌≡◌, ◌<◌, ◌^◌, [], ◌∷◌, ◌++◌, IfOk, OnOk, OnErr};
+ghost use Rattle.osm_element.specs.Elements.{IsConsistent};
+ghost use Rattle.map_state.specs.Later.{IsBegun};
 ghost use Rattle.osm_model.specs.Act.{act};
 ghost use Rattle.osm_model.specs.Journal.{IsLegal, replay, journal_after, calls_of};
-ghost use Rattle.osm_model.specs.Judged.{IsJudgedOn, answer_of, kept_after};
+ghost use Rattle.osm_model.specs.Judged.{IsJudgedOn, IsKeptOn, answer_of, kept_after};
 
-use crate::acts::{Step, judge, take_step};
 use crate::commands::{Command, Entry};
-use crate::states::State;
+use crate::judgements::judge;
+use crate::steps::{Step, take_step};
+use map_state::{Fault, State};
 use osm_base::{Memory, Stamp, TryCopy, User};
 use osm_change::Answer;
 use std::alloc::Global;
@@ -32,11 +35,17 @@ impl Model for Journal {
     ghost invariant = { λ j. IsJournal j.entries.items j.state };
 }
 
-/// What a command comes to on a journal, before it is kept there.
+/// An entry that isn't kept yet, and what it changes.
 #[derive(Debug, Drop)]
-pub struct Judged {
+pub struct Kept {
     entry: Entry,
     step: Step,
+}
+
+/// What a command comes to on a journal, before it is kept there. A refused one is never kept.
+#[derive(Debug, Drop)]
+pub struct Judged {
+    kept: Option<Kept>,
     answer: Answer,
 }
 
@@ -70,7 +79,9 @@ impl Journal {
 
     /// The map that the entries make.
     pub fn state(&self) -> &State
-        ensures { result.now ≡ replay self.now }
+        ensures replayed { result.now ≡ replay self.now }
+        ensures consistent { IsConsistent result.now.elements }
+        ensures begun { IsBegun result.now.elements }
     {
         &self.state
     }
@@ -90,39 +101,59 @@ impl Journal {
             ≡ journal_after self.now session user.now moment command) }
     {
         let at = Stamp::after(self.state.last, moment);
-        let (step, answer) = judge(alloc, &self.state, user, at, &command)?;
-        let entry = Entry {
-            session,
-            call: calls_of(self.entries.as_slice(), session) + 1,
-            user: user.copy(alloc)?,
-            stamp: at,
-            command,
-        };
-        Ok(Judged {
-            entry,
-            step,
-            answer,
-        })
+        match judge(alloc, &self.state, user, at, &command) {
+            Ok((step, answer)) => {
+                let entry = Entry {
+                    session,
+                    call: calls_of(self.entries.as_slice(), session) + 1,
+                    user: user.copy(alloc)?,
+                    stamp: at,
+                    command,
+                };
+                Ok(Judged {
+                    kept: Some(Kept { entry, step }),
+                    answer,
+                })
+            }
+            Err(Fault::Refused(refusal)) => Ok(Judged {
+                kept: None,
+                answer: Answer::Refused(refusal),
+            }),
+            Err(Fault::Memory) => Err(Memory),
+        }
     }
 
     /// Keeps what was judged on this journal, and gives its answer back.
-    pub fn keep(&mut self, judged: Judged) -> Result<Answer, Memory>
+    pub fn keep(&mut self, alloc: Global, judged: Judged) -> Result<Answer, Memory>
         requires { IsJudgedOn self.old judged }
         ensures answer { IfOk result (λ answer. answer ≡ answer_of judged) }
         ensures ok { OnOk result (self.new ≡ kept_after self.old judged) }
         ensures legal { OnOk result (IsLegal self.new) }
         ensures memory { OnErr result (self.new ≡ self.old) }
     {
-        let Judged {
-            entry,
-            step,
-            answer,
-        } = judged;
+        let _ = &self.entries;
+        let Judged { kept, answer } = judged;
+        match kept {
+            Some(kept) => {
+                self.keep_entry(alloc, kept)?;
+                Ok(answer)
+            }
+            None => Ok(answer),
+        }
+    }
+
+    fn keep_entry(&mut self, alloc: Global, kept: Kept) -> Result<(), Memory>
+        requires { IsKeptOn self.old kept }
+        ensures ok { OnOk result (self.new ≡ self.old ++ kept.entry ∷ []) }
+        ensures legal { OnOk result (IsLegal self.new) }
+        ensures memory { OnErr result (self.new ≡ self.old) }
+    {
+        let Kept { entry, step } = kept;
         self.entries.reserve(1)?;
-        take_step(&mut self.state, step)?;
+        take_step(alloc, &mut self.state, step)?;
         self.state.last = entry.stamp;
         self.entries.push_reserved(entry);
-        Ok(answer)
+        Ok(())
     }
 
     /// Does the command, and keeps it where it is accepted.
@@ -139,7 +170,7 @@ impl Journal {
         ensures memory { OnErr result (self.new ≡ self.old) }
     {
         let judged = self.judge(alloc, session, user, moment, command)?;
-        self.keep(judged)
+        self.keep(alloc, judged)
     }
 }
 
@@ -152,4 +183,59 @@ fn calls_of(entries: &[Entry], session: u32) -> u64
         .iter()
         .filter(|entry| entry.session == session)
         .count() as u64
+}
+
+#[cfg(test)]
+mod tests {
+    use super::Journal;
+    use crate::commands::Command;
+    use osm_base::{Coord, Items, Memory, Text, User};
+    use osm_change::{Answer, Change, Op};
+    use osm_element::{Content, Tags};
+    use std::alloc::Global;
+    use std::test::Fail;
+
+    fn number(answer: &Answer) -> u64 {
+        match answer {
+            Answer::Number(number) => *number,
+            _ => 0,
+        }
+    }
+
+    fn done_by_alice(
+        alloc: Global,
+        journal: &mut Journal,
+        command: Command,
+    ) -> Result<u64, Memory> {
+        let alice = User {
+            id: 1,
+            name: Text::of(alloc, "alice")?,
+            moderator: false,
+        };
+        let answer = journal.act(alloc, 0, &alice, 1_700_000_000, command)?;
+        Ok(number(&answer))
+    }
+
+    #[test]
+    fn a_changeset_and_a_node_are_created(rt: HostRuntime) -> Result<(), Fail> {
+        let alloc: Global = rt.alloc();
+        let mut journal = Journal::new(alloc);
+        let tags = Tags::none(alloc);
+        let made = done_by_alice(alloc, &mut journal, Command::CreateChangeset { tags })?;
+        assert_eq!(rt; made, 1);
+        let mut operations = Items::none(alloc);
+        operations.push(Op::Create {
+            placeholder: -1,
+            content: Content::Node(Coord::new(481_400_000, 115_400_000).ok_or("no position")?),
+            tags: Tags::none(alloc),
+        })?;
+        let command = Command::Single {
+            changeset: 1,
+            change: Change::of(operations),
+        };
+        let created = done_by_alice(alloc, &mut journal, command)?;
+        assert_eq!(rt; created, 1);
+        assert_eq!(rt; journal.entries().len(), 2);
+        Ok(())
+    }
 }

@@ -2,12 +2,17 @@
 #![tactic(auto)]
 
 mod acts;
-mod changesets;
+mod asks;
 mod commands;
 mod journals;
-mod states;
+mod judgements;
+mod queries;
+mod steps;
 
-pub use acts::{Step, plain_act};
-pub use commands::{Command, Entry};
+pub use acts::plain_act;
+pub use asks::plain_ask;
+pub use commands::{Accepted, Command, Entry};
 pub use journals::{Journal, Judged};
-pub use states::{Accepted, Changeset, State, Work};
+pub use map_state::{Changeset, State, Work};
+pub use queries::Query;
+pub use steps::Step;

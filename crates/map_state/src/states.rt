@@ -1,7 +1,6 @@
 ghost use Rattle.std.specs.Prelude.{◌≡◌};
 
 use osm_base::{Box7, Items, Key, Memory, Owner, Stamp, Text, TryCopy};
-use osm_change::Answer;
 use osm_element::{Elements, Tags};
 use std::alloc::Global;
 
@@ -12,7 +11,8 @@ pub struct Work {
     pub version: u64,
 }
 
-/// What is known of a changeset (OpenStreetMap wiki, API v0.6, "Changesets").
+/// What is known of a changeset (OpenStreetMap wiki, "Changesets"). It has made the versions of
+/// `did`, in that order, and `touched` is the least box of what they touched.
 #[derive(Debug, Drop)]
 pub struct Changeset {
     pub owner: Owner,
@@ -24,7 +24,8 @@ pub struct Changeset {
     pub did: Items<Work>,
 }
 
-/// The map. Changeset and redaction c are the c-th of their lists.
+/// The map. Changeset and redaction n are the n-th of their lists, counted from 1; `last` is the
+/// stamp of the last accepted command, 0 before the first.
 #[derive(Debug, Drop)]
 pub struct State {
     pub elements: Elements,
@@ -33,17 +34,10 @@ pub struct State {
     pub last: Stamp,
 }
 
-/// What an accepted command leaves and answers.
-#[derive(Debug, Drop)]
-pub struct Accepted {
-    pub state: State,
-    pub answer: Answer,
-}
-
 impl State {
-    ghost use Rattle.osm_model.specs.State.{empty};
+    ghost use Rattle.map_state.specs.State.{empty};
 
-    /// The map before any command. It takes no memory.
+    /// The map before the first command. It takes no memory.
     pub fn empty(alloc: Global) -> State
         ensures { result ≡ empty }
     {

@@ -1,0 +1,4 @@
+pub mod Listed
+pub mod Replaced
+pub mod UserSteps
+pub mod Later

@@ -1,0 +1,4 @@
+pub mod Outcome
+pub mod Changeset
+pub mod State
+pub mod Later

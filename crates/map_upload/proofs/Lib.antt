@@ -1,0 +1,4 @@
+pub mod Steps
+pub mod References
+pub mod Kept
+pub mod Zipped

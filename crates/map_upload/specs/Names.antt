@@ -1,0 +1,63 @@
+-- Names of elements in an upload: by id, or by the placeholder of an earlier creation (wiki,
+-- "OsmChange").
+use Rattle.std.specs.Prelude.{ℕ, ◌==◌, if◌then◌else◌, List, map, position, slice_get, Option, Some, None, option_and_then, ℤ, pos}
+use Rattle.std.specs.Option.{option_map_or}
+use Rattle.osm_base.specs.Key.{kind_eq, key_eq}
+use Rattle.osm_base.specs.declared.keys.Kind.{Kind}
+use Rattle.osm_base.specs.declared.keys.Key.{Key}
+use Rattle.osm_element.specs.Elements.{key, count}
+use Rattle.osm_element.specs.declared.contents.Content.{Content}
+use Rattle.osm_element.specs.declared.contents.Content.TheVariants as content
+use Rattle.osm_element.specs.declared.contents.Member.{Member}
+use Rattle.osm_change.specs.declared.operations.Name.{Name}
+use Rattle.osm_change.specs.declared.operations.Name.TheVariants.{Old, New}
+use Rattle.osm_change.specs.declared.operations.Op.{Op}
+use Rattle.osm_change.specs.declared.operations.Op.TheVariants.{Create, Modify, Delete}
+use Rattle.osm_change.specs.declared.refusals.Said.{Said}
+use Rattle.osm_change.specs.declared.refusals.Said.TheVariants.{Id, Placeholder}
+use Rattle.map_upload.specs.Upload.{Upload}
+use Rattle.map_upload.specs.declared.uploads.Progress.{Progress}
+
+-- the id that a name stands for, where it stands for one
+abbrev pub id_of : List Key → Name → ℕ
+id_of ks (Old id) = id
+id_of ks (New place) = option_map_or (λ k. k.id) (slice_get ks place) 0
+
+-- the key, where it is of the kind
+abbrev pub of_kind : Kind → Key → Option Key
+of_kind k x = if kind_eq x.kind k then Some x else None
+
+-- the element that is named: one with a history before the upload, or the one of an earlier operation
+abbrev pub known_key : Upload → Progress → Kind → Name → Option Key
+known_key u g k (Old id) = if count u.before (key k id) == 0 then None else Some (key k id)
+known_key u g k (New place) = option_and_then (of_kind k) (slice_get g.keys place)
+
+abbrev pub placeholder_of : Option Op → ℤ
+placeholder_of None = pos 0
+placeholder_of (Some (Create placeholder content tags)) = placeholder
+placeholder_of (Some (Modify name version content tags)) = pos 0
+placeholder_of (Some (Delete kind name version if_unused)) = pos 0
+
+-- an element as the client named it
+abbrev pub said : List Op → Name → Said
+said ops (Old id) = Id id
+said ops (New place) = Placeholder (placeholder_of (slice_get ops place))
+
+abbrev pub said_at : Option Op → Key → Said
+said_at None k = Id k.id
+said_at (Some (Create placeholder content tags)) k = Placeholder placeholder
+said_at (Some (Modify name version content tags)) k = Id k.id
+said_at (Some (Delete kind name version if_unused)) k = Id k.id
+
+-- an element as the client would name it: by its placeholder, where its first operation creates it
+abbrev pub said_key : List Op → List Key → Key → Said
+said_key ops ks k = option_map_or (λ place. said_at (slice_get ops place) k) (position (λ x. key_eq x k) ks) (Id k.id)
+
+abbrev pub member_with_id : List Key → Member Name → Member ℕ
+member_with_id ks m = record { kind = m.kind; name = id_of ks m.name; role = m.role }
+
+-- a content with the ids that its names stand for
+abbrev pub with_ids : List Key → Content Name → Content ℕ
+with_ids ks (content.Node at) = content.Node at
+with_ids ks (content.Way nodes) = content.Way (map (id_of ks) nodes)
+with_ids ks (content.Relation members) = content.Relation (map (member_with_id ks) members)

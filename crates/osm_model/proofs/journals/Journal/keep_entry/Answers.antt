@@ -1,0 +1,24 @@
+use Rattle.osm_model.proofs.JournalLemmas.{keeps, IsLegal-push}
+use Rattle.osm_model.specs.Judged.{IsKeptOn}
+use Rattle.osm_model.proofs.journals.Journal.keep_entry.Goals as goal
+
+pub invariant_of-self-2 : goal.invariant_of-self-2
+invariant_of-self-2 c =
+    let on : IsKeptOn c.self.inside.entries.items c.args.kept = rw c.self.view_is c.requires in
+    rw
+    (c.push_reserved.ensures.items, c.reserve.ensures.items)
+    (keeps
+    c.self.inside.entries.items
+    c.self.inside.state
+    c.take_step.new.state
+    c.args.kept
+    (record { legal = c.self.invariant.legal; replayed = c.self.invariant.replayed; consistent = c.self.invariant.consistent; begun = c.self.invariant.begun })
+    on
+    c.in_ok-take_step.ensures.ok)
+
+pub returns-clause-legal : goal.returns-clause-legal
+returns-clause-legal c =
+    let on : IsKeptOn c.self.inside.entries.items c.args.kept = rw c.self.view_is c.requires in
+    rw
+    (c.push_reserved.ensures.items, c.reserve.ensures.items)
+    (IsLegal-push c.self.inside.entries.items c.args.kept.entry c.self.invariant.legal on.follows)
