@@ -1,5 +1,5 @@
 -- What one request is answered, whatever it comes to.
-use Rattle.std.proofs.Common.{◌≡◌, ℕ, List, [], ◌∷◌, ◌++◌, Option, Some, None, Result, Ok, Err, refl, sym, ap, ◌∙◌, subst, inl, inr, append-nil}
+use Rattle.std.proofs.Common.{◌≡◌, ℕ, ◌+◌, length, arith, List, [], ◌∷◌, ◌++◌, Option, Some, None, Result, Ok, Err, refl, sym, ap, ◌∙◌, subst, inl, inr, append-nil}
 use Rattle.std.specs.Prelude.{IfOk, OnOk, OnErr}
 use Rattle.osm_base.specs.declared.memory.Memory.{Memory}
 use Rattle.osm_base.specs.declared.people.User.{User}
@@ -7,9 +7,9 @@ use Rattle.osm_change.specs.declared.answers.Answer.TheVariants.{Refused}
 use Rattle.osm_change.specs.declared.refusals.Refusal.{Refusal}
 use Rattle.osm_model.specs.declared.commands.Command.{Command}
 use Rattle.osm_model.specs.declared.commands.Entry.{Entry}
-use Rattle.osm_model.specs.declared.states.Accepted.{Accepted}
+use Rattle.osm_model.specs.declared.commands.Accepted.{Accepted}
 use Rattle.osm_model.specs.Act.{act, judge}
-use Rattle.osm_model.specs.Journal.{replay, appended, journal_after, next_entry}
+use Rattle.osm_model.specs.Journal.{replay, calls_of, appended, journal_after, next_entry}
 use Rattle.osm_model.specs.Answered.{Request, refused, does, Place, all_of, stamp_on, IsRow, LacksMemory}
 use Rattle.http_wire.specs.declared.message.Message.{Message}
 use Rattle.http_link.specs.declared.desk.Reply.{Reply}
@@ -17,19 +17,30 @@ use Rattle.http_link.specs.Desk.{counted_reply}
 use Rattle.user_table.specs.Rows.{Row}
 use Rattle.api_desk.specs.Request.{request_of}
 use Rattle.api_desk.specs.Answers.{Answers, reply_of}
-use Rattle.api_desk.proofs.Rows.{row_of_act}
+use Rattle.api_desk.proofs.Rows.{row_of_act, calls_of-next}
 
 -- want of memory is a row of every request
 lacking : (F : List Entry) (s : ℕ) (p : Place) (q : Request) (m : ℕ) → IsRow F s p q m None p
 lacking F s p (refused r) m = inr (record { told = refl; stays = refl })
 lacking F s p (does user c) m = inr (inr (inl (record { told = refl; stays = refl })))
 
--- a journal keeps what it had
-appended_more :
+-- a journal keeps what it had, and gets no entry but one of the session
+record Grows (s : ℕ) (old new : List Entry) : Type 0 where
+  more : List Entry
+  grown : new ≡ old ++ more
+  own : calls_of s new ≡ calls_of s old + length more
+
+grows_by_nothing : (s : ℕ) (es : List Entry) → Grows s es es
+grows_by_nothing s es = record { more = []; grown = sym (append-nil es); own = omega arith }
+
+grows_by_nothing_own : (s : ℕ) (es : List Entry) → calls_of s es ≡ calls_of s es + length {A = Entry} []
+grows_by_nothing_own s es = omega arith
+
+appended_grows :
     (es : List Entry) (e : Entry) (j : Result Accepted Refusal)
-    → (more : List Entry) × (appended es e j ≡ es ++ more)
-appended_more es e (Ok done) = (e ∷ [], refl)
-appended_more es e (Err r) = ([], sym (append-nil es))
+    → Grows e.session es (appended es e j)
+appended_grows es e (Ok done) = record { more = e ∷ []; grown = refl; own = calls_of-next es e }
+appended_grows es e (Err r) = grows_by_nothing e.session es
 
 -- want of memory leaves the journal
 pub memory_answers :
@@ -42,6 +53,7 @@ memory_answers users s old new message moment same = record {
   text = refl;
   more = [];
   grown = same ∙ sym (append-nil old);
+  own = ap (calls_of s) same ∙ grows_by_nothing_own s old;
 }
 
 -- a command
@@ -54,7 +66,7 @@ pub change_answers :
     → OnErr result (new ≡ old)
     → Answers users s old new message moment (counted_reply result)
 change_answers users s old new message moment user c (Ok reply) asks text after same =
-    let more = appended_more old (next_entry old s user moment c) (judge (replay old) user (stamp_on (replay old) moment) c) in
+    let grows = appended_grows old (next_entry old s user moment c) (judge (replay old) user (stamp_on (replay old) moment) c) in
     record {
       answer = Some (act (replay old) user moment c).1;
       row = subst
@@ -65,8 +77,9 @@ change_answers users s old new message moment user c (Ok reply) asks text after 
           (sym asks)
           (row_of_act old s user moment c));
       text = text;
-      more = more.0;
-      grown = after ∙ more.1;
+      more = grows.more;
+      grown = after ∙ grows.grown;
+      own = ap (calls_of s) after ∙ grows.own;
     }
 change_answers users s old new message moment user c (Err memory) asks text after same = memory_answers users s old new message moment same
 
@@ -82,5 +95,6 @@ refusal_answers users s es message moment r (Ok reply) asks text = record {
   text = text;
   more = [];
   grown = sym (append-nil es);
+  own = grows_by_nothing_own s es;
 }
 refusal_answers users s es message moment r (Err memory) asks text = memory_answers users s es es message moment refl

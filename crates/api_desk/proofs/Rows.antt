@@ -11,8 +11,8 @@ use Rattle.osm_change.specs.declared.answers.Answer.{Answer}
 use Rattle.osm_change.specs.declared.refusals.Refusal.{Refusal}
 use Rattle.osm_model.specs.declared.commands.Command.{Command}
 use Rattle.osm_model.specs.declared.commands.Entry.{Entry}
-use Rattle.osm_model.specs.declared.states.Accepted.{Accepted}
-use Rattle.osm_model.specs.declared.states.State.{State}
+use Rattle.osm_model.specs.declared.commands.Accepted.{Accepted}
+use Rattle.map_state.specs.declared.states.State.{State}
 use Rattle.osm_model.specs.Act.{act, judge, settle}
 use Rattle.osm_model.specs.Journal.{replay, calls_of, appended, next_entry, journal_after}
 use Rattle.osm_model.specs.Answered.{Request, refused, does, Place, all_of, map_at, stamp_on, RefusesRequest, RefusesCommand, AcceptsCommand, LacksMemory, IsOwed, IsRow}
@@ -50,7 +50,7 @@ map_at-append es more n h = ap replay (take-append-le n es more h)
 same_number : (n : ℕ) → (n == n) ≡ true
 same_number n = grind (arith, nat_tests)
 
-calls_of-next : (es : List Entry) (e : Entry) → calls_of e.session (es ++ e ∷ []) ≡ calls_of e.session es + 1
+pub calls_of-next : (es : List Entry) (e : Entry) → calls_of e.session (es ++ e ∷ []) ≡ calls_of e.session es + 1
 calls_of-next es e =
     let split = sum_by-append (λ (x : Entry). cond (x.session == e.session) 1 0) es (e ∷ []) in
     let one : ◌≡◌ {A = ℕ} (cond (e.session == e.session) 1 0) 1 = ap (λ (b : Bool). cond b 1 0) (same_number e.session) in

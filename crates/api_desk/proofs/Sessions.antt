@@ -1,7 +1,7 @@
 -- A whole session of a desk.
-use Rattle.std.proofs.Common.{◌≡◌, ℕ, ◌≤◌, List, [], ◌∷◌, ◌++◌, length, refl, sym, ap, ◌∙◌, subst, arith, append_assoc, append-nil, length-append}
+use Rattle.std.proofs.Common.{◌≡◌, ℕ, ◌+◌, ◌≤◌, List, [], ◌∷◌, ◌++◌, length, refl, sym, ap, ◌∙◌, subst, arith, append_assoc, append-nil, length-append}
 use Rattle.osm_model.specs.declared.commands.Entry.{Entry}
-use Rattle.osm_model.specs.Journal.{IsLegal}
+use Rattle.osm_model.specs.Journal.{IsLegal, calls_of}
 use Rattle.osm_model.specs.Answered.{Asked, Place, all_of, IsRow, IsAnswered}
 use Rattle.http_link.specs.Exchange.{Exchange, Chain}
 use Rattle.user_table.specs.Rows.{Row}
@@ -18,6 +18,7 @@ none_answered old new same = subst (λ (d : OneDesk). HasServed old [] d) (sym s
   legal = λ legal. legal;
   more = [];
   grown = sym (append-nil (entries_of old));
+  own = omega arith;
 })
 
 -- one exchange, and then what a session of the desk that it left has done
@@ -48,6 +49,15 @@ one_more old mid new e es allowed rest =
     allowed.session
     later
     in
+    let rest_own : calls_of s (entries_of new) ≡ calls_of s (entries_of mid) + length rest.more =
+    subst
+    (λ (n : ℕ). calls_of n (entries_of new) ≡ calls_of n (entries_of mid) + length rest.more)
+    allowed.session
+    rest.own
+    in
+    let own : calls_of s (entries_of new) ≡ calls_of s (entries_of old) + length (a.more ++ rest.more) =
+    omega (arith, rest_own, a.own, length-append a.more rest.more)
+    in
     record {
       answered = record {
         asked = record { request = request_of (users_of old) e.message; moment = e.moment; reply = a.answer } ∷ then_on.asked;
@@ -57,6 +67,7 @@ one_more old mid new e es allowed rest =
       legal = λ legal. rest.legal (allowed.legal legal);
       more = a.more ++ rest.more;
       grown = grown ∙ ap (λ (es : List Entry). es ++ rest.more) a.grown ∙ append_assoc (entries_of old) a.more rest.more;
+      own = own;
     }
 
 -- whatever the exchanges are

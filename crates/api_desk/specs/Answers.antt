@@ -1,7 +1,8 @@
 -- What requests are answered, against a journal.
-use Rattle.std.specs.Prelude.{◌≡◌, ℕ, List, [], ◌∷◌, ◌++◌, Option, Some, None, ⊤}
+use Rattle.std.specs.Prelude.{◌≡◌, ℕ, ◌+◌, length, List, [], ◌∷◌, ◌++◌, Option, Some, None, ⊤}
 use Rattle.osm_change.specs.declared.answers.Answer.{Answer}
 use Rattle.osm_model.specs.declared.commands.Entry.{Entry}
+use Rattle.osm_model.specs.Journal.{calls_of}
 use Rattle.osm_model.specs.Answered.{Asked, Place, all_of, IsRow, IsAnswered}
 use Rattle.osm_json.specs.Answered.{status_of, body_of}
 use Rattle.http_wire.specs.declared.message.Message.{Message}
@@ -16,13 +17,15 @@ abbrev pub reply_of : Option Answer → Reply
 reply_of None = record { status = 503; body = memory_body }
 reply_of (Some answer) = record { status = status_of answer; body = body_of answer }
 
--- One request was answered: a row of "answered" on the journal as it is then, in which nothing of before is lost.
+-- One request was answered: a row of "answered" on the journal as it is then, in which nothing of before is
+-- lost, and which has no further entries but the session's own.
 pub record Answers (users : List Row) (session : ℕ) (old new : List Entry) (message : Message) (moment : ℕ) (reply : Reply) : Type 0 where
   pub answer : Option Answer
   pub row : IsRow new session (all_of session old) (request_of users message) moment answer (all_of session new)
   pub text : reply ≡ reply_of answer
   pub more : List Entry
   pub grown : new ≡ old ++ more
+  pub own : calls_of session new ≡ calls_of session old + length more
 
 -- a request with its answer, and the message with its reply
 pub record Tells (users : List Row) (exchange : Exchange) (asked : Asked) : Type 0 where

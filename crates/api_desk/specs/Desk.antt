@@ -1,9 +1,9 @@
 -- A desk over a journal, and what it answers.
-use Rattle.std.specs.Prelude.{◌≡◌, ℕ, List, ◌++◌}
+use Rattle.std.specs.Prelude.{◌≡◌, ℕ, ◌+◌, length, List, ◌++◌}
 use Rattle.osm_model.specs.Answered.{all_of}
 use Rattle.http_link.specs.Exchange.{Exchange}
 use Rattle.osm_model.specs.declared.commands.Entry.{Entry}
-use Rattle.osm_model.specs.Journal.{IsLegal}
+use Rattle.osm_model.specs.Journal.{IsLegal, calls_of}
 use Rattle.http_wire.specs.declared.message.Message.{Message}
 use Rattle.http_link.specs.declared.desk.Reply.{Reply}
 use Rattle.user_table.specs.Rows.{Row}
@@ -34,3 +34,4 @@ pub record HasServed (old : OneDesk) (exchanges : List Exchange) (new : OneDesk)
   pub legal : IsLegal (entries_of old) → IsLegal (entries_of new)
   pub more : List Entry
   pub grown : entries_of new ≡ entries_of old ++ more
+  pub own : calls_of (session_of old) (entries_of new) ≡ calls_of (session_of old) (entries_of old) + length more

@@ -39,6 +39,7 @@ fn change(
     asked: Asked,
     moment: u64,
 ) -> Result<Reply, Memory>
+    requires { HasShownMoments (act (replay journal.old) asked.user moment asked.command).1 }
     ensures reply { IfOk result (λ reply. reply
         ≡ reply_of (Some (act (replay journal.old) asked.user moment asked.command).1)) }
     ensures journal { OnOk result (journal.new
@@ -50,7 +51,7 @@ fn change(
     let Asked { user, command } = asked;
     let judged = journal.judge(alloc, session, &user, moment, command)?;
     let reply = reply_to(alloc, judged.answer())?;
-    journal.keep(judged)?;
+    journal.keep(alloc, judged)?;
     Ok(reply)
 }
 

@@ -1,5 +1,6 @@
 //! What a message asks.
-ghost use Rattle.std.specs.Prelude.{◌≡◌, option_copied, IfErr};
+ghost use Rattle.std.specs.Prelude.{◌≡◌, [], option_copied, IfOk, IfErr};
+ghost use Rattle.osm_model.specs.declared.commands.Command.TheVariants.{CreateChangeset};
 ghost use Rattle.api_desk.specs.Request.{request_of, user_of, is_creation};
 ghost use Rattle.api_desk.specs.Gives.{GivesRequest, GivesUser, HasShownFault};
 
@@ -57,6 +58,7 @@ pub fn request_of(
     users: &UserTable,
 ) -> Result<Asked, RequestFault>
     ensures gives { GivesRequest (request_of users.now message.now) result }
+    ensures creation { IfOk result (λ asked. asked.command ≡ CreateChangeset []) }
     ensures shown { IfErr result HasShownFault }
 {
     if !is_creation(message) {

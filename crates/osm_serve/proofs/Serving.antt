@@ -1,9 +1,9 @@
 -- Serving a link by a desk over a new journal.
-use Rattle.std.proofs.Common.{◌≡◌, ℕ, List, [], ◌∷◌, refl, sym, subst}
+use Rattle.std.proofs.Common.{◌≡◌, ℕ, ◌+◌, ◌++◌, ◌∙◌, ap, arith, length, List, [], ◌∷◌, refl, sym, subst}
 use Rattle.std.specs.Prelude.{slice_get}
 use Rattle.osm_outside.specs.Told.{Told}
 use Rattle.osm_model.specs.declared.commands.Entry.{Entry}
-use Rattle.osm_model.specs.Journal.{IsLegal, Follows}
+use Rattle.osm_model.specs.Journal.{IsLegal, Follows, calls_of}
 use Rattle.osm_model.specs.Answered.{all_of}
 use Rattle.http_link.specs.declared.end.LinkEnd.{LinkEnd}
 use Rattle.http_link.specs.Exchange.{Exchange}
@@ -18,12 +18,21 @@ use Rattle.osm_serve.specs.Serve.{ServesPipe, beginning}
 nothing_legal : IsLegal []
 nothing_legal = record { each = λ n e found. cc }
 
+-- a journal that was empty has the entries of the session alone
+own_entries : (es more : List Entry) → es ≡ [] ++ more → calls_of 0 es ≡ calls_of 0 [] + length more → calls_of 0 es ≡ length es
+own_entries es more grown own =
+    let same : length es ≡ length more = ap length grown in
+    let none : calls_of 0 [] ≡ 0 = refl in
+    omega (arith, own, same, none)
+
 -- what a desk of session 0 over a new journal has answered
 from_nothing :
     (users : List Row) (old new : OneDesk) (exchanges : List Exchange)
     → users_of old ≡ users → session_of old ≡ 0 → entries_of old ≡ []
     → HasServed old exchanges new
-    → AreAnswered users 0 (entries_of new) beginning exchanges (all_of 0 (entries_of new)) × IsLegal (entries_of new)
+    → AreAnswered users 0 (entries_of new) beginning exchanges (all_of 0 (entries_of new))
+    × IsLegal (entries_of new)
+    × (calls_of 0 (entries_of new) ≡ length (entries_of new))
 from_nothing users old new exchanges same zero none served = (
   subst
       (λ (u : List Row). AreAnswered u 0 (entries_of new) beginning exchanges (all_of 0 (entries_of new)))
@@ -36,6 +45,14 @@ from_nothing users old new exchanges same zero none served = (
       zero
       served.answered)),
   served.legal (subst (λ (es : List Entry). IsLegal es) (sym none) nothing_legal),
+  own_entries
+      (entries_of new)
+      served.more
+      (served.grown ∙ ap (λ (es : List Entry). es ++ served.more) none)
+      (subst
+      (λ (es : List Entry). calls_of 0 (entries_of new) ≡ calls_of 0 es + length served.more)
+      none
+      (subst (λ (s : ℕ). calls_of s (entries_of new) ≡ calls_of s (entries_of old) + length served.more) zero served.own)),
 )
 
 pub serves_pipe :
@@ -59,6 +76,7 @@ serves_pipe users old new before after end same zero none s served =
       journal = entries_of new;
       legal = answered.1;
       answered = answered.0;
+      own = answered.2;
       written = s.written;
       output = s.served.output;
       ends = s.ends;
