@@ -124,11 +124,13 @@ impl Journal {
     }
 
     /// Keeps what was judged on this journal, and gives its answer back.
+    #[tactic(auto, using(crate::proofs::JournalLemmas::replay_consistent))]
     pub fn keep(&mut self, alloc: Global, judged: Judged) -> Result<Answer, Memory>
         requires { IsJudgedOn self.old judged }
         ensures answer { IfOk result (λ answer. answer ≡ answer_of judged) }
         ensures ok { OnOk result (self.new ≡ kept_after self.old judged) }
         ensures legal { OnOk result (IsLegal self.new) }
+        ensures consistent { OnOk result (IsConsistent (replay self.new).elements) }
         ensures memory { OnErr result (self.new ≡ self.old) }
     {
         let _ = &self.entries;
@@ -146,6 +148,7 @@ impl Journal {
         requires { IsKeptOn self.old kept }
         ensures ok { OnOk result (self.new ≡ self.old ++ kept.entry ∷ []) }
         ensures legal { OnOk result (IsLegal self.new) }
+        ensures consistent { OnOk result (IsConsistent (replay self.new).elements) }
         ensures memory { OnErr result (self.new ≡ self.old) }
     {
         let Kept { entry, step } = kept;
@@ -167,6 +170,8 @@ impl Journal {
     ) -> Result<Answer, Memory>
         ensures answer { IfOk result (λ answer. answer ≡ (act (replay self.old) user.now moment command).1) }
         ensures entries { OnOk result (self.new ≡ journal_after self.old session user.now moment command) }
+        ensures legal { OnOk result (IsLegal self.new) }
+        ensures consistent { OnOk result (IsConsistent (replay self.new).elements) }
         ensures memory { OnErr result (self.new ≡ self.old) }
     {
         let judged = self.judge(alloc, session, user, moment, command)?;
@@ -190,7 +195,7 @@ mod tests {
     use super::Journal;
     use crate::commands::Command;
     use osm_base::{Coord, Items, Memory, Text, User};
-    use osm_change::{Answer, Change, Op};
+    use osm_change::{Answer, Change, OneOp, Op};
     use osm_element::{Content, Tags};
     use std::alloc::Global;
     use std::test::Fail;
@@ -229,9 +234,12 @@ mod tests {
             content: Content::Node(Coord::new(481_400_000, 115_400_000).ok_or("no position")?),
             tags: Tags::none(alloc),
         })?;
+        let change = OneOp::of(Change::of(operations))
+            .ok()
+            .ok_or("not one operation")?;
         let command = Command::Single {
             changeset: 1,
-            change: Change::of(operations),
+            change,
         };
         let created = done_by_alice(alloc, &mut journal, command)?;
         assert_eq!(rt; created, 1);

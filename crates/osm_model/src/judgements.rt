@@ -190,7 +190,7 @@ pub fn judge(
             upload_change(alloc, state, user, at, *changeset, change)
         }
         Command::Single { changeset, change } => {
-            single_change(alloc, state, user, at, *changeset, change)
+            single_change(alloc, state, user, at, *changeset, change.change())
         }
         Command::MakeRedaction { title } => {
             let id = state.redactions.items().len() as u64 + 1;
