@@ -53,7 +53,7 @@ fn upload_change(
     ensures { Steps state.now (upload_change state.now user.now at id change.now) result }
 {
     let progress = upload(alloc, state, user, at, id, change)?;
-    let rows = diff(alloc, change.operations(), &progress)?;
+    let rows = diff(alloc, change, &progress)?;
     Ok((Step::Replace(progress.state), Answer::Diff(rows)))
 }
 
