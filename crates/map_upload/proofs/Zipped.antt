@@ -57,10 +57,6 @@ append_nil : {X : Type 0} (xs : List X) → xs ++ [] ≡ xs
 append_nil [] = refl
 append_nil {X = X} (x ∷ xs) = ap (λ (l : List X). x ∷ l) (append_nil xs)
 
-pub rows_no_first : {A B C D : Type 0} (f : A × (B × C) → D) (now : List D) (a : Option A) (b : Option B) (c : Option C) → a ≡ None → now ≡ now ++ map f (at_place a b c)
-rows_no_first f now None b c e = sym (append_nil now)
-rows_no_first f now (Some x) b c e = cc
-
 pub rows_no_second : {A B C D : Type 0} (f : A × (B × C) → D) (now : List D) (a : Option A) (b : Option B) (c : Option C) → b ≡ None → now ≡ now ++ map f (at_place a b c)
 rows_no_second {A = A} {B = B} {C = C} {D = D} f now a None c e = sym (ap (λ (l : List (A × (B × C))). now ++ map f l) (at_place-no_second a c) ∙ append_nil now)
 rows_no_second f now a (Some y) c e = cc

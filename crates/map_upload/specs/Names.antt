@@ -1,6 +1,6 @@
 -- Names of elements in an upload: by id, or by the placeholder of an earlier creation (wiki,
 -- "OsmChange").
-use Rattle.std.specs.Prelude.{ℕ, ◌==◌, if◌then◌else◌, List, map, position, slice_get, Option, Some, None, option_and_then, ℤ, pos}
+use Rattle.std.specs.Prelude.{ℕ, ◌==◌, if◌then◌else◌, List, map, position, slice_get, Option, Some, None, option_and_then}
 use Rattle.std.specs.Option.{option_map_or}
 use Rattle.osm_base.specs.Key.{kind_eq, key_eq}
 use Rattle.osm_base.specs.declared.keys.Kind.{Kind}
@@ -9,6 +9,7 @@ use Rattle.osm_element.specs.Elements.{key, count}
 use Rattle.osm_element.specs.declared.contents.Content.{Content}
 use Rattle.osm_element.specs.declared.contents.Content.TheVariants as content
 use Rattle.osm_element.specs.declared.contents.Member.{Member}
+use Rattle.osm_change.specs.Said.{placeholder_in}
 use Rattle.osm_change.specs.declared.operations.Name.{Name}
 use Rattle.osm_change.specs.declared.operations.Name.TheVariants.{Old, New}
 use Rattle.osm_change.specs.declared.operations.Op.{Op}
@@ -32,16 +33,10 @@ abbrev pub known_key : Upload → Progress → Kind → Name → Option Key
 known_key u g k (Old id) = if count u.before (key k id) == 0 then None else Some (key k id)
 known_key u g k (New place) = option_and_then (of_kind k) (slice_get g.keys place)
 
-abbrev pub placeholder_of : Option Op → ℤ
-placeholder_of None = pos 0
-placeholder_of (Some (Create placeholder content tags)) = placeholder
-placeholder_of (Some (Modify name version content tags)) = pos 0
-placeholder_of (Some (Delete kind name version if_unused)) = pos 0
-
 -- an element as the client named it
 abbrev pub said : List Op → Name → Said
 said ops (Old id) = Id id
-said ops (New place) = Placeholder (placeholder_of (slice_get ops place))
+said ops (New place) = Placeholder (placeholder_in (slice_get ops place))
 
 abbrev pub said_at : Option Op → Key → Said
 said_at None k = Id k.id

@@ -1,23 +1,16 @@
 -- The rows that tell what an upload did (wiki, API v0.6, "Diff upload").
-use Rattle.std.specs.Prelude.{ℕ, if◌then◌else◌, List, [], ◌∷◌, map, zip, slice_get, Option, Some, None, ℤ, pos}
+use Rattle.std.specs.Prelude.{ℕ, if◌then◌else◌, List, [], ◌∷◌, map, zip, Option, Some, None, ℤ}
 use Rattle.osm_base.specs.declared.keys.Kind.{Kind}
 use Rattle.osm_base.specs.declared.keys.Key.{Key}
 use Rattle.osm_change.specs.Change.{kind_of}
+use Rattle.osm_change.specs.Said.{said}
 use Rattle.osm_change.specs.declared.answers.DiffRow.{DiffRow}
-use Rattle.osm_change.specs.declared.operations.Name.{Name}
-use Rattle.osm_change.specs.declared.operations.Name.TheVariants.{Old, New}
 use Rattle.osm_change.specs.declared.operations.Op.{Op}
 use Rattle.osm_change.specs.declared.operations.Op.TheVariants.{Create, Modify, Delete}
 use Rattle.osm_change.specs.declared.operations.OpDone.{OpDone}
 use Rattle.osm_change.specs.declared.operations.OpDone.TheVariants.{Applied, Skipped}
-use Rattle.map_upload.specs.Names.{placeholder_of}
 use Rattle.map_upload.specs.Judged.{is_applied}
 use Rattle.map_upload.specs.declared.uploads.Progress.{Progress}
-
--- the id or placeholder under which the client named an element
-abbrev pub old_id : List Op → Name → ℤ
-old_id ops (Old id) = pos id
-old_id ops (New place) = placeholder_of (slice_get ops place)
 
 abbrev pub done_version : OpDone → ℕ
 done_version (Applied version) = version
@@ -33,8 +26,8 @@ deletion_row kind old k done =
 
 abbrev pub row : List Op → Op → Key → OpDone → DiffRow
 row ops (Create placeholder content tags) k done = whole_row (kind_of content) placeholder k done
-row ops (Modify name version content tags) k done = whole_row (kind_of content) (old_id ops name) k done
-row ops (Delete kind name version if_unused) k done = deletion_row kind (old_id ops name) k done
+row ops (Modify name version content tags) k done = whole_row (kind_of content) (said ops name) k done
+row ops (Delete kind name version if_unused) k done = deletion_row kind (said ops name) k done
 
 abbrev pub side_by_side : {A B C : Type 0} → List A → List B → List C → List (A × (B × C))
 side_by_side ls ms ns = zip ls (zip ms ns)

@@ -1,6 +1,7 @@
 ghost use Rattle.std.specs.Prelude.{◌≡◌, map, position, option_copied, slice_get, IfOk};
 ghost use Rattle.osm_base.specs.Key.{key_eq};
-ghost use Rattle.map_upload.specs.Names.{id_of, of_kind, known_key, placeholder_of, said, said_at, said_key, with_ids, member_with_id};
+ghost use Rattle.osm_change.specs.Said.{placeholder_in};
+ghost use Rattle.map_upload.specs.Names.{id_of, of_kind, known_key, said, said_at, said_key, with_ids, member_with_id};
 
 use crate::uploads::{Progress, UploadTask};
 use map_state::count;
@@ -49,20 +50,13 @@ pub fn known_key(upload: &UploadTask, progress: &Progress, kind: Kind, name: Nam
     }
 }
 
-fn placeholder_of(operation: Option<&Op>) -> i64
-    ensures { result ≡ placeholder_of (option_copied operation.entry) }
+fn placeholder_in(operation: Option<&Op>) -> i64
+    ensures { result ≡ placeholder_in (option_copied operation.entry) }
 {
     match operation {
         Some(Op::Create { placeholder, .. }) => *placeholder,
         _ => 0,
     }
-}
-
-/// The placeholder of the operation at this place.
-pub fn placeholder_at(operations: &[Op], place: u32) -> i64
-    ensures { result ≡ placeholder_of (slice_get operations.now place) }
-{
-    placeholder_of(operations.get(place as usize))
 }
 
 /// An element as the client named it.
@@ -71,7 +65,7 @@ pub fn said(operations: &[Op], name: Name) -> Said
 {
     match name {
         Name::Old(id) => Said::Id(id),
-        Name::New(place) => Said::Placeholder(placeholder_at(operations, place)),
+        Name::New(place) => Said::Placeholder(placeholder_in(operations.get(place as usize))),
     }
 }
 

@@ -5,6 +5,7 @@ use Rattle.std.proofs.Math.Seq.{take-append_seam}
 use Rattle.std.specs.Prelude.{slice_get, Result}
 use Rattle.std.proofs.lemmas.List.Sums.{fold-append}
 use Rattle.osm_base.specs.Stamp.{stamp_after}
+use Rattle.osm_element.specs.Elements.{IsConsistent}
 use Rattle.osm_change.specs.declared.refusals.Refusal.{Refusal}
 use Rattle.osm_model.specs.declared.commands.Entry.{Entry}
 use Rattle.osm_model.specs.declared.commands.Accepted.{Accepted}
@@ -57,6 +58,10 @@ pub after-accepted :
 after-accepted P e done stamped accepted =
     ap (λ (t : ℕ). (settle P t (judge P e.user t e.command)).0) stamped
     ∙ ap (λ (judged : Result Accepted Refusal). (settle P e.stamp judged).0) accepted
+
+-- the map that the entries make is consistent
+pub replay_consistent : (es : List Entry) (P : State) → P ≡ replay es → IsConsistent P.elements → IsConsistent (replay es).elements
+replay_consistent es P same consistent = subst (λ (Q : State). IsConsistent Q.elements) same consistent
 
 -- what was judged on a journal makes a journal of it
 pub keeps :

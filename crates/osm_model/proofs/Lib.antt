@@ -1,3 +1,5 @@
 pub mod Stepped
 pub mod Kept
 pub mod JournalLemmas
+pub mod Small
+mod Rows

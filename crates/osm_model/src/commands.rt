@@ -1,10 +1,10 @@
 use map_state::State;
 use osm_base::{Key, Memory, Stamp, Text, TryCopy, User};
-use osm_change::{Answer, Change};
+use osm_change::{Answer, Change, OneOp};
 use osm_element::Tags;
 use std::alloc::Global;
 
-/// What a user asks to change. `Single` has a change of one operation.
+/// What a user asks to change.
 #[derive(Debug, Drop)]
 pub enum Command {
     CreateChangeset {
@@ -23,7 +23,7 @@ pub enum Command {
     },
     Single {
         changeset: u64,
-        change: Change,
+        change: OneOp,
     },
     MakeRedaction {
         title: Text,

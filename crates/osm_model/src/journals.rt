@@ -124,11 +124,13 @@ impl Journal {
     }
 
     /// Keeps what was judged on this journal, and gives its answer back.
+    #[tactic(auto, using(crate::proofs::JournalLemmas::replay_consistent))]
     pub fn keep(&mut self, alloc: Global, judged: Judged) -> Result<Answer, Memory>
         requires { IsJudgedOn self.old judged }
         ensures answer { IfOk result (λ answer. answer ≡ answer_of judged) }
         ensures ok { OnOk result (self.new ≡ kept_after self.old judged) }
         ensures legal { OnOk result (IsLegal self.new) }
+        ensures consistent { OnOk result (IsConsistent (replay self.new).elements) }
         ensures memory { OnErr result (self.new ≡ self.old) }
     {
         let _ = &self.entries;
@@ -146,6 +148,7 @@ impl Journal {
         requires { IsKeptOn self.old kept }
         ensures ok { OnOk result (self.new ≡ self.old ++ kept.entry ∷ []) }
         ensures legal { OnOk result (IsLegal self.new) }
+        ensures consistent { OnOk result (IsConsistent (replay self.new).elements) }
         ensures memory { OnErr result (self.new ≡ self.old) }
     {
         let Kept { entry, step } = kept;
@@ -167,6 +170,8 @@ impl Journal {
     ) -> Result<Answer, Memory>
         ensures answer { IfOk result (λ answer. answer ≡ (act (replay self.old) user.now moment command).1) }
         ensures entries { OnOk result (self.new ≡ journal_after self.old session user.now moment command) }
+        ensures legal { OnOk result (IsLegal self.new) }
+        ensures consistent { OnOk result (IsConsistent (replay self.new).elements) }
         ensures memory { OnErr result (self.new ≡ self.old) }
     {
         let judged = self.judge(alloc, session, user, moment, command)?;
@@ -183,59 +188,4 @@ fn calls_of(entries: &[Entry], session: u32) -> u64
         .iter()
         .filter(|entry| entry.session == session)
         .count() as u64
-}
-
-#[cfg(test)]
-mod tests {
-    use super::Journal;
-    use crate::commands::Command;
-    use osm_base::{Coord, Items, Memory, Text, User};
-    use osm_change::{Answer, Change, Op};
-    use osm_element::{Content, Tags};
-    use std::alloc::Global;
-    use std::test::Fail;
-
-    fn number(answer: &Answer) -> u64 {
-        match answer {
-            Answer::Number(number) => *number,
-            _ => 0,
-        }
-    }
-
-    fn done_by_alice(
-        alloc: Global,
-        journal: &mut Journal,
-        command: Command,
-    ) -> Result<u64, Memory> {
-        let alice = User {
-            id: 1,
-            name: Text::of(alloc, "alice")?,
-            moderator: false,
-        };
-        let answer = journal.act(alloc, 0, &alice, 1_700_000_000, command)?;
-        Ok(number(&answer))
-    }
-
-    #[test]
-    fn a_changeset_and_a_node_are_created(rt: HostRuntime) -> Result<(), Fail> {
-        let alloc: Global = rt.alloc();
-        let mut journal = Journal::new(alloc);
-        let tags = Tags::none(alloc);
-        let made = done_by_alice(alloc, &mut journal, Command::CreateChangeset { tags })?;
-        assert_eq!(rt; made, 1);
-        let mut operations = Items::none(alloc);
-        operations.push(Op::Create {
-            placeholder: -1,
-            content: Content::Node(Coord::new(481_400_000, 115_400_000).ok_or("no position")?),
-            tags: Tags::none(alloc),
-        })?;
-        let command = Command::Single {
-            changeset: 1,
-            change: Change::of(operations),
-        };
-        let created = done_by_alice(alloc, &mut journal, command)?;
-        assert_eq!(rt; created, 1);
-        assert_eq!(rt; journal.entries().len(), 2);
-        Ok(())
-    }
 }

@@ -53,7 +53,7 @@ fn upload_change(
     ensures { Steps state.now (upload_change state.now user.now at id change.now) result }
 {
     let progress = upload(alloc, state, user, at, id, change)?;
-    let rows = diff(alloc, change.operations(), &progress)?;
+    let rows = diff(alloc, change, &progress)?;
     Ok((Step::Replace(progress.state), Answer::Diff(rows)))
 }
 
@@ -190,7 +190,7 @@ pub fn judge(
             upload_change(alloc, state, user, at, *changeset, change)
         }
         Command::Single { changeset, change } => {
-            single_change(alloc, state, user, at, *changeset, change)
+            single_change(alloc, state, user, at, *changeset, change.change())
         }
         Command::MakeRedaction { title } => {
             let id = state.redactions.items().len() as u64 + 1;

@@ -1,4 +1,4 @@
-use Rattle.std.proofs.Common.{◌+◌, ◌∙◌, ap, map, rules, arith, add-one}
+use Rattle.std.proofs.Common.{◌≡◌, ◌+◌, ◌∙◌, ap, map, length, rules, arith, add-one}
 use Rattle.osm_base.specs.declared.keys.Key.{Key}
 use Rattle.osm_change.specs.declared.operations.Op.{Op}
 use Rattle.osm_change.specs.declared.operations.OpDone.{OpDone}
@@ -9,10 +9,10 @@ use Rattle.map_upload.proofs.rows.diff.Goals as goal
 pub loop-place-preserved : goal.loop-place-preserved
 loop-place-preserved c =
     rows_step
-    (λ (p : Op × (Key × OpDone)). row c.args.operations.now p.0 p.1.0 p.1.1)
+    (λ (p : Op × (Key × OpDone)). row c.args.change.now p.0 p.1.0 p.1.1)
     c.loop-place.place
     (c.loop-place.place + 1)
-    c.args.operations.now
+    c.args.change.now
     c.args.progress.now.keys
     c.args.progress.now.done
     c.loop-place.rows.items
@@ -26,5 +26,5 @@ returns c =
     c.of.ensures
     ∙ c.loop-place.invariant
     ∙ ap
-    (map (λ (p : Op × (Key × OpDone)). row c.args.operations.now p.0 p.1.0 p.1.1))
-    (side_by_side-all c.loop-place.place c.args.operations.now c.args.progress.now.keys c.args.progress.now.done (omega (arith, c.loop-place-test.false, c.loop-place.auto.place-end)))
+    (map (λ (p : Op × (Key × OpDone)). row c.args.change.now p.0 p.1.0 p.1.1))
+    (side_by_side-all c.loop-place.place c.args.change.now c.args.progress.now.keys c.args.progress.now.done (let all : length c.operations-operations.result.now ≡ length c.args.change.now = ap length c.operations-operations.ensures.all in omega (arith, c.loop-place-test.false, c.loop-place.auto.place-end, all)))

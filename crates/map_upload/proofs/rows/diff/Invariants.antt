@@ -5,4 +5,4 @@ use Rattle.map_upload.proofs.rows.diff.Given as goal
 abbrev pub invariant-loop-place : goal.invariant-loop-place
 invariant-loop-place l =
     l.rows.items
-    ≡ map (λ p. row l.operations p.0 p.1.0 p.1.1) (side_by_side (take l.place l.operations) (take l.place l.progress.keys) (take l.place l.progress.done))
+    ≡ map (λ p. row l.change p.0 p.1.0 p.1.1) (side_by_side (take l.place l.change) (take l.place l.progress.keys) (take l.place l.progress.done))

@@ -1,4 +1,5 @@
-use Rattle.osm_model.proofs.JournalLemmas.{keeps, IsLegal-push}
+use Rattle.std.proofs.Common.{[], ◌∷◌, ◌++◌}
+use Rattle.osm_model.proofs.JournalLemmas.{keeps, replay_consistent, IsLegal-push}
 use Rattle.osm_model.specs.Judged.{IsKeptOn}
 use Rattle.osm_model.proofs.journals.Journal.keep_entry.Goals as goal
 
@@ -22,3 +23,19 @@ returns-clause-legal c =
     rw
     (c.push_reserved.ensures.items, c.reserve.ensures.items)
     (IsLegal-push c.self.inside.entries.items c.args.kept.entry c.self.invariant.legal on.follows)
+
+pub returns-clause-consistent : goal.returns-clause-consistent
+returns-clause-consistent c =
+    let on : IsKeptOn c.self.inside.entries.items c.args.kept = rw c.self.view_is c.requires in
+    let kept = keeps
+    c.self.inside.entries.items
+    c.self.inside.state
+    c.take_step.new.state
+    c.args.kept
+    (record { legal = c.self.invariant.legal; replayed = c.self.invariant.replayed; consistent = c.self.invariant.consistent; begun = c.self.invariant.begun })
+    on
+    c.in_ok-take_step.ensures.ok
+    in
+    rw
+    (c.push_reserved.ensures.items, c.reserve.ensures.items)
+    (replay_consistent (c.self.inside.entries.items ++ c.args.kept.entry ∷ []) (record c.take_step.new.state { last = c.args.kept.entry.stamp }) kept.replayed kept.consistent)
