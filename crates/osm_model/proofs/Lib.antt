@@ -3,3 +3,4 @@ pub mod Kept
 pub mod JournalLemmas
 pub mod Small
 mod Rows
+pub mod Points

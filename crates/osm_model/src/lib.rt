@@ -6,6 +6,7 @@ mod asks;
 mod commands;
 mod journals;
 mod judgements;
+mod law;
 mod queries;
 mod steps;
 
@@ -13,6 +14,7 @@ pub use acts::plain_act;
 pub use asks::plain_ask;
 pub use commands::{Accepted, Command, Entry};
 pub use journals::{Journal, Judged};
+pub use law::points_are_consistent;
 pub use map_state::{Changeset, State, Work};
 pub use queries::Query;
 pub use steps::Step;

@@ -4,7 +4,8 @@ use Rattle.std.specs.Prelude.{slice_get}
 use Rattle.osm_outside.specs.Told.{Told}
 use Rattle.osm_model.specs.declared.commands.Entry.{Entry}
 use Rattle.osm_model.specs.Journal.{IsLegal, Follows, calls_of}
-use Rattle.osm_model.specs.Answered.{all_of}
+use Rattle.osm_element.specs.Elements.{IsConsistent}
+use Rattle.osm_model.specs.Answered.{all_of, map_at}
 use Rattle.http_link.specs.declared.end.LinkEnd.{LinkEnd}
 use Rattle.http_link.specs.Exchange.{Exchange}
 use Rattle.http_link.specs.Link.{Serves}
@@ -60,8 +61,9 @@ pub serves_pipe :
     → users_of old ≡ users → session_of old ≡ 0 → entries_of old ≡ []
     → (s : Serves Allows old new before after end)
     → HasServed old s.exchanges new
+    → ((entries : List Entry) → IsLegal entries → (point : ℕ) → IsConsistent (map_at entries point).elements)
     → ServesPipe users before after end
-serves_pipe users old new before after end same zero none s served =
+serves_pipe users old new before after end same zero none s served consistent =
     let answered = from_nothing users old new s.exchanges same zero none served in
     record {
       exchanges = s.exchanges;
@@ -77,6 +79,7 @@ serves_pipe users old new before after end same zero none s served =
       legal = answered.1;
       answered = answered.0;
       own = answered.2;
+      consistent = consistent (entries_of new) answered.1;
       written = s.written;
       output = s.served.output;
       ends = s.ends;

@@ -6,7 +6,8 @@ use Rattle.osm_base.specs.declared.limits.TheConstants.{REQUEST_LIMIT}
 use Rattle.osm_outside.specs.Told.{Told}
 use Rattle.osm_model.specs.declared.commands.Entry.{Entry}
 use Rattle.osm_model.specs.Journal.{IsLegal, calls_of}
-use Rattle.osm_model.specs.Answered.{Place, all_of}
+use Rattle.osm_element.specs.Elements.{IsConsistent}
+use Rattle.osm_model.specs.Answered.{Place, all_of, map_at}
 use Rattle.http_wire.specs.Message.{HasMessages}
 use Rattle.http_link.specs.declared.end.LinkEnd.{LinkEnd}
 use Rattle.http_link.specs.Exchange.{Exchange, messages_of}
@@ -41,6 +42,8 @@ pub record ServesPipe (users : List Row) (before after : Told) (end : LinkEnd) :
   pub answered : AreAnswered users 0 journal beginning exchanges (all_of 0 journal)
   -- no entry but those of the session's accepted commands
   pub own : calls_of 0 journal ≡ length journal
+  -- after every entry visible ways and relations refer only to visible elements
+  pub consistent : (point : ℕ) → IsConsistent (map_at journal point).elements
   -- the replies were written, and what the end is answered
   pub written : List ℕ
   pub output : Appends before.written after.written written

@@ -3,7 +3,7 @@ ghost use Rattle.osm_serve.specs.Serve.{ServesPipe};
 
 use api_desk::{OneDesk, desk_answers};
 use http_link::{LinkEnd, serve_desk};
-use osm_model::Journal;
+use osm_model::{Journal, points_are_consistent};
 use osm_outside::{Link, Outside};
 use std::alloc::Global;
 use user_table::UserTable;
@@ -18,5 +18,6 @@ pub fn serve_pipe<L: Link>(alloc: Global, users: &UserTable, link: &mut L) -> Li
     let mut journal = Journal::new(alloc);
     let mut desk = OneDesk::new(&mut journal, users, SESSION);
     desk_answers();
+    points_are_consistent();
     serve_desk(alloc, &mut desk, link)
 }

@@ -16,3 +16,4 @@ returns g c =
     (c.new-desk.ensures.journal ∙ c.new-journal.ensures)
     c.serve_desk.ensures
     (c.desk_answers.ensures c.new-desk.result c.serve_desk.ensures.exchanges c.serve_desk.new.desk c.serve_desk.ensures.served.answered)
+    c.points_are_consistent.ensures
