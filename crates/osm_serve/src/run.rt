@@ -1,5 +1,5 @@
 //! The top call.
-ghost use Rattle.std.specs.Prelude.{◌≡◌, map, string_bytes, IfSome, IfNone};
+ghost use Rattle.std.specs.Prelude.{◌≡◌, map, string_bytes};
 ghost use Rattle.osm_serve.specs.Words.{reading_of};
 ghost use Rattle.osm_serve.specs.Shown.{shown};
 ghost use Rattle.osm_serve.specs.Run.{Runs, RunsPipe, ServesFrom, IsStarted, status_of};
