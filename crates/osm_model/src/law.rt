@@ -8,5 +8,4 @@ ghost use Rattle.osm_model.specs.Journal.{IsLegal};
 /// At every point of a legal journal, visible ways and relations name only visible elements.
 pub fn points_are_consistent()
     ensures { (entries : List Entry) → IsLegal entries → (point : ℕ) → IsConsistent (map_at entries point).elements }
-{
-}
+{}
