@@ -33,7 +33,7 @@ pub record ServesFrom (users : List Row) (at : Option ℕ) (before after : Told)
   pub status_is : status ≡ status_of end
 
 -- The users text was read and accepted, and the link served.
-pub record Serves (reading : Reading) (host host' : HostTold) (before after : Told) (status : ℕ) : Type 0 where
+pub record Serves (reading : Reading) (host : HostTold) (before after : Told) (status : ℕ) : Type 0 where
   pub text : List ℕ
   pub told : IsTextOf host text
   pub users : List Row
@@ -63,7 +63,7 @@ pub record LacksRoom (before after : Told) (status : ℕ) : Type 0 where
 pub record RunsPipe (reading : Reading) (host host' : HostTold) (before after : Told) (status : ℕ) : Type 0 where
   pub keeps : OnlyFaults host host'
   pub comes_to :
-      Serves reading host host' before after status
+      Serves reading host before after status
       ⊎ RefusesUsers host before after status
       ⊎ LacksUsers host host' before after status
       ⊎ LacksRoom before after status
