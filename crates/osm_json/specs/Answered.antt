@@ -1,5 +1,5 @@
 -- The status and the body of an answer.
-use Rattle.std.specs.Prelude.{ℕ, All, List, [], ◌∷◌, ◌==◌, IsTrue}
+use Rattle.std.specs.Prelude.{ℕ, All, List, []}
 use Rattle.std.specs.Option.{ForSome}
 use Rattle.serde_json.specs.Data.{Data}
 use Rattle.serde_json.specs.Written.{compact_text}
