@@ -1,5 +1,5 @@
 -- What one request is answered, whatever it comes to.
-use Rattle.std.proofs.Common.{◌≡◌, ℕ, ◌+◌, length, arith, List, [], ◌∷◌, ◌++◌, Option, Some, None, Result, Ok, Err, refl, sym, ap, ◌∙◌, subst, inl, inr, append-nil}
+use Rattle.std.proofs.Common.{◌≡◌, ℕ, ◌+◌, length, arith, List, [], ◌∷◌, ◌++◌, Some, None, Result, Ok, Err, refl, sym, ap, ◌∙◌, subst, inl, inr, append-nil}
 use Rattle.std.specs.Prelude.{IfOk, OnOk, OnErr}
 use Rattle.osm_base.specs.declared.memory.Memory.{Memory}
 use Rattle.osm_base.specs.declared.people.User.{User}
@@ -10,7 +10,7 @@ use Rattle.osm_model.specs.declared.commands.Entry.{Entry}
 use Rattle.osm_model.specs.declared.commands.Accepted.{Accepted}
 use Rattle.osm_model.specs.Act.{act, judge}
 use Rattle.osm_model.specs.Journal.{replay, calls_of, appended, journal_after, next_entry}
-use Rattle.osm_model.specs.Answered.{Request, refused, does, Place, all_of, stamp_on, IsRow, LacksMemory}
+use Rattle.osm_model.specs.Answered.{Request, refused, does, Place, all_of, stamp_on, IsRow}
 use Rattle.http_wire.specs.declared.message.Message.{Message}
 use Rattle.http_link.specs.declared.desk.Reply.{Reply}
 use Rattle.http_link.specs.Desk.{counted_reply}

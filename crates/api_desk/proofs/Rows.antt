@@ -1,5 +1,5 @@
 -- One request: acting on a journal is a row of "answered", and stays one where the journal grows.
-use Rattle.std.proofs.Common.{◌≡◌, ℕ, suc, zero, ◌+◌, ◌<◌, ◌≤◌, ◌⊎◌, inl, inr, ⊎_elim, List, [], ◌∷◌, ◌++◌, length, take, Bool, true, Option, Some, None, Result, Ok, Err, refl, sym, ap, ◌∙◌, subst, arith, length-append}
+use Rattle.std.proofs.Common.{◌≡◌, ℕ, suc, zero, ◌+◌, ◌<◌, ◌≤◌, inl, inr, ⊎_elim, List, [], ◌∷◌, ◌++◌, length, Bool, true, Option, Some, Result, Ok, Err, refl, sym, ap, ◌∙◌, subst, arith}
 use Rattle.std.specs.Prelude.{slice_get, ◌==◌, cond}
 use Rattle.std.proofs.lemmas.List.{take-append-le}
 use Rattle.std.proofs.lemmas.List.Sums.{sum_by-append}
@@ -15,7 +15,7 @@ use Rattle.osm_model.specs.declared.commands.Accepted.{Accepted}
 use Rattle.map_state.specs.declared.states.State.{State}
 use Rattle.osm_model.specs.Act.{act, judge, settle}
 use Rattle.osm_model.specs.Journal.{replay, calls_of, appended, next_entry, journal_after}
-use Rattle.osm_model.specs.Answered.{Request, refused, does, Place, all_of, map_at, stamp_on, RefusesRequest, RefusesCommand, AcceptsCommand, LacksMemory, IsOwed, IsRow}
+use Rattle.osm_model.specs.Answered.{Request, refused, does, Place, all_of, map_at, stamp_on, RefusesCommand, AcceptsCommand, IsRow}
 
 -- ---- lists
 

@@ -1,13 +1,13 @@
 -- A whole session of a desk.
-use Rattle.std.proofs.Common.{◌≡◌, ℕ, ◌+◌, ◌≤◌, List, [], ◌∷◌, ◌++◌, length, refl, sym, ap, ◌∙◌, subst, arith, append_assoc, append-nil, length-append}
+use Rattle.std.proofs.Common.{◌≡◌, ℕ, ◌+◌, List, [], ◌∷◌, ◌++◌, length, refl, sym, ap, ◌∙◌, subst, arith, append_assoc, append-nil, length-append}
 use Rattle.osm_model.specs.declared.commands.Entry.{Entry}
-use Rattle.osm_model.specs.Journal.{IsLegal, calls_of}
-use Rattle.osm_model.specs.Answered.{Asked, Place, all_of, IsRow, IsAnswered}
+use Rattle.osm_model.specs.Journal.{calls_of}
+use Rattle.osm_model.specs.Answered.{all_of, IsRow}
 use Rattle.http_link.specs.Exchange.{Exchange, Chain}
 use Rattle.user_table.specs.Rows.{Row}
 use Rattle.api_desk.specs.declared.desk.OneDesk.{OneDesk}
 use Rattle.api_desk.specs.Request.{request_of}
-use Rattle.api_desk.specs.Answers.{Answers, AllTell, AreAnswered}
+use Rattle.api_desk.specs.Answers.{AreAnswered}
 use Rattle.api_desk.specs.Desk.{Allows, HasServed, entries_of, users_of, session_of}
 use Rattle.api_desk.proofs.Rows.{row-append}
 

@@ -1,5 +1,5 @@
 -- What a message asks, by the users of the server.
-use Rattle.std.specs.Prelude.{ℕ, Bool, ◌&&◌, List, [], map, slice_get, codes, Option, Some, None, Result, Ok, Err, if◌then◌else◌}
+use Rattle.std.specs.Prelude.{ℕ, Bool, ◌&&◌, List, [], map, slice_get, codes, Result, Ok, Err, if◌then◌else◌}
 use Rattle.std.specs.Option.{option_map_or}
 use Rattle.std.specs.Str.{bytes_eq}
 use Rattle.osm_base.specs.declared.people.User.{User}

@@ -18,3 +18,6 @@ pub use law::points_are_consistent;
 pub use map_state::{Changeset, State, Work};
 pub use queries::Query;
 pub use steps::Step;
+
+#[cfg(test)]
+mod tests;
