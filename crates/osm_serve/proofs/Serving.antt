@@ -1,9 +1,8 @@
 -- Serving a link by a desk over a new journal.
-use Rattle.std.proofs.Common.{◌≡◌, ℕ, ◌+◌, ◌++◌, ◌∙◌, ap, arith, length, List, [], ◌∷◌, refl, sym, subst}
-use Rattle.std.specs.Prelude.{slice_get}
+use Rattle.std.proofs.Common.{◌≡◌, ℕ, ◌+◌, ◌++◌, ◌∙◌, ap, arith, length, List, [], refl, sym, subst}
 use Rattle.osm_outside.specs.Told.{Told}
 use Rattle.osm_model.specs.declared.commands.Entry.{Entry}
-use Rattle.osm_model.specs.Journal.{IsLegal, Follows, calls_of}
+use Rattle.osm_model.specs.Journal.{IsLegal, calls_of}
 use Rattle.osm_element.specs.Elements.{IsConsistent}
 use Rattle.osm_model.specs.Answered.{all_of, map_at}
 use Rattle.http_link.specs.declared.end.LinkEnd.{LinkEnd}
