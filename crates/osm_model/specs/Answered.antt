@@ -10,12 +10,15 @@ use Rattle.osm_model.specs.declared.commands.Entry.{Entry}
 use Rattle.osm_model.specs.declared.commands.Accepted.{Accepted}
 use Rattle.map_state.specs.declared.states.State.{State}
 use Rattle.osm_model.specs.Act.{judge}
+use Rattle.osm_model.specs.Ask.{ask}
+use Rattle.osm_model.specs.declared.queries.Query.{Query}
 use Rattle.osm_model.specs.Journal.{replay, calls_of}
 
--- what a request comes to by itself: a refusal, or the command of a user
+-- what a request comes to by itself: a refusal, the command of a user, or a query
 pub data Request : Type 0 where
   refused : Refusal → Request
   does : User → Command → Request
+  reads : Query → Request
 
 -- how far a session has come
 pub record Place : Type 0 where
@@ -69,6 +72,13 @@ pub record AcceptsCommand (F : List Entry) (session : ℕ) (before : Place) (use
       })
   pub comes_to : after ≡ record { point = at + 1; calls = before.calls + 1; debts = before.debts }
 
+-- The query is answered by the map at a point that isn't before the last one, and nothing is done.
+pub record AnswersQuery (F : List Entry) (before : Place) (q : Query) (moment : ℕ) (reply : Option Answer) (after : Place) : Type 0 where
+  pub later : before.point ≤ after.point
+  pub told : reply ≡ Some (ask (map_at F after.point) moment q)
+  pub calls : after.calls ≡ before.calls
+  pub debts : after.debts ≡ before.debts
+
 -- There was no memory, and nothing was done.
 pub record LacksMemory (before : Place) (reply : Option Answer) (after : Place) : Type 0 where
   pub told : reply ≡ None
@@ -89,6 +99,7 @@ IsRow F session before (does user c) moment reply after =
     ⊎ AcceptsCommand F session before user c moment reply after
     ⊎ LacksMemory before reply after
     ⊎ IsOwed before reply after
+IsRow F session before (reads q) moment reply after = AnswersQuery F before q moment reply after ⊎ LacksMemory before reply after
 
 -- a request, the moment when it was whole, and the answer that its reply tells
 pub record Asked : Type 0 where
