@@ -26,9 +26,9 @@ fn skip_ows(bytes: &[u8]) -> &[u8]
     rest
 }
 
-/// The bytes without the spaces and tabs at both ends.
+/// The bytes without the spaces and tabs at both ends (RFC 9110, section 5.6.3, "Whitespace").
 #[tactic(auto, unfolding(httparse::specs::Grammar::trim_ows))]
-fn trim_ows(bytes: &[u8]) -> &[u8]
+pub fn trim_ows(bytes: &[u8]) -> &[u8]
     ensures { result.now ≡ trim_ows bytes.now }
 {
     let mut rest = skip_ows(bytes);

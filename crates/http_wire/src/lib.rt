@@ -15,6 +15,7 @@ mod reply;
 mod search;
 mod wire;
 
+pub use close::trim_ows;
 pub use end::WireEnd;
 pub use law::{
     end_in_any_pieces, end_stays, message_in_any_pieces, message_stays, no_empty_message,
