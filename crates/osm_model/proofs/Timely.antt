@@ -307,14 +307,14 @@ upload_timely P user t c ops at all =
     IsTimelyRefusal
     (own_changeset_timely P user t c all)
     (λ r own.
-      bind_ends
-      (operate_all u (start P) ops)
-      (λ (g : Progress). upload_counted u r g)
-      TimelyProgress
-      TimelyProgress
-      IsTimelyRefusal
-      (operate_all_timely u (start P) ops all)
-      (λ g on. upload_counted_timely u r g at on))
+    bind_ends
+    (operate_all u (start P) ops)
+    (λ (g : Progress). upload_counted u r g)
+    TimelyProgress
+    TimelyProgress
+    IsTimelyRefusal
+    (operate_all_timely u (start P) ops all)
+    (λ g on. upload_counted_timely u r g at on))
 
 -- ---- a command
 
@@ -386,22 +386,22 @@ judge_timely P user t (command.Redact k n redaction) at all =
     IsTimelyRefusal
     (known_version_timely P k n)
     (λ there done.
-      bind_ends
-      (known_redaction P redaction)
-      (λ (known : Unit {0}). old_version P k n >>= λ (old : Unit {0}). Ok (marked P k n (Some redaction)))
-      (λ (fine : Unit {0}). Unit {0})
-      TimelyAccepted
-      IsTimelyRefusal
-      (refuse_if-timely ((redaction == 0) || nat_lt (length P.redactions) redaction) (refused.NoRedaction redaction) tt)
-      (λ known done.
-        bind_ends
-        (old_version P k n)
-        (λ (old : Unit {0}). Ok (marked P k n (Some redaction)))
-        (λ (fine : Unit {0}). Unit {0})
-        TimelyAccepted
-        IsTimelyRefusal
-        (refuse_if-timely (n == count P.elements k) (refused.RedactCurrent (Id k.id) k.kind n) tt)
-        (λ old done. all)))
+    bind_ends
+    (known_redaction P redaction)
+    (λ (known : Unit {0}). old_version P k n >>= λ (old : Unit {0}). Ok (marked P k n (Some redaction)))
+    (λ (fine : Unit {0}). Unit {0})
+    TimelyAccepted
+    IsTimelyRefusal
+    (refuse_if-timely ((redaction == 0) || nat_lt (length P.redactions) redaction) (refused.NoRedaction redaction) tt)
+    (λ known done.
+    bind_ends
+    (old_version P k n)
+    (λ (old : Unit {0}). Ok (marked P k n (Some redaction)))
+    (λ (fine : Unit {0}). Unit {0})
+    TimelyAccepted
+    IsTimelyRefusal
+    (refuse_if-timely (n == count P.elements k) (refused.RedactCurrent (Id k.id) k.kind n) tt)
+    (λ old done. all)))
 judge_timely P user t (command.Unredact k n) at all =
     bind_ends
     (known_version P k n)
@@ -473,16 +473,16 @@ judge_answers S P user t (command.Redact k n redaction) tells at all =
     (λ (there : Unit {0}). known_redaction P redaction >>= λ (known : Unit {0}). old_version P k n >>= λ (old : Unit {0}). Ok (marked P k n (Some redaction)))
     (λ (done : Accepted). S done.answer)
     (λ there.
-      passed_on
-      (known_redaction P redaction)
-      (λ (known : Unit {0}). old_version P k n >>= λ (old : Unit {0}). Ok (marked P k n (Some redaction)))
-      (λ (done : Accepted). S done.answer)
-      (λ known.
-        passed_on
-        (old_version P k n)
-        (λ (old : Unit {0}). Ok (marked P k n (Some redaction)))
-        (λ (done : Accepted). S done.answer)
-        (λ old. tells.nothing)))
+    passed_on
+    (known_redaction P redaction)
+    (λ (known : Unit {0}). old_version P k n >>= λ (old : Unit {0}). Ok (marked P k n (Some redaction)))
+    (λ (done : Accepted). S done.answer)
+    (λ known.
+    passed_on
+    (old_version P k n)
+    (λ (old : Unit {0}). Ok (marked P k n (Some redaction)))
+    (λ (done : Accepted). S done.answer)
+    (λ old. tells.nothing)))
 judge_answers S P user t (command.Unredact k n) tells at all =
     passed_on
     (known_version P k n)
