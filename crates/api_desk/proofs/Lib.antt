@@ -1,3 +1,4 @@
 pub mod Rows
 pub mod Replies
 pub mod Sessions
+pub mod Moments

@@ -6,3 +6,6 @@ mod diff_rows;
 mod ids;
 
 pub use diff_rows::rows;
+
+#[cfg(test)]
+mod tests;

@@ -1,0 +1,69 @@
+//! Commands on a journal.
+use super::fixture::{START, acted, begun, built, create, delete, modify, told, uploaded};
+use crate::commands::Command;
+use osm_base::Kind::Node;
+use osm_change::OneOp;
+use std::test::Fail;
+
+#[test]
+fn a_single_change_answers_the_new_id_or_version(rt: HostRuntime) -> Result<(), Fail> {
+    let alloc = rt.alloc();
+    let mut journal = begun(alloc)?;
+    uploaded(alloc, &mut journal, &[create(Node, -1, &[])])?;
+    for (sketch, want) in [
+        (create(Node, -1, &[]), "Number(2)"),
+        (modify(Node, 2, 1, &[]), "Number(2)"),
+        (modify(Node, 1, 1, &[]), "Number(2)"),
+        (modify(Node, 1, 2, &[]), "Number(3)"),
+        (delete(Node, 1, 3), "Number(4)"),
+    ] {
+        let change = OneOp::of(built(alloc, 1, &[sketch])??)?;
+        let command = Command::Single {
+            changeset: 1,
+            change,
+        };
+        let answer = acted(alloc, &mut journal, 1, START, &command)?;
+        assert_eq!(rt; told(alloc, &answer)?.as_str(), want);
+    }
+    assert_eq!(rt; journal.entries().len(), 7);
+    Ok(())
+}
+
+#[test]
+fn two_operations_are_no_single_change(rt: HostRuntime) -> Result<(), Fail> {
+    let alloc = rt.alloc();
+    let two = [create(Node, -1, &[]), create(Node, -2, &[])];
+    assert!(rt; OneOp::of(built(alloc, 1, &two)??).is_err());
+    assert!(rt; OneOp::of(built(alloc, 1, &[])??).is_err());
+    Ok(())
+}
+
+#[test]
+fn a_changeset_is_its_owners(rt: HostRuntime) -> Result<(), Fail> {
+    let alloc = rt.alloc();
+    let mut journal = begun(alloc)?;
+    let close = Command::CloseChangeset { changeset: 1 };
+    let answer = acted(alloc, &mut journal, 2, START, &close)?;
+    assert_eq!(rt;
+        told(alloc, &answer)?.as_str(),
+        "Refused(NotOwner { changeset: 1, owner: 1 })"
+    );
+    assert_eq!(rt; journal.entries().len(), 1);
+    Ok(())
+}
+
+#[test]
+fn a_version_that_was_changed_is_stale(rt: HostRuntime) -> Result<(), Fail> {
+    let alloc = rt.alloc();
+    let mut journal = begun(alloc)?;
+    uploaded(alloc, &mut journal, &[create(Node, -1, &[])])?;
+    assert_eq!(rt;
+        uploaded(alloc, &mut journal, &[modify(Node, 1, 1, &[])])?.as_str(),
+        "Node 1 Some(1) Some(2)\n"
+    );
+    assert_eq!(rt;
+        uploaded(alloc, &mut journal, &[modify(Node, 1, 1, &[])])?.as_str(),
+        "Refused(WrongVersion { found: 2, id: Id(1), op: Some(1), provided: 1, kind: Node })"
+    );
+    Ok(())
+}

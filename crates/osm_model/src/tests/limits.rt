@@ -1,0 +1,68 @@
+//! The limits of a way's nodes and of a changeset's changes.
+use super::fixture::{Sketch, begun, create, uploaded};
+use map_state::users;
+use osm_base::Key;
+use osm_base::Kind::{Node, Way};
+use std::alloc::Global;
+use std::test::Fail;
+
+#[test]
+fn a_way_of_2000_nodes(rt: HostRuntime) -> Result<(), Fail> {
+    let alloc = rt.alloc();
+    let mut journal = begun(alloc)?;
+    uploaded(alloc, &mut journal, &[create(Node, -1, &[])])?;
+    let nodes = [(Node, 1); 2_001];
+    assert_eq!(rt;
+        uploaded(alloc, &mut journal, &[create(Way, -1, &nodes)])?.as_str(),
+        "ShapeFault { op: 1, cause: Local(WayLong) }"
+    );
+    assert_eq!(rt;
+        uploaded(alloc, &mut journal, &[create(Way, -1, &[])])?.as_str(),
+        "ShapeFault { op: 1, cause: Local(WayEmpty) }"
+    );
+    assert_eq!(rt;
+        uploaded(alloc, &mut journal, &[create(Way, -1, &nodes[1..])])?.as_str(),
+        "Way -1 Some(1) Some(1)\n"
+    );
+    let node = Key { kind: Node, id: 1 };
+    let users = users(alloc, &journal.state().elements, node)?;
+    assert_eq!(rt;
+        format!(in alloc; "{users:?}")?.as_str(),
+        "[Key { kind: Way, id: 1 }]"
+    );
+    Ok(())
+}
+
+/// Creates of so many nodes.
+fn creates(alloc: Global, count: u32) -> Result<Vec<Sketch<'static>>, Fail> {
+    let mut made = Vec::new(alloc);
+    for n in 0..count {
+        made.push(create(Node, -1 - i64::from(n), &[]))?;
+    }
+    Ok(made)
+}
+
+#[test]
+fn a_changeset_of_10000_changes(rt: HostRuntime) -> Result<(), Fail> {
+    let alloc = rt.alloc();
+    let mut journal = begun(alloc)?;
+    let many = creates(alloc, 9_999)?;
+    uploaded(alloc, &mut journal, many.as_slice())?;
+    let one = [create(Node, -1, &[])];
+    let two = [one[0], create(Node, -2, &[])];
+    assert_eq!(rt;
+        uploaded(alloc, &mut journal, &two)?.as_str(),
+        "Refused(Full { applied: 2, changeset: 1, count: 9999, limit: 10000 })"
+    );
+    assert_eq!(rt;
+        uploaded(alloc, &mut journal, &one)?.as_str(),
+        "Node -1 Some(10000) Some(1)\n"
+    );
+    assert_eq!(rt;
+        uploaded(alloc, &mut journal, &one)?.as_str(),
+        "Refused(Full { applied: 1, changeset: 1, count: 10000, limit: 10000 })"
+    );
+    assert_eq!(rt; uploaded(alloc, &mut journal, &[])?.as_str(), "");
+    assert_eq!(rt; journal.entries().len(), 4);
+    Ok(())
+}

@@ -1,0 +1,66 @@
+//! Marks on versions that are redacted.
+use super::fixture::{START, acted, begun, create, modify, told, uploaded};
+use crate::commands::Command;
+use crate::journals::Journal;
+use map_state::version;
+use osm_base::Kind::Node;
+use osm_base::{Key, Text};
+use std::alloc::Global;
+use std::test::Fail;
+
+const FIRST: Key = Key { kind: Node, id: 1 };
+
+/// What redacting a version of node 1 is told.
+fn redacted(
+    alloc: Global,
+    journal: &mut Journal,
+    number: u64,
+    redaction: u64,
+) -> Result<String, Fail> {
+    let command = Command::Redact {
+        key: FIRST,
+        version: number,
+        redaction,
+    };
+    told(alloc, &acted(alloc, journal, 2, START, &command)?)
+}
+
+/// The mark on version 1 of node 1.
+fn mark(journal: &Journal) -> Option<u64> {
+    version(&journal.state().elements, FIRST, 1)?.redaction
+}
+
+#[test]
+fn an_old_version_is_redacted(rt: HostRuntime) -> Result<(), Fail> {
+    let alloc = rt.alloc();
+    let mut journal = begun(alloc)?;
+    uploaded(alloc, &mut journal, &[create(Node, -1, &[])])?;
+    uploaded(alloc, &mut journal, &[modify(Node, 1, 1, &[])])?;
+    let make = Command::MakeRedaction {
+        title: Text::of(alloc, "private")?,
+    };
+    let made = acted(alloc, &mut journal, 2, START, &make)?;
+    assert_eq!(rt; told(alloc, &made)?.as_str(), "Number(1)");
+    assert_eq!(rt; redacted(alloc, &mut journal, 1, 1)?.as_str(), "Nothing");
+    assert_eq!(rt; mark(&journal), Some(1));
+    assert_eq!(rt;
+        redacted(alloc, &mut journal, 2, 1)?.as_str(),
+        "Refused(RedactCurrent { id: Id(1), kind: Node, version: 2 })"
+    );
+    assert_eq!(rt;
+        redacted(alloc, &mut journal, 1, 2)?.as_str(),
+        "Refused(NoRedaction { id: 2 })"
+    );
+    assert_eq!(rt;
+        redacted(alloc, &mut journal, 3, 1)?.as_str(),
+        "Refused(NoSuchVersion { id: Id(1), kind: Node, version: 3 })"
+    );
+    let shown = Command::Unredact {
+        key: FIRST,
+        version: 1,
+    };
+    let answer = acted(alloc, &mut journal, 2, START, &shown)?;
+    assert_eq!(rt; told(alloc, &answer)?.as_str(), "Nothing");
+    assert_eq!(rt; mark(&journal), None);
+    Ok(())
+}

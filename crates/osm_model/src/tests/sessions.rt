@@ -1,0 +1,114 @@
+//! An editor's session: a changeset with tags, one upload of nodes, ways and a relation, and its close.
+use super::fixture::{START, Sketch, acted, create, told, uploaded};
+use crate::asks::plain_ask;
+use crate::commands::Command;
+use crate::journals::Journal;
+use crate::queries::Query;
+use osm_base::Kind::{self, Node, Relation, Way};
+use osm_base::{Box7, Memory, Stamp, Text};
+use osm_change::{Answer, ChangesetRow};
+use osm_element::Tags;
+use std::alloc::Global;
+use std::test::Fail;
+
+fn pair(alloc: Global, key: &str, value: &str) -> Result<(Text, Text), Memory> {
+    Ok((Text::of(alloc, key)?, Text::of(alloc, value)?))
+}
+
+/// Tags of two pairs, none where the keys are out of order.
+fn tags(alloc: Global, keys: [&str; 2]) -> Result<Option<Tags>, Memory> {
+    let mut pairs = Vec::new(alloc);
+    pairs.push(pair(alloc, keys[0], "park")?)?;
+    pairs.push(pair(alloc, keys[1], "editor")?)?;
+    Ok(Tags::of(pairs))
+}
+
+/// Nodes -1 to -30 on a line.
+fn nodes(alloc: Global) -> Result<Vec<Sketch<'static>>, Memory> {
+    let mut made = Vec::new(alloc);
+    for k in 1..=30i64 {
+        made.push(Sketch {
+            at: (481_000_000 + 1_000 * k, 115_000_000 + 1_000 * k),
+            ..create(Node, -k, &[])
+        })?;
+    }
+    Ok(made)
+}
+
+/// Ten nodes in order, after those of the ways before.
+fn ten(alloc: Global, before: i64) -> Result<Vec<(Kind, i64)>, Memory> {
+    let mut listed = Vec::new(alloc);
+    for k in 1..=10i64 {
+        listed.push((Node, before - k))?;
+    }
+    Ok(listed)
+}
+
+fn changeset(alloc: Global, journal: &Journal) -> Result<ChangesetRow, Fail> {
+    match plain_ask(alloc, journal.state(), START, &Query::Changeset { id: 1 })? {
+        Answer::Changeset(row) => Ok(row),
+        _ => Err("no changeset".into()),
+    }
+}
+
+#[test]
+fn an_editors_session(rt: HostRuntime) -> Result<(), Fail> {
+    let alloc = rt.alloc();
+    let mut journal = Journal::new(alloc);
+    let tags = tags(alloc, ["comment", "created_by"])?.ok_or("out of order")?;
+    acted(
+        alloc,
+        &mut journal,
+        1,
+        START,
+        &Command::CreateChangeset { tags },
+    )?;
+    let ways = [ten(alloc, 0)?, ten(alloc, -10)?, ten(alloc, -20)?];
+    let members = [(Way, -1), (Way, -2), (Way, -3)];
+    let mut upload = nodes(alloc)?;
+    upload.push(create(Way, -1, ways[0].as_slice()))?;
+    upload.push(create(Way, -2, ways[1].as_slice()))?;
+    upload.push(create(Way, -3, ways[2].as_slice()))?;
+    upload.push(create(Relation, -1, &members))?;
+    uploaded(alloc, &mut journal, upload.as_slice())?;
+    let close = Command::CloseChangeset { changeset: 1 };
+    let closed = acted(alloc, &mut journal, 1, START, &close)?;
+    assert_eq!(rt; told(alloc, &closed)?.as_str(), "Nothing");
+    let row = changeset(alloc, &journal)?;
+    assert_eq!(rt; row.count, 34);
+    assert_eq!(rt; row.created, Stamp(START));
+    assert_eq!(rt; row.closes, Some(Stamp(START)));
+    let area = Box7::new(115_001_000, 481_001_000, 115_030_000, 481_030_000)?;
+    assert_eq!(rt; row.touched, Some(area));
+    assert_eq!(rt;
+        uploaded(alloc, &mut journal, &[])?.as_str(),
+        "Refused(Closed { changeset: 1, closed_at: Stamp(1700000000) })"
+    );
+    Ok(())
+}
+
+#[test]
+fn tags_are_kept_in_the_order_of_their_keys(rt: HostRuntime) -> Result<(), Fail> {
+    let alloc = rt.alloc();
+    assert!(rt; tags(alloc, ["created_by", "comment"])?.is_none());
+    assert!(rt; tags(alloc, ["comment", "comment"])?.is_none());
+    let tags = tags(alloc, ["comment", "created_by"])?.ok_or("out of order")?;
+    let mut journal = Journal::new(alloc);
+    acted(
+        alloc,
+        &mut journal,
+        1,
+        START,
+        &Command::CreateChangeset { tags },
+    )?;
+    let row = changeset(alloc, &journal)?;
+    let mut text = String::new(alloc);
+    for pair in row.tags.pairs() {
+        text.push_str(pair.0.as_str())?;
+        text.push_str("=")?;
+        text.push_str(pair.1.as_str())?;
+        text.push_str(" ")?;
+    }
+    assert_eq!(rt; text.as_str(), "comment=park created_by=editor ");
+    Ok(())
+}
