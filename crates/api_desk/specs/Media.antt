@@ -2,8 +2,8 @@
 use Rattle.std.specs.Prelude.{ℕ, ◌-◌, Bool, false, not, ◌&&◌, ◌||◌, ◌==◌, List, [], ◌∷◌, length, drop, codes, Option, Some, None, if◌then◌else◌}
 use Rattle.std.specs.List.{before_first}
 use Rattle.std.specs.Str.{str_eq_ignore_ascii_case}
+use Rattle.httparse.specs.Grammar.{trim_ows}
 use Rattle.http_wire.specs.declared.message.Message.{Message}
-use Rattle.user_table.specs.Who.{trimmed}
 
 abbrev pub is_semicolon : ℕ → Bool
 is_semicolon byte = byte == 59
@@ -22,7 +22,7 @@ names_xml kind =
 -- the media type says XML: its part before the first `;`, without spaces and tabs at both ends
 abbrev pub says_xml : Option (List ℕ) → Bool
 says_xml None = false
-says_xml (Some media) = names_xml (trimmed (before_first is_semicolon media))
+says_xml (Some media) = names_xml (trim_ows (before_first is_semicolon media))
 
 -- a space, a tab, or a byte of a line end
 abbrev pub is_blank : ℕ → Bool

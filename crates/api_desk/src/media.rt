@@ -1,37 +1,10 @@
 //! Whether a body is XML.
 ghost use Rattle.std.specs.Prelude.{◌≡◌, option_copied};
 ghost use Rattle.std.specs.List.{before_first};
-ghost use Rattle.user_table.specs.Who.{is_gap, trimmed_start, trimmed_end, trimmed};
 ghost use Rattle.api_desk.specs.Media.{is_semicolon, has_xml_suffix, names_xml, says_xml, is_blank, begins_as_xml, is_xml};
 
 use crate::bytes::{place_of, value_of};
-use http_wire::Message;
-
-fn is_gap(byte: u8) -> bool
-    ensures { result ≡ is_gap byte }
-{
-    byte == b' ' || byte == b'\t'
-}
-
-fn trimmed_start(bytes: &[u8]) -> &[u8]
-    ensures { result.now ≡ trimmed_start bytes.now }
-{
-    let mut rest = bytes;
-    while let [b' ' | b'\t', after @ ..] = rest {
-        rest = after;
-    }
-    rest
-}
-
-fn trimmed_end(bytes: &[u8]) -> &[u8]
-    ensures { result.now ≡ trimmed_end bytes.now }
-{
-    let mut end = bytes.len();
-    while end > 0 && is_gap(bytes[end - 1]) {
-        end -= 1;
-    }
-    &bytes[..end]
-}
+use http_wire::{Message, trim_ows};
 
 /// What stands before the first `;`.
 fn before_parameters(media: &[u8]) -> &[u8]
@@ -62,7 +35,7 @@ fn says_xml(media: Option<&[u8]>) -> bool
     ensures { result ≡ says_xml (option_copied media.entry) }
 {
     match media {
-        Some(media) => names_xml(trimmed_end(trimmed_start(before_parameters(media)))),
+        Some(media) => names_xml(trim_ows(before_parameters(media))),
         None => false,
     }
 }
