@@ -2,6 +2,7 @@
 use Rattle.std.specs.Prelude.{◌≡◌, refl, ℕ, true, false, List, Option, Some, None, codes}
 use Rattle.osm_base.specs.declared.keys.Kind.TheVariants.{Node, Way, Relation}
 use Rattle.osm_model.specs.declared.queries.Query.TheVariants as query
+use Rattle.httparse.specs.Grammar.{trim_ows}
 use Rattle.api_desk.specs.declared.routes.Call.{Call}
 use Rattle.api_desk.specs.declared.routes.Call.TheVariants.{Read, Edit as Changes}
 use Rattle.api_desk.specs.declared.routes.Edit.TheVariants as edit
@@ -91,18 +92,23 @@ method_in_another_case = refl
 -- ---- bodies
 
 xml_with_a_parameter : says_xml (Some (codes "text/xml; charset=utf-8")) ≡ true
+unfolding trim_ows
 xml_with_a_parameter = refl
 
 xml_in_capitals : says_xml (Some (codes " APPLICATION/XML")) ≡ true
+unfolding trim_ows
 xml_in_capitals = refl
 
 xml_by_its_ending : says_xml (Some (codes "application/osm+xml\t;v=1")) ≡ true
+unfolding trim_ows
 xml_by_its_ending = refl
 
 json : says_xml (Some (codes "application/json")) ≡ false
+unfolding trim_ows
 json = refl
 
 xml_in_a_parameter : says_xml (Some (codes "application/json; of=text/xml")) ≡ false
+unfolding trim_ows
 xml_in_a_parameter = refl
 
 no_media_type : says_xml None ≡ false
