@@ -262,7 +262,7 @@ pub fn uploaded(
 
 /// A user's upload to changeset 1 at a moment, and what it is told.
 #[derive(Clone, Copy)]
-pub struct Row<'a> {
+pub struct Case<'a> {
     pub user: u64,
     pub moment: u64,
     pub upload: &'a [Sketch<'a>],
@@ -270,12 +270,12 @@ pub struct Row<'a> {
 }
 
 /// User 1's upload at the start.
-pub fn row<'a>(upload: &'a [Sketch<'a>], told: &'a str) -> Row<'a> {
+pub fn row<'a>(upload: &'a [Sketch<'a>], told: &'a str) -> Case<'a> {
     row_at(1, START, upload, told)
 }
 
-pub fn row_at<'a>(user: u64, moment: u64, upload: &'a [Sketch<'a>], told: &'a str) -> Row<'a> {
-    Row {
+pub fn row_at<'a>(user: u64, moment: u64, upload: &'a [Sketch<'a>], told: &'a str) -> Case<'a> {
+    Case {
         user,
         moment,
         upload,
@@ -288,7 +288,7 @@ pub fn tells(
     rt: &impl Abort,
     alloc: Global,
     journal: &mut Journal,
-    rows: &[Row<'_>],
+    rows: &[Case<'_>],
 ) -> Result<(), Fail> {
     for row in rows {
         let told = uploaded_at(alloc, journal, row.user, row.moment, row.upload)?;
