@@ -8,6 +8,7 @@ use osm_base::{Kind, Memory, Text, TryCopy, User};
 use osm_change::{Action, Answer, Change, DiffRow, RawOp, ShapeFault};
 use osm_element::{Member, Members, RawContent, Refs, Tags};
 use std::alloc::Global;
+use std::process::Abort;
 use std::test::Fail;
 
 /// When most tests begin, in seconds since 1970.
@@ -257,4 +258,41 @@ pub fn uploaded(
     sketches: &[Sketch<'_>],
 ) -> Result<String, Fail> {
     uploaded_at(alloc, journal, 1, START, sketches)
+}
+
+/// A user's upload to changeset 1 at a moment, and what it is told.
+#[derive(Clone, Copy)]
+pub struct Case<'a> {
+    pub user: u64,
+    pub moment: u64,
+    pub upload: &'a [Sketch<'a>],
+    pub told: &'a str,
+}
+
+/// User 1's upload at the start.
+pub fn row<'a>(upload: &'a [Sketch<'a>], told: &'a str) -> Case<'a> {
+    row_at(1, START, upload, told)
+}
+
+pub fn row_at<'a>(user: u64, moment: u64, upload: &'a [Sketch<'a>], told: &'a str) -> Case<'a> {
+    Case {
+        user,
+        moment,
+        upload,
+        told,
+    }
+}
+
+/// Asserts what uploads are told, one after the other.
+pub fn tells(
+    rt: &impl Abort,
+    alloc: Global,
+    journal: &mut Journal,
+    rows: &[Case<'_>],
+) -> Result<(), Fail> {
+    for row in rows {
+        let told = uploaded_at(alloc, journal, row.user, row.moment, row.upload)?;
+        assert_eq!(rt; told.as_str(), row.told);
+    }
+    Ok(())
 }

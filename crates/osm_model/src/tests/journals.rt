@@ -1,5 +1,7 @@
 //! Commands on a journal.
-use super::fixture::{START, acted, begun, built, create, delete, modify, told, uploaded};
+use super::fixture::{
+    START, acted, begun, built, create, delete, modify, row, tells, told, uploaded,
+};
 use crate::commands::Command;
 use osm_base::Kind::Node;
 use osm_change::OneOp;
@@ -57,13 +59,17 @@ fn a_version_that_was_changed_is_stale(rt: HostRuntime) -> Result<(), Fail> {
     let alloc = rt.alloc();
     let mut journal = begun(alloc)?;
     uploaded(alloc, &mut journal, &[create(Node, -1, &[])])?;
-    assert_eq!(rt;
-        uploaded(alloc, &mut journal, &[modify(Node, 1, 1, &[])])?.as_str(),
-        "Node 1 Some(1) Some(2)\n"
-    );
-    assert_eq!(rt;
-        uploaded(alloc, &mut journal, &[modify(Node, 1, 1, &[])])?.as_str(),
-        "Refused(WrongVersion { found: 2, id: Id(1), op: Some(1), provided: 1, kind: Node })"
-    );
+    tells(
+        &rt,
+        alloc,
+        &mut journal,
+        &[
+            row(&[modify(Node, 1, 1, &[])], "Node 1 Some(1) Some(2)\n"),
+            row(
+                &[modify(Node, 1, 1, &[])],
+                "Refused(WrongVersion { found: 2, id: Id(1), op: Some(1), provided: 1, kind: Node })",
+            ),
+        ],
+    )?;
     Ok(())
 }

@@ -1,5 +1,5 @@
 //! The limits of a way's nodes and of a changeset's changes.
-use super::fixture::{Sketch, begun, create, uploaded};
+use super::fixture::{Sketch, begun, create, row, tells, uploaded};
 use map_state::users;
 use osm_base::Key;
 use osm_base::Kind::{Node, Way};
@@ -12,18 +12,22 @@ fn a_way_of_2000_nodes(rt: HostRuntime) -> Result<(), Fail> {
     let mut journal = begun(alloc)?;
     uploaded(alloc, &mut journal, &[create(Node, -1, &[])])?;
     let nodes = [(Node, 1); 2_001];
-    assert_eq!(rt;
-        uploaded(alloc, &mut journal, &[create(Way, -1, &nodes)])?.as_str(),
-        "ShapeFault { op: 1, cause: Local(WayLong) }"
-    );
-    assert_eq!(rt;
-        uploaded(alloc, &mut journal, &[create(Way, -1, &[])])?.as_str(),
-        "ShapeFault { op: 1, cause: Local(WayEmpty) }"
-    );
-    assert_eq!(rt;
-        uploaded(alloc, &mut journal, &[create(Way, -1, &nodes[1..])])?.as_str(),
-        "Way -1 Some(1) Some(1)\n"
-    );
+    tells(
+        &rt,
+        alloc,
+        &mut journal,
+        &[
+            row(
+                &[create(Way, -1, &nodes)],
+                "ShapeFault { op: 1, cause: Local(WayLong) }",
+            ),
+            row(
+                &[create(Way, -1, &[])],
+                "ShapeFault { op: 1, cause: Local(WayEmpty) }",
+            ),
+            row(&[create(Way, -1, &nodes[1..])], "Way -1 Some(1) Some(1)\n"),
+        ],
+    )?;
     let node = Key { kind: Node, id: 1 };
     let users = users(alloc, &journal.state().elements, node)?;
     assert_eq!(rt;
@@ -50,19 +54,23 @@ fn a_changeset_of_10000_changes(rt: HostRuntime) -> Result<(), Fail> {
     uploaded(alloc, &mut journal, many.as_slice())?;
     let one = [create(Node, -1, &[])];
     let two = [one[0], create(Node, -2, &[])];
-    assert_eq!(rt;
-        uploaded(alloc, &mut journal, &two)?.as_str(),
-        "Refused(Full { applied: 2, changeset: 1, count: 9999, limit: 10000 })"
-    );
-    assert_eq!(rt;
-        uploaded(alloc, &mut journal, &one)?.as_str(),
-        "Node -1 Some(10000) Some(1)\n"
-    );
-    assert_eq!(rt;
-        uploaded(alloc, &mut journal, &one)?.as_str(),
-        "Refused(Full { applied: 1, changeset: 1, count: 10000, limit: 10000 })"
-    );
-    assert_eq!(rt; uploaded(alloc, &mut journal, &[])?.as_str(), "");
+    tells(
+        &rt,
+        alloc,
+        &mut journal,
+        &[
+            row(
+                &two,
+                "Refused(Full { applied: 2, changeset: 1, count: 9999, limit: 10000 })",
+            ),
+            row(&one, "Node -1 Some(10000) Some(1)\n"),
+            row(
+                &one,
+                "Refused(Full { applied: 1, changeset: 1, count: 10000, limit: 10000 })",
+            ),
+            row(&[], ""),
+        ],
+    )?;
     assert_eq!(rt; journal.entries().len(), 4);
     Ok(())
 }

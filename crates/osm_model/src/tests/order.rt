@@ -1,6 +1,6 @@
 //! The order in which an upload is judged.
 use super::fixture::{
-    START, begun, create, delete, delete_if_unused, modify, uploaded, uploaded_at,
+    START, begun, create, delete, delete_if_unused, modify, row, row_at, tells, uploaded,
 };
 use crate::asks::plain_ask;
 use crate::journals::Journal;
@@ -25,22 +25,26 @@ fn a_used_node(rt: HostRuntime) -> Result<(), Fail> {
     let mut journal = begun(alloc)?;
     let upload = [create(Node, -1, &[]), create(Way, -1, &[(Node, -1)])];
     uploaded(alloc, &mut journal, &upload)?;
-    assert_eq!(rt;
-        uploaded(alloc, &mut journal, &[delete(Node, 1, 1)])?.as_str(),
-        "Refused(Used { id: Id(1), op: Some(1), kind: Node, user_id: Id(1), user_kind: Way, user_version: 1 })"
-    );
-    assert_eq!(rt;
-        uploaded(alloc, &mut journal, &[delete(Node, 1, 7)])?.as_str(),
-        "Refused(WrongVersion { found: 1, id: Id(1), op: Some(1), provided: 7, kind: Node })"
-    );
-    assert_eq!(rt;
-        uploaded(alloc, &mut journal, &[delete_if_unused(Node, 1, 1)])?.as_str(),
-        "Node 1 Some(1) Some(1)\n"
-    );
-    assert_eq!(rt;
-        uploaded(alloc, &mut journal, &[delete_if_unused(Node, 1, 2)])?.as_str(),
-        "Refused(WrongVersion { found: 1, id: Id(1), op: Some(1), provided: 2, kind: Node })"
-    );
+    tells(
+        &rt,
+        alloc,
+        &mut journal,
+        &[
+            row(
+                &[delete(Node, 1, 1)],
+                "Refused(Used { id: Id(1), op: Some(1), kind: Node, user_id: Id(1), user_kind: Way, user_version: 1 })",
+            ),
+            row(
+                &[delete(Node, 1, 7)],
+                "Refused(WrongVersion { found: 1, id: Id(1), op: Some(1), provided: 7, kind: Node })",
+            ),
+            row(&[delete_if_unused(Node, 1, 1)], "Node 1 Some(1) Some(1)\n"),
+            row(
+                &[delete_if_unused(Node, 1, 2)],
+                "Refused(WrongVersion { found: 1, id: Id(1), op: Some(1), provided: 2, kind: Node })",
+            ),
+        ],
+    )?;
     let area = Box7::new(115_400_000, 481_400_000, 115_400_000, 481_400_000)?;
     assert_eq!(rt; worked(alloc, &journal)?, (2, Some(area)));
     Ok(())
@@ -51,34 +55,29 @@ fn a_deleted_node(rt: HostRuntime) -> Result<(), Fail> {
     let alloc = rt.alloc();
     let mut journal = begun(alloc)?;
     uploaded(alloc, &mut journal, &[create(Node, -1, &[])])?;
-    assert_eq!(rt;
-        uploaded(alloc, &mut journal, &[delete(Node, 1, 1)])?.as_str(),
-        "Node 1 None None\n"
-    );
-    assert_eq!(rt;
-        uploaded(alloc, &mut journal, &[delete(Node, 1, 2)])?.as_str(),
-        "Refused(Gone { id: Id(1), op: Some(1), kind: Node, version: 2 })"
-    );
-    assert_eq!(rt;
-        uploaded(alloc, &mut journal, &[delete(Node, 1, 7)])?.as_str(),
-        "Refused(Gone { id: Id(1), op: Some(1), kind: Node, version: 2 })"
-    );
-    assert_eq!(rt;
-        uploaded(alloc, &mut journal, &[delete_if_unused(Node, 1, 1)])?.as_str(),
-        "Node 1 Some(1) Some(2)\n"
-    );
-    assert_eq!(rt;
-        uploaded(alloc, &mut journal, &[modify(Node, 1, 1, &[])])?.as_str(),
-        "Refused(WrongVersion { found: 2, id: Id(1), op: Some(1), provided: 1, kind: Node })"
-    );
-    assert_eq!(rt;
-        uploaded(alloc, &mut journal, &[modify(Node, 1, 2, &[])])?.as_str(),
-        "Node 1 Some(1) Some(3)\n"
-    );
-    assert_eq!(rt;
-        uploaded(alloc, &mut journal, &[create(Way, -1, &[(Node, 1)])])?.as_str(),
-        "Way -1 Some(1) Some(1)\n"
-    );
+    tells(
+        &rt,
+        alloc,
+        &mut journal,
+        &[
+            row(&[delete(Node, 1, 1)], "Node 1 None None\n"),
+            row(
+                &[delete(Node, 1, 2)],
+                "Refused(Gone { id: Id(1), op: Some(1), kind: Node, version: 2 })",
+            ),
+            row(
+                &[delete(Node, 1, 7)],
+                "Refused(Gone { id: Id(1), op: Some(1), kind: Node, version: 2 })",
+            ),
+            row(&[delete_if_unused(Node, 1, 1)], "Node 1 Some(1) Some(2)\n"),
+            row(
+                &[modify(Node, 1, 1, &[])],
+                "Refused(WrongVersion { found: 2, id: Id(1), op: Some(1), provided: 1, kind: Node })",
+            ),
+            row(&[modify(Node, 1, 2, &[])], "Node 1 Some(1) Some(3)\n"),
+            row(&[create(Way, -1, &[(Node, 1)])], "Way -1 Some(1) Some(1)\n"),
+        ],
+    )?;
     Ok(())
 }
 
@@ -89,18 +88,25 @@ fn a_modified_way(rt: HostRuntime) -> Result<(), Fail> {
     let upload = [create(Node, -1, &[]), create(Way, -1, &[(Node, -1)])];
     uploaded(alloc, &mut journal, &upload)?;
     let over = [(Node, 1), (Node, 98), (Node, 99)];
-    assert_eq!(rt;
-        uploaded(alloc, &mut journal, &[modify(Way, 2, 1, &over)])?.as_str(),
-        "Refused(NoElement { id: Id(2), op: Some(1), kind: Way })"
-    );
-    assert_eq!(rt;
-        uploaded(alloc, &mut journal, &[modify(Way, 1, 2, &over)])?.as_str(),
-        "Refused(WrongVersion { found: 1, id: Id(1), op: Some(1), provided: 2, kind: Way })"
-    );
-    assert_eq!(rt;
-        uploaded(alloc, &mut journal, &[modify(Way, 1, 1, &over)])?.as_str(),
-        "Refused(Missing { id: Id(98), op: Some(1), kind: Node, version: 0 })"
-    );
+    tells(
+        &rt,
+        alloc,
+        &mut journal,
+        &[
+            row(
+                &[modify(Way, 2, 1, &over)],
+                "Refused(NoElement { id: Id(2), op: Some(1), kind: Way })",
+            ),
+            row(
+                &[modify(Way, 1, 2, &over)],
+                "Refused(WrongVersion { found: 1, id: Id(1), op: Some(1), provided: 2, kind: Way })",
+            ),
+            row(
+                &[modify(Way, 1, 1, &over)],
+                "Refused(Missing { id: Id(98), op: Some(1), kind: Node, version: 0 })",
+            ),
+        ],
+    )?;
     Ok(())
 }
 
@@ -118,10 +124,15 @@ fn the_least_user_is_named(rt: HostRuntime) -> Result<(), Fail> {
     uploaded(alloc, &mut journal, &upload)?;
     let own = [(Node, 1)];
     uploaded(alloc, &mut journal, &[modify(Way, 1, 1, &own)])?;
-    assert_eq!(rt;
-        uploaded(alloc, &mut journal, &[delete(Node, 1, 1)])?.as_str(),
-        "Refused(Used { id: Id(1), op: Some(1), kind: Node, user_id: Id(1), user_kind: Way, user_version: 2 })"
-    );
+    tells(
+        &rt,
+        alloc,
+        &mut journal,
+        &[row(
+            &[delete(Node, 1, 1)],
+            "Refused(Used { id: Id(1), op: Some(1), kind: Node, user_id: Id(1), user_kind: Way, user_version: 2 })",
+        )],
+    )?;
     Ok(())
 }
 
@@ -132,18 +143,22 @@ fn a_relation_that_lists_itself(rt: HostRuntime) -> Result<(), Fail> {
     let upload = [create(Node, -1, &[]), create(Relation, -1, &[(Node, -1)])];
     uploaded(alloc, &mut journal, &upload)?;
     let itself = [(Relation, 1)];
-    assert_eq!(rt;
-        uploaded(alloc, &mut journal, &[modify(Relation, 1, 1, &itself)])?.as_str(),
-        "Relation 1 Some(1) Some(2)\n"
-    );
-    assert_eq!(rt;
-        uploaded(alloc, &mut journal, &[delete(Relation, 1, 2)])?.as_str(),
-        "Relation 1 None None\n"
-    );
-    assert_eq!(rt;
-        uploaded(alloc, &mut journal, &[modify(Relation, 1, 3, &itself)])?.as_str(),
-        "Refused(Missing { id: Id(1), op: Some(1), kind: Relation, version: 3 })"
-    );
+    tells(
+        &rt,
+        alloc,
+        &mut journal,
+        &[
+            row(
+                &[modify(Relation, 1, 1, &itself)],
+                "Relation 1 Some(1) Some(2)\n",
+            ),
+            row(&[delete(Relation, 1, 2)], "Relation 1 None None\n"),
+            row(
+                &[modify(Relation, 1, 3, &itself)],
+                "Refused(Missing { id: Id(1), op: Some(1), kind: Relation, version: 3 })",
+            ),
+        ],
+    )?;
     Ok(())
 }
 
@@ -152,21 +167,31 @@ fn the_changeset_is_tested_first(rt: HostRuntime) -> Result<(), Fail> {
     let alloc = rt.alloc();
     let mut journal = begun(alloc)?;
     let wrong = [delete(Node, 9, 1)];
-    assert_eq!(rt;
-        uploaded_at(alloc, &mut Journal::new(alloc), 1, START, &wrong)?.as_str(),
-        "Refused(NoChangeset { id: 1 })"
-    );
-    assert_eq!(rt;
-        uploaded_at(alloc, &mut journal, 2, START + 3_600, &wrong)?.as_str(),
-        "Refused(NotOwner { changeset: 1, owner: 1 })"
-    );
-    assert_eq!(rt;
-        uploaded_at(alloc, &mut journal, 1, START + 3_600, &wrong)?.as_str(),
-        "Refused(Closed { changeset: 1, closed_at: Stamp(1700003600) })"
-    );
-    assert_eq!(rt;
-        uploaded_at(alloc, &mut journal, 1, START, &wrong)?.as_str(),
-        "Refused(NoElement { id: Id(9), op: Some(1), kind: Node })"
-    );
+    let unknown = row(&wrong, "Refused(NoChangeset { id: 1 })");
+    tells(&rt, alloc, &mut Journal::new(alloc), &[unknown])?;
+    let late = START + 3_600;
+    tells(
+        &rt,
+        alloc,
+        &mut journal,
+        &[
+            row_at(
+                2,
+                late,
+                &wrong,
+                "Refused(NotOwner { changeset: 1, owner: 1 })",
+            ),
+            row_at(
+                1,
+                late,
+                &wrong,
+                "Refused(Closed { changeset: 1, closed_at: Stamp(1700003600) })",
+            ),
+            row(
+                &wrong,
+                "Refused(NoElement { id: Id(9), op: Some(1), kind: Node })",
+            ),
+        ],
+    )?;
     Ok(())
 }

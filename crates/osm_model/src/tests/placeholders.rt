@@ -1,5 +1,5 @@
 //! Placeholders of an upload, and what refusals call the elements that it creates.
-use super::fixture::{Sketch, begun, create, delete, modify, uploaded};
+use super::fixture::{Sketch, begun, create, delete, modify, row, tells};
 use crate::asks::plain_ask;
 use crate::queries::Query;
 use osm_base::Kind::{Node, Way};
@@ -16,10 +16,15 @@ fn a_whole_upload_of_placeholders(rt: HostRuntime) -> Result<(), Fail> {
         modify(Node, -1, 1, &[]),
         delete(Way, -1, 1),
     ];
-    assert_eq!(rt;
-        uploaded(alloc, &mut journal, &upload)?.as_str(),
-        "Node -1 Some(1) Some(1)\nWay -1 Some(1) Some(1)\nNode -1 Some(1) Some(2)\nWay -1 None None\n"
-    );
+    tells(
+        &rt,
+        alloc,
+        &mut journal,
+        &[row(
+            &upload,
+            "Node -1 Some(1) Some(1)\nWay -1 Some(1) Some(1)\nNode -1 Some(1) Some(2)\nWay -1 None None\n",
+        )],
+    )?;
     let told = plain_ask(alloc, journal.state(), 0, &Query::Changeset { id: 1 })?;
     let Answer::Changeset(row) = told else {
         return Err("no changeset".into());
@@ -34,19 +39,31 @@ fn a_placeholder_of_a_later_create_is_unknown(rt: HostRuntime) -> Result<(), Fai
     let mut journal = begun(alloc)?;
     let way = create(Way, -1, &[(Node, -5)]);
     let node = create(Node, -5, &[]);
-    assert_eq!(rt;
-        uploaded(alloc, &mut journal, &[way, node])?.as_str(),
-        "ShapeFault { op: 1, cause: UnknownPlaceholder }"
-    );
-    assert_eq!(rt;
-        uploaded(alloc, &mut journal, &[node, node])?.as_str(),
-        "ShapeFault { op: 2, cause: DoublePlaceholder }"
-    );
+    tells(
+        &rt,
+        alloc,
+        &mut journal,
+        &[
+            row(
+                &[way, node],
+                "ShapeFault { op: 1, cause: UnknownPlaceholder }",
+            ),
+            row(
+                &[node, node],
+                "ShapeFault { op: 2, cause: DoublePlaceholder }",
+            ),
+        ],
+    )?;
     let way = create(Way, -1, &[(Node, 9)]);
-    assert_eq!(rt;
-        uploaded(alloc, &mut journal, &[way])?.as_str(),
-        "Refused(Missing { id: Id(9), op: Some(1), kind: Node, version: 0 })"
-    );
+    tells(
+        &rt,
+        alloc,
+        &mut journal,
+        &[row(
+            &[way],
+            "Refused(Missing { id: Id(9), op: Some(1), kind: Node, version: 0 })",
+        )],
+    )?;
     Ok(())
 }
 
@@ -58,15 +75,25 @@ fn another_changeset_is_named(rt: HostRuntime) -> Result<(), Fail> {
         changeset: Some(2),
         ..create(Node, -1, &[])
     };
-    assert_eq!(rt;
-        uploaded(alloc, &mut journal, &[other])?.as_str(),
-        "ShapeFault { op: 1, cause: OtherChangeset { named: 2 } }"
-    );
+    tells(
+        &rt,
+        alloc,
+        &mut journal,
+        &[row(
+            &[other],
+            "ShapeFault { op: 1, cause: OtherChangeset { named: 2 } }",
+        )],
+    )?;
     let unknown = create(Way, -1, &[(Node, -5)]);
-    assert_eq!(rt;
-        uploaded(alloc, &mut journal, &[other, unknown])?.as_str(),
-        "ShapeFault { op: 2, cause: UnknownPlaceholder }"
-    );
+    tells(
+        &rt,
+        alloc,
+        &mut journal,
+        &[row(
+            &[other, unknown],
+            "ShapeFault { op: 2, cause: UnknownPlaceholder }",
+        )],
+    )?;
     Ok(())
 }
 
@@ -75,23 +102,32 @@ fn an_id_that_a_create_of_the_upload_gets(rt: HostRuntime) -> Result<(), Fail> {
     let alloc = rt.alloc();
     let mut journal = begun(alloc)?;
     let node = create(Node, -1, &[]);
-    assert_eq!(rt;
-        uploaded(alloc, &mut journal, &[node, modify(Node, 1, 1, &[])])?.as_str(),
-        "Refused(NoElement { id: Id(1), op: Some(2), kind: Node })"
-    );
-    assert_eq!(rt;
-        uploaded(alloc, &mut journal, &[node, modify(Node, 7, 1, &[])])?.as_str(),
-        "Refused(NoElement { id: Id(7), op: Some(2), kind: Node })"
-    );
-    assert_eq!(rt;
-        uploaded(alloc, &mut journal, &[node, create(Way, -1, &[(Node, 1)])])?.as_str(),
-        "Refused(Missing { id: Id(1), op: Some(2), kind: Node, version: 0 })"
-    );
+    tells(
+        &rt,
+        alloc,
+        &mut journal,
+        &[
+            row(
+                &[node, modify(Node, 1, 1, &[])],
+                "Refused(NoElement { id: Id(1), op: Some(2), kind: Node })",
+            ),
+            row(
+                &[node, modify(Node, 7, 1, &[])],
+                "Refused(NoElement { id: Id(7), op: Some(2), kind: Node })",
+            ),
+            row(
+                &[node, create(Way, -1, &[(Node, 1)])],
+                "Refused(Missing { id: Id(1), op: Some(2), kind: Node, version: 0 })",
+            ),
+        ],
+    )?;
     assert_eq!(rt; journal.entries().len(), 1);
-    assert_eq!(rt;
-        uploaded(alloc, &mut journal, &[node])?.as_str(),
-        "Node -1 Some(1) Some(1)\n"
-    );
+    tells(
+        &rt,
+        alloc,
+        &mut journal,
+        &[row(&[node], "Node -1 Some(1) Some(1)\n")],
+    )?;
     Ok(())
 }
 
@@ -101,22 +137,36 @@ fn refusals_name_created_elements_by_their_placeholders(rt: HostRuntime) -> Resu
     let mut journal = begun(alloc)?;
     let node = create(Node, -3, &[]);
     let way = create(Way, -4, &[(Node, -3)]);
-    assert_eq!(rt;
-        uploaded(alloc, &mut journal, &[node, way, delete(Node, -3, 1)])?.as_str(),
-        "Refused(Used { id: Placeholder(-3), op: Some(3), kind: Node, user_id: Placeholder(-4), user_kind: Way, user_version: 1 })"
-    );
-    assert_eq!(rt;
-        uploaded(alloc, &mut journal, &[node, modify(Node, -3, 2, &[])])?.as_str(),
-        "Refused(WrongVersion { found: 1, id: Placeholder(-3), op: Some(2), provided: 2, kind: Node })"
-    );
+    tells(
+        &rt,
+        alloc,
+        &mut journal,
+        &[
+            row(
+                &[node, way, delete(Node, -3, 1)],
+                "Refused(Used { id: Placeholder(-3), op: Some(3), kind: Node, user_id: Placeholder(-4), user_kind: Way, user_version: 1 })",
+            ),
+            row(
+                &[node, modify(Node, -3, 2, &[])],
+                "Refused(WrongVersion { found: 1, id: Placeholder(-3), op: Some(2), provided: 2, kind: Node })",
+            ),
+        ],
+    )?;
     let gone = delete(Node, -3, 1);
-    assert_eq!(rt;
-        uploaded(alloc, &mut journal, &[node, gone, delete(Node, -3, 2)])?.as_str(),
-        "Refused(Gone { id: Placeholder(-3), op: Some(3), kind: Node, version: 2 })"
-    );
-    assert_eq!(rt;
-        uploaded(alloc, &mut journal, &[node, gone, way])?.as_str(),
-        "Refused(Missing { id: Placeholder(-3), op: Some(3), kind: Node, version: 2 })"
-    );
+    tells(
+        &rt,
+        alloc,
+        &mut journal,
+        &[
+            row(
+                &[node, gone, delete(Node, -3, 2)],
+                "Refused(Gone { id: Placeholder(-3), op: Some(3), kind: Node, version: 2 })",
+            ),
+            row(
+                &[node, gone, way],
+                "Refused(Missing { id: Placeholder(-3), op: Some(3), kind: Node, version: 2 })",
+            ),
+        ],
+    )?;
     Ok(())
 }

@@ -30,37 +30,62 @@ fn mark(journal: &Journal) -> Option<u64> {
     version(&journal.state().elements, FIRST, 1)?.redaction
 }
 
-#[test]
-fn an_old_version_is_redacted(rt: HostRuntime) -> Result<(), Fail> {
-    let alloc = rt.alloc();
+/// A journal in which node 1 has two versions, and redaction 1 was made.
+fn changed(alloc: Global) -> Result<Journal, Fail> {
     let mut journal = begun(alloc)?;
     uploaded(alloc, &mut journal, &[create(Node, -1, &[])])?;
     uploaded(alloc, &mut journal, &[modify(Node, 1, 1, &[])])?;
-    let make = Command::MakeRedaction {
-        title: Text::of(alloc, "private")?,
-    };
-    let made = acted(alloc, &mut journal, 2, START, &make)?;
-    assert_eq!(rt; told(alloc, &made)?.as_str(), "Number(1)");
+    let title = Text::of(alloc, "private")?;
+    acted(
+        alloc,
+        &mut journal,
+        2,
+        START,
+        &Command::MakeRedaction { title },
+    )?;
+    Ok(journal)
+}
+
+#[test]
+fn an_old_version_is_redacted(rt: HostRuntime) -> Result<(), Fail> {
+    let alloc = rt.alloc();
+    let mut journal = changed(alloc)?;
     assert_eq!(rt; redacted(alloc, &mut journal, 1, 1)?.as_str(), "Nothing");
     assert_eq!(rt; mark(&journal), Some(1));
-    assert_eq!(rt;
-        redacted(alloc, &mut journal, 2, 1)?.as_str(),
-        "Refused(RedactCurrent { id: Id(1), kind: Node, version: 2 })"
-    );
-    assert_eq!(rt;
-        redacted(alloc, &mut journal, 1, 2)?.as_str(),
-        "Refused(NoRedaction { id: 2 })"
-    );
-    assert_eq!(rt;
-        redacted(alloc, &mut journal, 3, 1)?.as_str(),
-        "Refused(NoSuchVersion { id: Id(1), kind: Node, version: 3 })"
-    );
     let shown = Command::Unredact {
         key: FIRST,
         version: 1,
     };
-    let answer = acted(alloc, &mut journal, 2, START, &shown)?;
-    assert_eq!(rt; told(alloc, &answer)?.as_str(), "Nothing");
+    acted(alloc, &mut journal, 2, START, &shown)?;
     assert_eq!(rt; mark(&journal), None);
+    assert_eq!(rt; journal.entries().len(), 6);
+    Ok(())
+}
+
+/// A version and a redaction, and what is told.
+const REFUSED: [(u64, u64, &str); 3] = [
+    (
+        2,
+        1,
+        "Refused(RedactCurrent { id: Id(1), kind: Node, version: 2 })",
+    ),
+    (1, 2, "Refused(NoRedaction { id: 2 })"),
+    (
+        3,
+        1,
+        "Refused(NoSuchVersion { id: Id(1), kind: Node, version: 3 })",
+    ),
+];
+
+#[test]
+fn other_versions_and_redactions_are_refused(rt: HostRuntime) -> Result<(), Fail> {
+    let alloc = rt.alloc();
+    let mut journal = changed(alloc)?;
+    for (number, redaction, want) in REFUSED {
+        assert_eq!(rt;
+            redacted(alloc, &mut journal, number, redaction)?.as_str(),
+            want
+        );
+    }
     Ok(())
 }

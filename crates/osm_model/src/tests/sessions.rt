@@ -1,5 +1,5 @@
 //! An editor's session: a changeset with tags, one upload of nodes, ways and a relation, and its close.
-use super::fixture::{START, Sketch, acted, create, told, uploaded};
+use super::fixture::{START, Sketch, acted, create, row, tells, uploaded};
 use crate::asks::plain_ask;
 use crate::commands::Command;
 use crate::journals::Journal;
@@ -26,7 +26,8 @@ fn tags(alloc: Global, keys: [&str; 2]) -> Result<Option<Tags>, Memory> {
 /// Nodes -1 to -30 on a line.
 fn nodes(alloc: Global) -> Result<Vec<Sketch<'static>>, Memory> {
     let mut made = Vec::new(alloc);
-    for k in 1..=30i64 {
+    for k in 1..31u32 {
+        let k = i64::from(k);
         made.push(Sketch {
             at: (481_000_000 + 1_000 * k, 115_000_000 + 1_000 * k),
             ..create(Node, -k, &[])
@@ -35,13 +36,40 @@ fn nodes(alloc: Global) -> Result<Vec<Sketch<'static>>, Memory> {
     Ok(made)
 }
 
-/// Ten nodes in order, after those of the ways before.
-fn ten(alloc: Global, before: i64) -> Result<Vec<(Kind, i64)>, Memory> {
+/// Ten nodes in order, after those of so many ways.
+fn ten(alloc: Global, ways: u8) -> Result<Vec<(Kind, i64)>, Memory> {
     let mut listed = Vec::new(alloc);
-    for k in 1..=10i64 {
-        listed.push((Node, before - k))?;
+    for k in 1..11u32 {
+        listed.push((Node, -10 * i64::from(ways) - i64::from(k)))?;
     }
     Ok(listed)
+}
+
+/// The upload of the nodes, three ways over ten of them each, and a relation with the ways.
+fn drawn(alloc: Global, journal: &mut Journal) -> Result<String, Fail> {
+    let first = ten(alloc, 0)?;
+    let second = ten(alloc, 1)?;
+    let third = ten(alloc, 2)?;
+    let members = [(Way, -1), (Way, -2), (Way, -3)];
+    let mut upload = nodes(alloc)?;
+    upload.push(create(Way, -1, first.as_slice()))?;
+    upload.push(create(Way, -2, second.as_slice()))?;
+    upload.push(create(Way, -3, third.as_slice()))?;
+    upload.push(create(Relation, -1, &members))?;
+    uploaded(alloc, journal, upload.as_slice())
+}
+
+/// A journal with a changeset of these tags.
+fn tagged(alloc: Global, tags: Tags) -> Result<Journal, Memory> {
+    let mut journal = Journal::new(alloc);
+    acted(
+        alloc,
+        &mut journal,
+        1,
+        START,
+        &Command::CreateChangeset { tags },
+    )?;
+    Ok(journal)
 }
 
 fn changeset(alloc: Global, journal: &Journal) -> Result<ChangesetRow, Fail> {
@@ -54,37 +82,39 @@ fn changeset(alloc: Global, journal: &Journal) -> Result<ChangesetRow, Fail> {
 #[test]
 fn an_editors_session(rt: HostRuntime) -> Result<(), Fail> {
     let alloc = rt.alloc();
-    let mut journal = Journal::new(alloc);
     let tags = tags(alloc, ["comment", "created_by"])?.ok_or("out of order")?;
-    acted(
+    let mut journal = tagged(alloc, tags)?;
+    drawn(alloc, &mut journal)?;
+    let close = Command::CloseChangeset { changeset: 1 };
+    acted(alloc, &mut journal, 1, START, &close)?;
+    let shown = changeset(alloc, &journal)?;
+    assert_eq!(rt; shown.count, 34);
+    assert_eq!(rt; shown.created, Stamp(START));
+    assert_eq!(rt; shown.closes, Some(Stamp(START)));
+    let area = Box7::new(115_001_000, 481_001_000, 115_030_000, 481_030_000)?;
+    assert_eq!(rt; shown.touched, Some(area));
+    tells(
+        &rt,
         alloc,
         &mut journal,
-        1,
-        START,
-        &Command::CreateChangeset { tags },
+        &[row(
+            &[],
+            "Refused(Closed { changeset: 1, closed_at: Stamp(1700000000) })",
+        )],
     )?;
-    let ways = [ten(alloc, 0)?, ten(alloc, -10)?, ten(alloc, -20)?];
-    let members = [(Way, -1), (Way, -2), (Way, -3)];
-    let mut upload = nodes(alloc)?;
-    upload.push(create(Way, -1, ways[0].as_slice()))?;
-    upload.push(create(Way, -2, ways[1].as_slice()))?;
-    upload.push(create(Way, -3, ways[2].as_slice()))?;
-    upload.push(create(Relation, -1, &members))?;
-    uploaded(alloc, &mut journal, upload.as_slice())?;
-    let close = Command::CloseChangeset { changeset: 1 };
-    let closed = acted(alloc, &mut journal, 1, START, &close)?;
-    assert_eq!(rt; told(alloc, &closed)?.as_str(), "Nothing");
-    let row = changeset(alloc, &journal)?;
-    assert_eq!(rt; row.count, 34);
-    assert_eq!(rt; row.created, Stamp(START));
-    assert_eq!(rt; row.closes, Some(Stamp(START)));
-    let area = Box7::new(115_001_000, 481_001_000, 115_030_000, 481_030_000)?;
-    assert_eq!(rt; row.touched, Some(area));
-    assert_eq!(rt;
-        uploaded(alloc, &mut journal, &[])?.as_str(),
-        "Refused(Closed { changeset: 1, closed_at: Stamp(1700000000) })"
-    );
     Ok(())
+}
+
+/// Each key and value.
+fn pairs_text(alloc: Global, tags: &Tags) -> Result<String, Memory> {
+    let mut text = String::new(alloc);
+    for pair in tags.pairs() {
+        text.push_str(pair.0.as_str())?;
+        text.push_str("=")?;
+        text.push_str(pair.1.as_str())?;
+        text.push_str(" ")?;
+    }
+    Ok(text)
 }
 
 #[test]
@@ -93,22 +123,10 @@ fn tags_are_kept_in_the_order_of_their_keys(rt: HostRuntime) -> Result<(), Fail>
     assert!(rt; tags(alloc, ["created_by", "comment"])?.is_none());
     assert!(rt; tags(alloc, ["comment", "comment"])?.is_none());
     let tags = tags(alloc, ["comment", "created_by"])?.ok_or("out of order")?;
-    let mut journal = Journal::new(alloc);
-    acted(
-        alloc,
-        &mut journal,
-        1,
-        START,
-        &Command::CreateChangeset { tags },
-    )?;
-    let row = changeset(alloc, &journal)?;
-    let mut text = String::new(alloc);
-    for pair in row.tags.pairs() {
-        text.push_str(pair.0.as_str())?;
-        text.push_str("=")?;
-        text.push_str(pair.1.as_str())?;
-        text.push_str(" ")?;
-    }
-    assert_eq!(rt; text.as_str(), "comment=park created_by=editor ");
+    let shown = changeset(alloc, &tagged(alloc, tags)?)?;
+    assert_eq!(rt;
+        pairs_text(alloc, &shown.tags)?.as_str(),
+        "comment=park created_by=editor "
+    );
     Ok(())
 }

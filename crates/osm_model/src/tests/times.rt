@@ -1,5 +1,5 @@
 //! When a changeset is open, and the stamps of commands.
-use super::fixture::{START, acted, begun, create, delete_if_unused, told, uploaded_at};
+use super::fixture::{START, acted, begun, create, delete_if_unused, row, row_at, tells, told};
 use crate::asks::plain_ask;
 use crate::commands::Command;
 use crate::queries::Query;
@@ -16,14 +16,10 @@ const HOUR_OVER: &str = "Refused(Closed { changeset: 1, closed_at: Stamp(1700003
 fn open_for_an_hour(rt: HostRuntime) -> Result<(), Fail> {
     let alloc = rt.alloc();
     let one = [create(Node, -1, &[])];
-    assert_eq!(rt;
-        uploaded_at(alloc, &mut begun(alloc)?, 1, 1_700_003_599, &one)?.as_str(),
-        "Node -1 Some(1) Some(1)\n"
-    );
-    assert_eq!(rt;
-        uploaded_at(alloc, &mut begun(alloc)?, 1, 1_700_003_600, &one)?.as_str(),
-        HOUR_OVER
-    );
+    let open = row_at(1, 1_700_003_599, &one, "Node -1 Some(1) Some(1)\n");
+    tells(&rt, alloc, &mut begun(alloc)?, &[open])?;
+    let closed = row_at(1, 1_700_003_600, &one, HOUR_OVER);
+    tells(&rt, alloc, &mut begun(alloc)?, &[closed])?;
     Ok(())
 }
 
@@ -32,26 +28,21 @@ fn an_upload_that_applies_nothing_is_no_activity(rt: HostRuntime) -> Result<(), 
     let alloc = rt.alloc();
     let mut journal = begun(alloc)?;
     let made_and_gone = [create(Node, -1, &[]), delete_if_unused(Node, -1, 1)];
-    uploaded_at(alloc, &mut journal, 1, START, &made_and_gone)?;
-    assert_eq!(rt;
-        uploaded_at(alloc, &mut journal, 1, START + 3_000, &[])?.as_str(),
-        ""
-    );
-    assert_eq!(rt;
-        uploaded_at(
-            alloc,
-            &mut journal,
-            1,
-            START + 3_000,
-            &[delete_if_unused(Node, 1, 2)]
-        )?
-        .as_str(),
-        "Node 1 Some(1) Some(2)\n"
-    );
-    assert_eq!(rt;
-        uploaded_at(alloc, &mut journal, 1, START + 3_600, &[])?.as_str(),
-        HOUR_OVER
-    );
+    let skipped = [delete_if_unused(Node, 1, 2)];
+    tells(
+        &rt,
+        alloc,
+        &mut journal,
+        &[
+            row(
+                &made_and_gone,
+                "Node -1 Some(1) Some(1)\nNode -1 None None\n",
+            ),
+            row_at(1, START + 3_000, &[], ""),
+            row_at(1, START + 3_000, &skipped, "Node 1 Some(1) Some(2)\n"),
+            row_at(1, START + 3_600, &[], HOUR_OVER),
+        ],
+    )?;
     Ok(())
 }
 
