@@ -1,3 +1,4 @@
+pub mod Borrowed
 pub mod EachOf
 pub mod Moments
 pub mod Raws

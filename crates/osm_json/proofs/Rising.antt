@@ -5,8 +5,8 @@ use Rattle.std.specs.List.{AllByRecursion}
 use Rattle.std.specs.List.Sorted.{IsStrictlySortedBy}
 use Rattle.std.specs.Map.{keys_of}
 use Rattle.serde_json.specs.Find.{as_str}
-use Rattle.serde_json.specs.View.{view, members_view}
-use Rattle.serde_json.specs.declared.value.Value.{Value}
+use Rattle.osm_json.specs.Borrowed.{view, members_view}
+use Rattle.osm_json.specs.Borrowed.{Value}
 use Rattle.osm_element.specs.Tags.{KeysRise}
 use Rattle.osm_json.specs.Reading.{◌>>=◌, pairs_of}
 
