@@ -17,7 +17,7 @@ use Rattle.serde_json.specs.Read.{number_of, of_json, of_items, of_members, read
 use Rattle.serde_json.specs.Find.{get, get_member, as_str, as_bool, as_number, as_array, as_object, as_i64, as_u64}
 use Rattle.serde_json.proofs.Views.{get_member-put, get_member-put_other}
 use Rattle.osm_json.specs.Reading.{◌>>=◌, pairs_of}
-use Rattle.osm_json.specs.Borrowed.{too_large, fits, items_fit, members_fit, data_in, items_in, members_in, Value, Entry, view, items_view, put_all, members_view, text_view, texts_view}
+use Rattle.osm_json.specs.Borrowed.{too_large, figure_in, fits, items_fit, members_fit, data_in, items_in, members_in, Value, Entry, view, items_view, put_all, members_view}
 
 -- ---- where the numbers fit
 
@@ -176,21 +176,21 @@ taken : {A : Type 0} (take : Num → Option A) → Keeps take → (n : Option Nu
 taken take none None = none
 taken take none (Some x) = refl
 
-as_number-data_in : {A : Type 0} (take : Num → Option A) → Keeps take → (j : json.Json) → (as_number (data_in j) >>= take) ≡ option_and_then (λ s. option_and_then take (number_of s)) (find.as_number j)
-as_number-data_in take none json.null = refl
-as_number-data_in take none (json.boolean b) = refl
-as_number-data_in take none (json.number s) = taken take none (number_of s)
-as_number-data_in take none (json.string s) = refl
-as_number-data_in take none (json.array js) = refl
-as_number-data_in take none (json.object ms) = refl
+number_taken : {A : Type 0} (take : Num → Option A) → Keeps take → (j : json.Json) → (as_number (data_in j) >>= take) ≡ option_and_then take (figure_in j)
+number_taken take none json.null = refl
+number_taken take none (json.boolean b) = refl
+number_taken take none (json.number s) = taken take none (number_of s)
+number_taken take none (json.string s) = refl
+number_taken take none (json.array js) = refl
+number_taken take none (json.object ms) = refl
 
-pub as_i64_view : (v : Value) → (as_number (view v) >>= as_i64) ≡ option_and_then (λ s. option_and_then as_i64 (number_of s)) (find.as_number (value_view v))
+pub as_i64_view : (v : Value) → (as_number (view v) >>= as_i64) ≡ option_and_then as_i64 (figure_in (value_view v))
 unfolding view
-as_i64_view v = as_number-data_in as_i64 refl (value_view v)
+as_i64_view v = number_taken as_i64 refl (value_view v)
 
-pub as_u64_view : (v : Value) → (as_number (view v) >>= as_u64) ≡ option_and_then (λ s. option_and_then as_u64 (number_of s)) (find.as_number (value_view v))
+pub as_u64_view : (v : Value) → (as_number (view v) >>= as_u64) ≡ option_and_then as_u64 (figure_in (value_view v))
 unfolding view
-as_u64_view v = as_number-data_in as_u64 refl (value_view v)
+as_u64_view v = number_taken as_u64 refl (value_view v)
 
 pub items_in-tree_items : (vs : List Value) → items_in (tree_items vs) ≡ items_view vs
 unfolding view

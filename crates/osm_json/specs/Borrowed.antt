@@ -1,5 +1,5 @@
 -- The data that a value borrowed from a body stands for, in the words of what `serde_json` reads.
-use Rattle.std.specs.Prelude.{ℕ, pos, List, [], ◌∷◌, Bool, true, ◌&&◌, Option, Some, None, is_some, unwrap_or}
+use Rattle.std.specs.Prelude.{ℕ, pos, List, [], ◌∷◌, Bool, true, ◌&&◌, Option, Some, None, option_map, is_some, unwrap_or}
 use Rattle.std.specs.Borrow.{Bor}
 use Rattle.std.specs.Float.{binary64}
 use Rattle.std.specs.Float.Ieee.{of_int}
@@ -9,6 +9,7 @@ use Rattle.json.specs.Value.{value_view}
 use Rattle.json.specs.declared.value.Value.{Value as Tree}
 use Rattle.serde_json.specs.Data.{Num, unsigned, negative, float, Data, null, boolean, number, string, array, object, Items, no_items, item, Members, no_members, member, put}
 use Rattle.serde_json.specs.Read.{number_of}
+use Rattle.osm_json.specs.Reading.{◌>>=◌}
 use Rattle.osm_json.specs.declared.figure.Figure.{Figure}
 use Rattle.osm_json.specs.declared.figure.Figure.TheVariants as figures
 
@@ -22,6 +23,15 @@ figure_view (figures.Float x) = float x
 -- for a number that is too large for a float: any float, so that it is no integer
 abbrev pub too_large : Num
 too_large = float (of_int binary64 (pos 0))
+
+-- the number of a value that is one
+abbrev pub figure_in : json.Json → Option Num
+figure_in json.null = None
+figure_in (json.boolean b) = None
+figure_in (json.number s) = number_of s
+figure_in (json.string s) = None
+figure_in (json.array js) = None
+figure_in (json.object ms) = None
 
 -- ---- a grammar's value as data, where each number fits
 
@@ -87,11 +97,14 @@ members_view es = put_all es no_members
 
 -- ---- the texts of an object, by their names
 
--- a text, or None for what is no text
-abbrev pub text_view : Option (Bor (List ℕ)) → Data
-text_view None = null
-text_view (Some t) = string t.now
+-- a name, and a text where it names one
+abbrev pub Texts : Type 0
+Texts = List (Bor (List ℕ) × Option (Bor (List ℕ)))
 
-abbrev pub texts_view : List (Bor (List ℕ) × Option (Bor (List ℕ))) → Members
-texts_view [] = no_members
-texts_view (e ∷ es) = member e.0.now (text_view e.1) (texts_view es)
+abbrev pub text_in : Option (Bor (List ℕ)) → Option (List ℕ)
+text_in text = option_map (λ t. t.now) text
+
+-- each name must have a text
+abbrev pub text_pairs : Texts → Option (List (List ℕ × List ℕ))
+text_pairs [] = Some []
+text_pairs (e ∷ es) = text_in e.1 >>= λ text. text_pairs es >>= λ pairs. Some ((e.0.now, text) ∷ pairs)

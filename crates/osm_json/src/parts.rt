@@ -1,6 +1,6 @@
 //! The parts of a body that are copied from it.
 ghost use Rattle.std.specs.Prelude.{◌≡◌, IfOk};
-ghost use Rattle.osm_json.specs.Borrowed.{view, items_view, members_view, texts_view};
+ghost use Rattle.osm_json.specs.Borrowed.{view, items_view, members_view, text_in, text_pairs};
 ghost use Rattle.osm_json.specs.Reading.{Reads, id_of, each_of, pairs_of, tags_of, reference_of, content_of, version_of, given_tags, given_content, operation_of};
 
 use crate::fault::PartFault;
@@ -10,7 +10,7 @@ use crate::read::{
 use crate::tree;
 use crate::tree::member;
 use json::Value;
-use osm_base::{Kind, Text};
+use osm_base::{Kind, Memory, Text};
 use osm_change::{Action, RawOp};
 use osm_element::{Member, Members, RawContent, Refs, Tags};
 use std::alloc::Global;
@@ -48,13 +48,12 @@ fn references(alloc: Global, list: &[Value<'_>]) -> Result<Vec<Member<i64>>, Par
     Ok(found)
 }
 
-/// The members of an object by their names, the last of each name.
+/// The members of an object by their names, each with its text; the last of each name.
 fn texts<'a>(
     alloc: Global,
     members: &[(&'a str, Value<'a>)],
-) -> Result<BTreeMap<&'a str, Option<&'a str>>, PartFault>
-    ensures { IfOk result (λ m. pairs_of (texts_view m.entries)
-        ≡ pairs_of (members_view members.now)) }
+) -> Result<BTreeMap<&'a str, Option<&'a str>>, Memory>
+    ensures { IfOk result (λ m. text_pairs m.entries ≡ pairs_of (members_view members.now)) }
 {
     let mut found = BTreeMap::new(alloc);
     for member in members {
@@ -63,16 +62,25 @@ fn texts<'a>(
     Ok(found)
 }
 
-/// The texts of an object, which has nothing else.
+fn needed_text<'a>(text: &Option<&'a str>) -> Result<&'a str, PartFault>
+    ensures { Reads (λ t. t.now) result (text_in text.now) }
+{
+    match text {
+        Some(text) => Ok(text),
+        None => Err(PartFault::Malformed),
+    }
+}
+
+/// The texts, where there is nothing else.
 fn pairs(
     alloc: Global,
     texts: &BTreeMap<&str, Option<&str>>,
 ) -> Result<Vec<(Text, Text)>, PartFault>
-    ensures { Reads (λ v. v.items) result (pairs_of (texts_view texts.now.entries)) }
+    ensures { Reads (λ v. v.items) result (text_pairs texts.now.entries) }
 {
     let mut found = Vec::with_capacity(alloc, texts.len())?;
     for (key, text) in texts {
-        let text = text.ok_or(PartFault::Malformed)?;
+        let text = needed_text(text)?;
         let key = Text::of(alloc, key)?;
         let text = Text::of(alloc, text)?;
         found.push((key, text))?;
@@ -80,15 +88,22 @@ fn pairs(
     Ok(found)
 }
 
-pub(crate) fn tags(alloc: Global, value: &Value<'_>) -> Result<Tags, PartFault>
-    ensures { Reads (λ t. t) result (tags_of (view value.now)) }
+/// The members of an object, which are all texts.
+fn tags_among<'a>(alloc: Global, members: &[(&'a str, Value<'a>)]) -> Result<Tags, PartFault>
+    ensures { Reads (λ t. t) result (pairs_of (members_view members.now)) }
 {
-    let members = tree::members(value).ok_or(PartFault::Malformed)?;
     let texts = texts(alloc, members)?;
     let pairs = pairs(alloc, &texts)?;
     // A map's keys rise, as its length says.
     let _len = texts.len();
     Ok(Tags::of_rising(pairs))
+}
+
+pub(crate) fn tags(alloc: Global, value: &Value<'_>) -> Result<Tags, PartFault>
+    ensures { Reads (λ t. t) result (tags_of (view value.now)) }
+{
+    let members = tree::members(value).ok_or(PartFault::Malformed)?;
+    tags_among(alloc, members)
 }
 
 #[tactic(auto, unfolding(crate::specs::Reading::content_of))]
