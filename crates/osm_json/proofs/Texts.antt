@@ -1,5 +1,5 @@
 -- The texts of an object, put into a map one after the other.
-use Rattle.std.proofs.Common.{◌≡◌, ℕ, ◌+◌, ◌<◌, ◌≤◌, List, [], ◌∷◌, length, drop, get_or, Option, Some, None, option_map, Bor, Ordering, Less, Equal, Greater, nat_cmp, refl, sym, ap, ◌∙◌}
+use Rattle.std.proofs.Common.{◌≡◌, ℕ, ◌+◌, ◌<◌, ◌≤◌, List, [], ◌∷◌, ◌++◌, length, drop, get_or, Option, Some, None, option_map, Bor, Ordering, Less, Equal, Greater, nat_cmp, refl, sym, ap, ◌∙◌}
 use Rattle.std.proofs.lemmas.List.{at_drop_more, at_drop_all}
 use Rattle.std.specs.BTreeMap.{insert_entry}
 use Rattle.std.specs.Cmp.Lexicographic.{slice_cmp}
@@ -7,6 +7,7 @@ use Rattle.std.specs.Ordering.{match_ordering}
 use Rattle.serde_json.specs.Data.{Data, null, string, Members, no_members, member, put}
 use Rattle.serde_json.specs.Find.{as_str}
 use Rattle.osm_json.specs.Reading.{◌>>=◌, pairs_of}
+use Rattle.osm_json.proofs.EachOf.{with_front, regroup}
 use Rattle.osm_json.specs.Borrowed.{Entry, view, put_all, members_view, Texts, text_in, text_pairs}
 
 -- a text, and nothing for what is no text
@@ -82,3 +83,8 @@ pub puts_all : (es : List Entry) (i : ℕ) (found : Texts) → length es ≤ i �
 puts_all es i found le e =
     let same : texts_view found ≡ only_texts (members_view es) = sym (at_drop_all (λ (rest : List Entry). put_texts rest (texts_view found)) es i le) ∙ e ∙ put_texts-only_texts es no_members in
     pairs_of-texts_view found ∙ ap pairs_of same ∙ pairs_of-only_texts (members_view es)
+
+-- one more name with its text
+pub pairs_more : (front : List (List ℕ × List ℕ)) (key : Bor (List ℕ)) (given : Option (Bor (List ℕ))) (text : List ℕ) (rest : Texts) → text_in given ≡ Some text
+    → with_front (front ++ (key.now, text) ∷ []) (text_pairs rest) ≡ with_front front (text_pairs ((key, given) ∷ rest))
+pairs_more front key given text rest e = sym (regroup front (key.now, text) (text_pairs rest)) ∙ ap (λ found. with_front front (found >>= λ t. text_pairs rest >>= λ pairs. Some ((key.now, t) ∷ pairs))) (sym e)
