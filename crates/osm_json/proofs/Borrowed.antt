@@ -1,10 +1,7 @@
 -- A borrowed value whose numbers fit is the data that `serde_json` reads, and looking into one finds what looking into the other does.
-use Rattle.std.proofs.Common.{◌≡◌, ℕ, ◌+◌, ◌<◌, ◌≤◌, List, [], ◌∷◌, length, drop, get_or, Bool, true, false, ◌&&◌, cond, bytes_eq, Option, Some, None, option_map, option_and_then, is_some, unwrap_or, Bor, Vec, Global, Ordering, Less, Equal, Greater, nat_cmp, refl, sym, ap, ◌∙◌}
+use Rattle.std.proofs.Common.{◌≡◌, ℕ, List, [], ◌∷◌, Bool, true, false, ◌&&◌, cond, bytes_eq, Option, Some, None, option_map, option_and_then, is_some, unwrap_or, Bor, Vec, Global, refl, sym, ap, ◌∙◌}
 use Rattle.std.proofs.lemmas.Bool.{true≢false, false≢true}
 use Rattle.std.proofs.lemmas.Slice.Eq.{bytes_eq-Decides}
-use Rattle.std.specs.BTreeMap.{insert_entry}
-use Rattle.std.specs.Cmp.Lexicographic.{slice_cmp}
-use Rattle.std.specs.Ordering.{match_ordering}
 use Rattle.json.specs.Json as json
 use Rattle.json.specs.Token.{Token}
 use Rattle.json.specs.Lex.{tokens}
@@ -12,11 +9,11 @@ use Rattle.json.specs.Find as find
 use Rattle.json.specs.Value.{value_view, items_view as tree_items, members_view as tree_members}
 use Rattle.json.specs.declared.value.Value.{Array, Object}
 use Rattle.json.proofs.Trees.{view-Array, view-Object}
-use Rattle.serde_json.specs.Data.{Num, Data, null, number, string, array, object, Items, no_items, item, Members, no_members, member, put}
+use Rattle.serde_json.specs.Data.{Num, Data, number, array, object, item, Members, no_members, put}
 use Rattle.serde_json.specs.Read.{number_of, of_json, of_items, of_members, read}
-use Rattle.serde_json.specs.Find.{get, get_member, as_str, as_bool, as_number, as_array, as_object, as_i64, as_u64}
+use Rattle.serde_json.specs.Find.{get, get_member, as_str, as_bool, as_number, as_i64, as_u64}
 use Rattle.serde_json.proofs.Views.{get_member-put, get_member-put_other}
-use Rattle.osm_json.specs.Reading.{◌>>=◌, pairs_of}
+use Rattle.osm_json.specs.Reading.{◌>>=◌}
 use Rattle.osm_json.specs.Borrowed.{too_large, figure_in, fits, items_fit, members_fit, data_in, items_in, members_in, Value, Entry, view, items_view, put_all, members_view}
 
 -- ---- where the numbers fit

@@ -5,11 +5,11 @@ ghost use Rattle.osm_json.specs.Reading.{Gives, Reads, block_of, blocks_of, each
 ghost use Rattle.osm_change.specs.Build.{IsRaw};
 ghost use Rattle.osm_json.specs.Walk.{block_view, ReadsOn};
 
+use crate::document::document;
 use crate::fault::{BodyFault, PartFault};
 use crate::parts::operation;
 use crate::read::{needed_list, optional_bool};
 use crate::tree;
-use crate::document::document;
 use crate::tree::member;
 use json::{Scratch, Value};
 use osm_change::{Action, RawOp};

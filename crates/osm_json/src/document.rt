@@ -34,7 +34,7 @@ fn whole_value<'a>(
     ensures { MatchDocument result (read text.now) }
 {
     let mut reader = Reader::new(text, scratch)?;
-    let value = match Value::read(alloc, &mut reader, DEPTH_LIMIT) {
+    let found = match Value::read(alloc, &mut reader, DEPTH_LIMIT) {
         Ok(value) => value,
         Err(Error::OutOfMemory) => return Err(BodyFault::Memory),
         Err(_) => return Err(BodyFault::NotJson),
@@ -42,8 +42,8 @@ fn whole_value<'a>(
     if reader.next().is_some() {
         return Err(BodyFault::NotJson);
     }
-    if !fits(&value) {
+    if !fits(&found) {
         return Err(BodyFault::NotJson);
     }
-    Ok(value)
+    Ok(found)
 }

@@ -136,7 +136,11 @@ pub(crate) fn version(action: Action, value: &Value<'_>) -> Option<Option<u64>>
     }
 }
 
-pub(crate) fn element_tags(alloc: Global, action: Action, value: &Value<'_>) -> Result<Tags, PartFault>
+pub(crate) fn element_tags(
+    alloc: Global,
+    action: Action,
+    value: &Value<'_>,
+) -> Result<Tags, PartFault>
     ensures { Reads (λ t. t) result (given_tags action (view value.now)) }
 {
     match (action, member(value, "tags")) {
@@ -161,7 +165,11 @@ pub(crate) fn element_content(
 
 /// One operation, as its action asks for it.
 #[tactic(auto, unfolding(crate::specs::Reading::operation_of))]
-pub(crate) fn operation(alloc: Global, action: Action, value: &Value<'_>) -> Result<RawOp, PartFault>
+pub(crate) fn operation(
+    alloc: Global,
+    action: Action,
+    value: &Value<'_>,
+) -> Result<RawOp, PartFault>
     ensures { Reads (λ op. op) result (operation_of action (view value.now)) }
 {
     let kind = needed_kind(value, "type").ok_or(PartFault::Malformed)?;

@@ -101,7 +101,8 @@ pub(crate) fn list<'v, 'a>(value: &'v Value<'a>) -> Option<&'v Vec<Value<'a>>>
 {
     match value {
         Value::Array(list) => Some(list),
-        Value::Null | Value::Bool(_) | Value::Number(_) | Value::String(_) | Value::Object(_) => None,
+        Value::Null | Value::Bool(_) | Value::Number(_) | Value::String(_) | Value::Object(_) =>
+            None,
     }
 }
 
@@ -111,6 +112,7 @@ pub(crate) fn members<'v, 'a>(value: &'v Value<'a>) -> Option<&'v Vec<(&'a str, 
 {
     match value {
         Value::Object(members) => Some(members),
-        Value::Null | Value::Bool(_) | Value::Number(_) | Value::String(_) | Value::Array(_) => None,
+        Value::Null | Value::Bool(_) | Value::Number(_) | Value::String(_) | Value::Array(_) =>
+            None,
     }
 }
