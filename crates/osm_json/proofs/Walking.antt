@@ -5,8 +5,7 @@ use Rattle.std.proofs.lemmas.List.{at_drop_more, at_drop_all, length_push, appen
 use Rattle.std.proofs.lemmas.Str.{is_utf8-from_IsUtf8, IsUtf8-from_is_utf8}
 use Rattle.serde_json.specs.Data.{Data}
 use Rattle.serde_json.specs.Read.{read}
-use Rattle.serde_json.specs.View.{view, items_view}
-use Rattle.serde_json.specs.declared.value.Value.{Value}
+use Rattle.osm_json.specs.Borrowed.{Value, view, items_view}
 use Rattle.osm_change.specs.declared.raw.Action.{Action}
 use Rattle.osm_change.specs.declared.raw.RawOp.{RawOp}
 use Rattle.osm_json.specs.declared.change.Block.{Block as Lent}
@@ -17,8 +16,8 @@ use Rattle.osm_json.specs.Walk.{with_front, operations_after, block_view}
 
 -- ---- the data of a body
 
-pub data_found : (body : List ℕ) (d : Data) → IsUtf8 body → read body ≡ Some d → data_of body ≡ Some d
-data_found body d utf8 e = rw (is_utf8-from_IsUtf8 body utf8) e
+pub data_read : (body : List ℕ) → IsUtf8 body → data_of body ≡ read body
+data_read body utf8 = rw (is_utf8-from_IsUtf8 body utf8) refl
 
 none_chosen : (b : Bool) (found : Option Data) → (b ≡ true → found ≡ None) → (if b then found else None) ≡ None
 none_chosen true found h = h refl

@@ -1,4 +1,5 @@
 pub mod Answered
+pub mod Borrowed
 pub mod Fields
 pub mod Moment
 pub mod Reading

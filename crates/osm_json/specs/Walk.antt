@@ -1,12 +1,11 @@
 -- For private clauses: an upload as its functions walk it.
 use Rattle.std.specs.Prelude.{◌≡◌, ◌+◌, List, ◌++◌, length, Option, Some, None, Result, Ok, Err}
 use Rattle.serde_json.specs.Data.{Data}
-use Rattle.serde_json.specs.View.{view, items_view}
-use Rattle.serde_json.specs.declared.value.Value.{Value}
 use Rattle.osm_change.specs.declared.raw.RawOp.{RawOp}
 use Rattle.osm_json.specs.declared.change.Block.{Block as Lent}
 use Rattle.osm_json.specs.declared.fault.BodyFault.{BodyFault}
 use Rattle.osm_json.specs.declared.fault.BodyFault.TheVariants.{NotJson, Shape}
+use Rattle.osm_json.specs.Borrowed.{Value, view, items_view}
 use Rattle.osm_json.specs.Reading.{Block, Step, operations_from, IsFault}
 
 abbrev pub block_view : Lent → Block

@@ -6,8 +6,10 @@ mod change;
 mod changesets;
 mod contents;
 mod diffs;
+mod document;
 mod elements;
 mod fault;
+mod figure;
 mod moment;
 mod parts;
 mod read;
@@ -16,6 +18,7 @@ mod send;
 mod single;
 mod status;
 mod title;
+mod tree;
 
 pub use answers::answer_body;
 pub use change::read_change;

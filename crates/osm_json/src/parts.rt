@@ -1,20 +1,23 @@
 //! The parts of a body that are copied from it.
-ghost use Rattle.std.specs.Prelude.{◌≡◌};
-ghost use Rattle.serde_json.specs.View.{view, items_view, members_view};
+ghost use Rattle.std.specs.Prelude.{◌≡◌, IfOk};
+ghost use Rattle.osm_json.specs.Borrowed.{view, items_view, members_view, text_in, text_pairs};
 ghost use Rattle.osm_json.specs.Reading.{Reads, id_of, each_of, pairs_of, tags_of, reference_of, content_of, version_of, given_tags, given_content, operation_of};
 
 use crate::fault::PartFault;
 use crate::read::{
     id, needed_id, needed_integer, needed_kind, needed_list, optional_count, optional_text,
 };
-use osm_base::{Kind, Text};
+use crate::tree;
+use crate::tree::member;
+use json::Value;
+use osm_base::{Kind, Memory, Text};
 use osm_change::{Action, RawOp};
 use osm_element::{Member, Members, RawContent, Refs, Tags};
-use serde_json::{Map, Value};
 use std::alloc::Global;
+use std::collections::BTreeMap;
 
 /// The ids that a list has.
-fn ids(alloc: Global, list: &[Value]) -> Result<Vec<i64>, PartFault>
+fn ids(alloc: Global, list: &[Value<'_>]) -> Result<Vec<i64>, PartFault>
     ensures { Reads (λ v. v.items) result (each_of id_of (items_view list.now)) }
 {
     let mut found = Vec::with_capacity(alloc, list.len())?;
@@ -25,7 +28,7 @@ fn ids(alloc: Global, list: &[Value]) -> Result<Vec<i64>, PartFault>
 }
 
 #[tactic(auto, unfolding(crate::specs::Reading::reference_of))]
-fn reference(alloc: Global, value: &Value) -> Result<Member<i64>, PartFault>
+fn reference(alloc: Global, value: &Value<'_>) -> Result<Member<i64>, PartFault>
     ensures { Reads (λ m. m) result (reference_of (view value.now)) }
 {
     let kind = needed_kind(value, "type").ok_or(PartFault::Malformed)?;
@@ -35,7 +38,7 @@ fn reference(alloc: Global, value: &Value) -> Result<Member<i64>, PartFault>
     Ok(Member { kind, name, role })
 }
 
-fn references(alloc: Global, list: &[Value]) -> Result<Vec<Member<i64>>, PartFault>
+fn references(alloc: Global, list: &[Value<'_>]) -> Result<Vec<Member<i64>>, PartFault>
     ensures { Reads (λ v. v.items) result (each_of reference_of (items_view list.now)) }
 {
     let mut found = Vec::with_capacity(alloc, list.len())?;
@@ -45,32 +48,66 @@ fn references(alloc: Global, list: &[Value]) -> Result<Vec<Member<i64>>, PartFau
     Ok(found)
 }
 
-/// The members of an object, which are all texts.
-fn pairs(alloc: Global, map: &Map<String, Value>) -> Result<Vec<(Text, Text)>, PartFault>
-    ensures { Reads (λ v. v.items) result (pairs_of (members_view map.now.entries)) }
+/// The members of an object by their names, each with its text; the last of each name.
+fn texts<'a>(
+    alloc: Global,
+    members: &[(&'a str, Value<'a>)],
+) -> Result<BTreeMap<&'a str, Option<&'a str>>, Memory>
+    ensures { IfOk result (λ m. text_pairs m.entries ≡ pairs_of (members_view members.now)) }
 {
-    let mut found = Vec::with_capacity(alloc, map.len())?;
-    for (key, value) in map {
-        let text = value.as_str().ok_or(PartFault::Malformed)?;
-        let key = Text::of(alloc, key.as_str())?;
+    let mut found = BTreeMap::new(alloc);
+    for member in members {
+        drop(found.insert(member.0, tree::text(&member.1))?);
+    }
+    Ok(found)
+}
+
+fn needed_text<'a>(text: &Option<&'a str>) -> Result<&'a str, PartFault>
+    ensures { Reads (λ t. t.now) result (text_in text.now) }
+{
+    match text {
+        Some(text) => Ok(text),
+        None => Err(PartFault::Malformed),
+    }
+}
+
+/// The texts, where there is nothing else.
+fn pairs(
+    alloc: Global,
+    texts: &BTreeMap<&str, Option<&str>>,
+) -> Result<Vec<(Text, Text)>, PartFault>
+    ensures { Reads (λ v. v.items) result (text_pairs texts.now.entries) }
+{
+    let mut found = Vec::with_capacity(alloc, texts.len())?;
+    for (key, text) in texts {
+        let text = needed_text(text)?;
+        let key = Text::of(alloc, key)?;
         let text = Text::of(alloc, text)?;
         found.push((key, text))?;
     }
     Ok(found)
 }
 
-pub(crate) fn tags(alloc: Global, value: &Value) -> Result<Tags, PartFault>
-    ensures { Reads (λ t. t) result (tags_of (view value.now)) }
+/// The members of an object, which are all texts.
+fn tags_among<'a>(alloc: Global, members: &[(&'a str, Value<'a>)]) -> Result<Tags, PartFault>
+    ensures { Reads (λ t. t) result (pairs_of (members_view members.now)) }
 {
-    let map = value.as_object().ok_or(PartFault::Malformed)?;
-    let pairs = pairs(alloc, map)?;
+    let texts = texts(alloc, members)?;
+    let pairs = pairs(alloc, &texts)?;
     // A map's keys rise, as its length says.
-    let _len = map.len();
+    let _len = texts.len();
     Ok(Tags::of_rising(pairs))
 }
 
+pub(crate) fn tags(alloc: Global, value: &Value<'_>) -> Result<Tags, PartFault>
+    ensures { Reads (λ t. t) result (tags_of (view value.now)) }
+{
+    let members = tree::members(value).ok_or(PartFault::Malformed)?;
+    tags_among(alloc, members)
+}
+
 #[tactic(auto, unfolding(crate::specs::Reading::content_of))]
-fn content(alloc: Global, kind: Kind, value: &Value) -> Result<RawContent, PartFault>
+fn content(alloc: Global, kind: Kind, value: &Value<'_>) -> Result<RawContent, PartFault>
     ensures { Reads (λ c. c) result (content_of kind (view value.now)) }
 {
     match kind {
@@ -90,7 +127,7 @@ fn content(alloc: Global, kind: Kind, value: &Value) -> Result<RawContent, PartF
     }
 }
 
-pub(crate) fn version(action: Action, value: &Value) -> Option<Option<u64>>
+pub(crate) fn version(action: Action, value: &Value<'_>) -> Option<Option<u64>>
     ensures { result ≡ version_of action (view value.now) }
 {
     match action {
@@ -99,12 +136,16 @@ pub(crate) fn version(action: Action, value: &Value) -> Option<Option<u64>>
     }
 }
 
-pub(crate) fn element_tags(alloc: Global, action: Action, value: &Value) -> Result<Tags, PartFault>
+pub(crate) fn element_tags(
+    alloc: Global,
+    action: Action,
+    value: &Value<'_>,
+) -> Result<Tags, PartFault>
     ensures { Reads (λ t. t) result (given_tags action (view value.now)) }
 {
-    match (action, value.get("tags")) {
+    match (action, member(value, "tags")) {
         (Action::Delete { .. }, _) | (_, None) => Ok(Tags::none(alloc)),
-        (_, Some(member)) => tags(alloc, member),
+        (_, Some(found)) => tags(alloc, found),
     }
 }
 
@@ -112,7 +153,7 @@ pub(crate) fn element_content(
     alloc: Global,
     action: Action,
     kind: Kind,
-    value: &Value,
+    value: &Value<'_>,
 ) -> Result<Option<RawContent>, PartFault>
     ensures { Reads (λ c. c) result (given_content action kind (view value.now)) }
 {
@@ -124,7 +165,11 @@ pub(crate) fn element_content(
 
 /// One operation, as its action asks for it.
 #[tactic(auto, unfolding(crate::specs::Reading::operation_of))]
-pub(crate) fn operation(alloc: Global, action: Action, value: &Value) -> Result<RawOp, PartFault>
+pub(crate) fn operation(
+    alloc: Global,
+    action: Action,
+    value: &Value<'_>,
+) -> Result<RawOp, PartFault>
     ensures { Reads (λ op. op) result (operation_of action (view value.now)) }
 {
     let kind = needed_kind(value, "type").ok_or(PartFault::Malformed)?;

@@ -1,26 +1,28 @@
 //! The parts of a body that are read without memory.
 ghost use Rattle.std.specs.Prelude.{◌≡◌, codes, option_map};
-ghost use Rattle.serde_json.specs.View.{view, items_view, members_view};
+ghost use Rattle.osm_json.specs.Borrowed.{view, items_view};
 ghost use Rattle.osm_json.specs.Reading.{◌>>=◌ as bind, repeated, single_id, integer_of, id_of, count_of, kind_of, needed, optional};
 ghost use Rattle.osm_base.specs.Key.{kind_eq};
-ghost use Rattle.serde_json.specs.Find.{get, as_array, as_object, as_str, as_bool};
+ghost use Rattle.serde_json.specs.Find.{as_array, as_str, as_bool};
 
+use crate::tree;
+use crate::tree::member;
+use json::Value;
 use osm_base::Kind;
 use osm_change::Action;
-use serde_json::{Map, Value};
 
 /// A whole number that fits 64 bits with a sign.
-pub(crate) fn integer(value: &Value) -> Option<i64>
+pub(crate) fn integer(value: &Value<'_>) -> Option<i64>
     ensures { result ≡ integer_of (view value.now) }
 {
-    value.as_i64()
+    tree::integer(value)
 }
 
 /// The number of an element, or its placeholder.
-pub(crate) fn id(value: &Value) -> Option<i64>
+pub(crate) fn id(value: &Value<'_>) -> Option<i64>
     ensures { result ≡ id_of (view value.now) }
 {
-    let number = value.as_i64()?;
+    let number = tree::integer(value)?;
     let size = number.unsigned_abs();
     if 0 < size && size < 1 << 63 {
         Some(number)
@@ -30,10 +32,10 @@ pub(crate) fn id(value: &Value) -> Option<i64>
 }
 
 /// A version or a changeset.
-pub(crate) fn count(value: &Value) -> Option<u64>
+pub(crate) fn count(value: &Value<'_>) -> Option<u64>
     ensures { result ≡ count_of (view value.now) }
 {
-    let number = value.as_u64()?;
+    let number = tree::natural(value)?;
     if 0 < number && number < 1 << 63 {
         Some(number)
     } else {
@@ -41,10 +43,10 @@ pub(crate) fn count(value: &Value) -> Option<u64>
     }
 }
 
-pub(crate) fn kind(value: &Value) -> Option<Kind>
+pub(crate) fn kind(value: &Value<'_>) -> Option<Kind>
     ensures { result ≡ kind_of (view value.now) }
 {
-    let name = value.as_str()?;
+    let name = tree::text(value)?;
     if name == "node" {
         Some(Kind::Node)
     } else if name == "way" {
@@ -58,85 +60,85 @@ pub(crate) fn kind(value: &Value) -> Option<Kind>
 
 // A member of an object by its name, read.
 
-pub(crate) fn needed_integer(value: &Value, name: &str) -> Option<i64>
+pub(crate) fn needed_integer(value: &Value<'_>, name: &str) -> Option<i64>
     ensures { result ≡ needed name.now integer_of (view value.now) }
 {
-    integer(value.get(name)?)
+    integer(member(value, name)?)
 }
 
-pub(crate) fn needed_id(value: &Value, name: &str) -> Option<i64>
+pub(crate) fn needed_id(value: &Value<'_>, name: &str) -> Option<i64>
     ensures { result ≡ needed name.now id_of (view value.now) }
 {
-    id(value.get(name)?)
+    id(member(value, name)?)
 }
 
-pub(crate) fn needed_kind(value: &Value, name: &str) -> Option<Kind>
+pub(crate) fn needed_kind(value: &Value<'_>, name: &str) -> Option<Kind>
     ensures { result ≡ needed name.now kind_of (view value.now) }
 {
-    kind(value.get(name)?)
+    kind(member(value, name)?)
 }
 
-pub(crate) fn needed_list<'v>(value: &'v Value, name: &str) -> Option<&'v Vec<Value>>
+pub(crate) fn needed_list<'v, 'a>(value: &'v Value<'a>, name: &str) -> Option<&'v Vec<Value<'a>>>
     ensures { option_map (λ v. items_view v.now.items) result
         ≡ needed name.now as_array (view value.now) }
 {
-    value.get(name)?.as_array()
+    tree::list(member(value, name)?)
 }
 
-pub(crate) fn needed_count(value: &Value, name: &str) -> Option<u64>
+pub(crate) fn needed_count(value: &Value<'_>, name: &str) -> Option<u64>
     ensures { result ≡ needed name.now count_of (view value.now) }
 {
-    count(value.get(name)?)
+    count(member(value, name)?)
 }
 
-pub(crate) fn optional_count(value: &Value, name: &str) -> Option<Option<u64>>
+pub(crate) fn optional_count(value: &Value<'_>, name: &str) -> Option<Option<u64>>
     ensures { result ≡ optional name.now count_of (view value.now) }
 {
-    match value.get(name) {
+    match member(value, name) {
         None => Some(None),
-        Some(member) => Some(Some(count(member)?)),
+        Some(found) => Some(Some(count(found)?)),
     }
 }
 
-pub(crate) fn optional_bool(value: &Value, name: &str) -> Option<Option<bool>>
+pub(crate) fn optional_bool(value: &Value<'_>, name: &str) -> Option<Option<bool>>
     ensures { result ≡ optional name.now as_bool (view value.now) }
 {
-    match value.get(name) {
+    match member(value, name) {
         None => Some(None),
-        Some(member) => Some(Some(member.as_bool()?)),
+        Some(found) => Some(Some(tree::flag(found)?)),
     }
 }
 
-pub(crate) fn optional_text<'v>(value: &'v Value, name: &str) -> Option<Option<&'v str>>
+pub(crate) fn optional_text<'a>(value: &Value<'a>, name: &str) -> Option<Option<&'a str>>
     ensures { option_map (option_map (λ text. text.now)) result
         ≡ optional name.now as_str (view value.now) }
 {
-    match value.get(name) {
+    match member(value, name) {
         None => Some(None),
-        Some(member) => Some(Some(member.as_str()?)),
+        Some(found) => Some(Some(tree::text(found)?)),
     }
 }
 
-pub(crate) fn optional_kind(value: &Value, name: &str) -> Option<Option<Kind>>
+pub(crate) fn optional_kind(value: &Value<'_>, name: &str) -> Option<Option<Kind>>
     ensures { result ≡ optional name.now kind_of (view value.now) }
 {
-    match value.get(name) {
+    match member(value, name) {
         None => Some(None),
-        Some(member) => Some(Some(kind(member)?)),
+        Some(found) => Some(Some(kind(found)?)),
     }
 }
 
-pub(crate) fn optional_id(value: &Value, name: &str) -> Option<Option<i64>>
+pub(crate) fn optional_id(value: &Value<'_>, name: &str) -> Option<Option<i64>>
     ensures { result ≡ optional name.now id_of (view value.now) }
 {
-    match value.get(name) {
+    match member(value, name) {
         None => Some(None),
-        Some(member) => Some(Some(id(member)?)),
+        Some(found) => Some(Some(id(found)?)),
     }
 }
 
 /// The kind that the path names, unless the body names another.
-pub(crate) fn path_kind(value: &Value, kind: Kind) -> Option<Kind>
+pub(crate) fn path_kind(value: &Value<'_>, kind: Kind) -> Option<Kind>
     ensures { result ≡ bind (optional (codes "type") kind_of (view value.now)) (repeated kind_eq kind) }
 {
     match optional_kind(value, "type")? {
@@ -146,7 +148,7 @@ pub(crate) fn path_kind(value: &Value, kind: Kind) -> Option<Kind>
 }
 
 /// The id that the path names, unless the body names another; for a creation a placeholder.
-pub(crate) fn path_id(value: &Value, action: Action, id: i64) -> Option<i64>
+pub(crate) fn path_id(value: &Value<'_>, action: Action, id: i64) -> Option<i64>
     ensures { result ≡ single_id action id (view value.now) }
 {
     if let Action::Create = action {

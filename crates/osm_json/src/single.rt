@@ -1,25 +1,27 @@
 //! The bodies of changesets and of single elements.
 ghost use Rattle.std.specs.Prelude.{◌≡◌, IfOk};
-ghost use Rattle.serde_json.specs.View.{view};
+ghost use Rattle.osm_json.specs.Borrowed.{view};
 ghost use Rattle.osm_json.specs.Reading.{Gives, Reads, changeset_tags, tags_among, single_of, single_in};
 ghost use Rattle.osm_change.specs.Build.{IsReference, IsRawOp};
 
-use crate::change::document;
+use crate::document::document;
 use crate::fault::{BodyFault, PartFault};
 use crate::parts::{element_content, element_tags, tags, version};
 use crate::read::{needed_count, path_id, path_kind};
+use crate::tree;
+use crate::tree::member;
+use json::{Scratch, Value};
 use osm_base::Kind;
 use osm_change::{Action, RawOp};
 use osm_element::Tags;
-use serde_json::Value;
 use std::alloc::Global;
 
-fn document_tags(alloc: Global, value: &Value, needed: bool) -> Result<Tags, PartFault>
+fn document_tags(alloc: Global, value: &Value<'_>, needed: bool) -> Result<Tags, PartFault>
     ensures { Reads (λ t. t) result (tags_among needed (view value.now)) }
 {
-    match value.get("tags") {
-        Some(member) => tags(alloc, member),
-        None => if needed || !value.is_object() {
+    match member(value, "tags") {
+        Some(found) => tags(alloc, found),
+        None => if needed || tree::members(value).is_none() {
             Err(PartFault::Malformed)
         } else {
             Ok(Tags::none(alloc))
@@ -35,7 +37,8 @@ pub fn read_tags(alloc: Global, body: &[u8], needed: bool) -> Result<Tags, BodyF
     if !needed && body.is_empty() {
         return Ok(Tags::none(alloc));
     }
-    let document = document(alloc, body)?;
+    let mut scratch = Scratch::new(alloc);
+    let document = document(alloc, body, &mut scratch)?;
     match document_tags(alloc, &document, needed) {
         Ok(found) => Ok(found),
         Err(PartFault::Memory) => Err(BodyFault::Memory),
@@ -46,7 +49,7 @@ pub fn read_tags(alloc: Global, body: &[u8], needed: bool) -> Result<Tags, BodyF
 #[tactic(auto, unfolding(crate::specs::Reading::single_of))]
 fn single(
     alloc: Global,
-    value: &Value,
+    value: &Value<'_>,
     action: Action,
     kind: Kind,
     id: i64,
@@ -85,7 +88,8 @@ pub fn read_single(
     ensures value { Gives (λ p. p) result (single_in action kind id body.now) }
     ensures raw { IsReference id → IfOk result (λ p. IsRawOp p.1) }
 {
-    let document = document(alloc, body)?;
+    let mut scratch = Scratch::new(alloc);
+    let document = document(alloc, body, &mut scratch)?;
     match single(alloc, &document, action, kind, id) {
         Ok(found) => Ok(found),
         Err(PartFault::Memory) => Err(BodyFault::Memory),

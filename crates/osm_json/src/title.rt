@@ -1,13 +1,14 @@
 //! The title of a redaction.
 ghost use Rattle.std.specs.Prelude.{◌≡◌, length, option_map};
 ghost use Rattle.std.specs.Str.{chars};
-ghost use Rattle.serde_json.specs.View.{view};
+ghost use Rattle.osm_json.specs.Borrowed.{view};
 ghost use Rattle.osm_json.specs.Reading.{Gives, title_of, title_in, is_title};
 
-use crate::change::document;
+use crate::document::document;
 use crate::fault::BodyFault;
+use crate::tree;
+use json::{Scratch, Value};
 use osm_base::{CHARACTER_LIMIT, Text};
-use serde_json::Value;
 use std::alloc::Global;
 
 /// A character is one Unicode scalar value.
@@ -24,10 +25,10 @@ fn has_title_length(text: &str) -> bool
     0 < count && count <= CHARACTER_LIMIT
 }
 
-fn title(document: &Value) -> Option<&str>
+fn title<'a>(document: &Value<'a>) -> Option<&'a str>
     ensures { option_map (λ t. t.now) result ≡ title_of (view document.now) }
 {
-    let text = document.get("title")?.as_str()?;
+    let text = tree::text(tree::member(document, "title")?)?;
     if has_title_length(text) {
         Some(text)
     } else {
@@ -39,7 +40,8 @@ fn title(document: &Value) -> Option<&str>
 pub fn read_title(alloc: Global, body: &[u8]) -> Result<Text, BodyFault>
     ensures { Gives (λ t. t) result (title_in body.now) }
 {
-    let document = document(alloc, body)?;
+    let mut scratch = Scratch::new(alloc);
+    let document = document(alloc, body, &mut scratch)?;
     match title(&document) {
         Some(text) => Ok(Text::of(alloc, text)?),
         None => Err(BodyFault::Shape { op: 0 }),

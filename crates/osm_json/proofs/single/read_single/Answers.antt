@@ -1,6 +1,6 @@
 use Rattle.std.proofs.Common.{w64}
 use Rattle.std.proofs.lemmas.Int.{to_z-of_z}
-use Rattle.serde_json.specs.View.{view}
+use Rattle.osm_json.specs.Borrowed.{view}
 use Rattle.osm_json.proofs.Raws.{single_is}
 use Rattle.osm_json.proofs.single.read_single.Goals as goal
 
