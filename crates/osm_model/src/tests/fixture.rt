@@ -14,34 +14,47 @@ use std::test::Fail;
 /// When most tests begin, in seconds since 1970.
 pub const START: u64 = 1_700_000_000;
 
-/// An operation of an upload, in short.
+/// An operation of an upload, in short: its kind, its id or placeholder, the version that it
+/// replaces, and the nodes of a way or the members of a relation.
 #[derive(Clone, Copy)]
-pub struct Sketch<'a> {
-    pub action: Action,
-    pub kind: Kind,
-    pub id: i64,
-    pub version: Option<u64>,
-    pub changeset: Option<u64>,
-    /// Latitude and longitude of a node.
-    pub at: (i64, i64),
-    /// The nodes of a way, or the members of a relation.
-    pub lists: &'a [(Kind, i64)],
+pub enum Sketch<'a> {
+    Create(Kind, i64, &'a [(Kind, i64)]),
+    Modify(Kind, i64, u64, &'a [(Kind, i64)]),
+    Delete(Kind, i64, u64),
+    DeleteIfUnused(Kind, i64, u64),
+    /// A create of a node: its placeholder, latitude and longitude.
+    Place(i64, i64, i64),
+    /// A create of a node that names a changeset: the changeset, and the placeholder.
+    Elsewhere(u64, i64),
 }
 
-pub fn create<'a>(kind: Kind, id: i64, lists: &'a [(Kind, i64)]) -> Sketch<'a> {
-    Sketch {
+/// The parts of an operation.
+#[derive(Clone, Copy)]
+struct Parts<'a> {
+    action: Action,
+    kind: Kind,
+    id: i64,
+    version: Option<u64>,
+    changeset: Option<u64>,
+    /// Latitude and longitude of a node.
+    at: (i64, i64),
+    lists: &'a [(Kind, i64)],
+}
+
+fn created<'a>(kind: Kind, id: i64, at: (i64, i64), lists: &'a [(Kind, i64)]) -> Parts<'a> {
+    Parts {
         action: Action::Create,
         kind,
         id,
         version: None,
         changeset: None,
-        at: (481_400_000, 115_400_000),
+        at,
         lists,
     }
 }
 
-pub fn modify<'a>(kind: Kind, id: i64, version: u64, lists: &'a [(Kind, i64)]) -> Sketch<'a> {
-    Sketch {
+fn modified<'a>(kind: Kind, id: i64, version: u64, lists: &'a [(Kind, i64)]) -> Parts<'a> {
+    Parts {
         action: Action::Modify,
         kind,
         id,
@@ -52,9 +65,9 @@ pub fn modify<'a>(kind: Kind, id: i64, version: u64, lists: &'a [(Kind, i64)]) -
     }
 }
 
-pub fn delete(kind: Kind, id: i64, version: u64) -> Sketch<'static> {
-    Sketch {
-        action: Action::Delete { if_unused: false },
+fn deleted(kind: Kind, id: i64, version: u64, if_unused: bool) -> Parts<'static> {
+    Parts {
+        action: Action::Delete { if_unused },
         kind,
         id,
         version: Some(version),
@@ -64,10 +77,27 @@ pub fn delete(kind: Kind, id: i64, version: u64) -> Sketch<'static> {
     }
 }
 
-pub fn delete_if_unused(kind: Kind, id: i64, version: u64) -> Sketch<'static> {
-    Sketch {
-        action: Action::Delete { if_unused: true },
-        ..delete(kind, id, version)
+/// A node where most of them are, which names a changeset.
+fn elsewhere(changeset: u64, id: i64) -> Parts<'static> {
+    Parts {
+        action: Action::Create,
+        kind: Kind::Node,
+        id,
+        version: None,
+        changeset: Some(changeset),
+        at: (0, 0),
+        lists: &[],
+    }
+}
+
+fn parts_of<'a>(sketch: Sketch<'a>) -> Parts<'a> {
+    match sketch {
+        Sketch::Create(kind, id, lists) => created(kind, id, (481_400_000, 115_400_000), lists),
+        Sketch::Modify(kind, id, version, lists) => modified(kind, id, version, lists),
+        Sketch::Delete(kind, id, version) => deleted(kind, id, version, false),
+        Sketch::DeleteIfUnused(kind, id, version) => deleted(kind, id, version, true),
+        Sketch::Place(id, lat7, lon7) => created(Kind::Node, id, (lat7, lon7), &[]),
+        Sketch::Elsewhere(changeset, id) => elsewhere(changeset, id),
     }
 }
 
@@ -106,50 +136,50 @@ fn members(alloc: Global, lists: &[(Kind, i64)]) -> Result<Vec<Member<i64>>, Fai
     Ok(made)
 }
 
-fn content(alloc: Global, sketch: &Sketch<'_>) -> Result<RawContent, Fail>
-    ensures { IfOk result (IsRawContent sketch.now.kind) }
+fn content(alloc: Global, parts: &Parts<'_>) -> Result<RawContent, Fail>
+    ensures { IfOk result (IsRawContent parts.now.kind) }
 {
-    match sketch.kind {
+    match parts.kind {
         Kind::Node => Ok(RawContent::Node {
-            lat7: sketch.at.0,
-            lon7: sketch.at.1,
+            lat7: parts.at.0,
+            lon7: parts.at.1,
         }),
-        Kind::Way => Ok(RawContent::Way(Refs::of(nodes(alloc, sketch.lists)?))),
-        Kind::Relation => Ok(RawContent::Relation(Members::of(members(alloc, sketch.lists)?))),
+        Kind::Way => Ok(RawContent::Way(Refs::of(nodes(alloc, parts.lists)?))),
+        Kind::Relation => Ok(RawContent::Relation(Members::of(members(alloc, parts.lists)?))),
     }
 }
 
 /// The content of an operation: a delete has none.
-fn given(alloc: Global, sketch: &Sketch<'_>) -> Result<Option<RawContent>, Fail>
-    ensures { IfOk result (HasContent sketch.now.action sketch.now.kind) }
+fn given(alloc: Global, parts: &Parts<'_>) -> Result<Option<RawContent>, Fail>
+    ensures { IfOk result (HasContent parts.now.action parts.now.kind) }
 {
-    match sketch.action {
-        Action::Create => Ok(Some(content(alloc, sketch)?)),
-        Action::Modify => Ok(Some(content(alloc, sketch)?)),
+    match parts.action {
+        Action::Create => Ok(Some(content(alloc, parts)?)),
+        Action::Modify => Ok(Some(content(alloc, parts)?)),
         Action::Delete { .. } => Ok(None),
     }
 }
 
 /// A version as a document may have it.
-fn version(sketch: &Sketch<'_>) -> Option<u64>
+fn version(parts: &Parts<'_>) -> Option<u64>
     ensures { MatchOption result ⊤ (λ version. (1 ≤ version) × (version < 2 ^ 63)) }
 {
-    match sketch.version {
+    match parts.version {
         Some(version) if version >= 1 && version < 1_000_000 => Some(version),
         _ => None,
     }
 }
 
-fn raw(alloc: Global, sketch: &Sketch<'_>) -> Result<RawOp, Fail>
+fn raw(alloc: Global, parts: &Parts<'_>) -> Result<RawOp, Fail>
     ensures { IfOk result IsRawOp }
 {
     Ok(RawOp {
-        action: sketch.action,
-        kind: sketch.kind,
-        id: reference(sketch.id).ok_or("no id")?,
-        version: version(sketch),
-        changeset: sketch.changeset,
-        content: given(alloc, sketch)?,
+        action: parts.action,
+        kind: parts.kind,
+        id: reference(parts.id).ok_or("no id")?,
+        version: version(parts),
+        changeset: parts.changeset,
+        content: given(alloc, parts)?,
         tags: Tags::none(alloc),
     })
 }
@@ -162,7 +192,7 @@ fn raws(alloc: Global, sketches: &[Sketch<'_>]) -> Result<Vec<RawOp>, Fail>
     }
     let mut made = Vec::new(alloc);
     for sketch in sketches {
-        made.push(raw(alloc, sketch)?)?;
+        made.push(raw(alloc, &parts_of(*sketch))?)?;
     }
     Ok(made)
 }
@@ -260,28 +290,9 @@ pub fn uploaded(
     uploaded_at(alloc, journal, 1, START, sketches)
 }
 
-/// A user's upload to changeset 1 at a moment, and what it is told.
+/// A user, a moment, an upload to changeset 1, and what it is told.
 #[derive(Clone, Copy)]
-pub struct Case<'a> {
-    pub user: u64,
-    pub moment: u64,
-    pub upload: &'a [Sketch<'a>],
-    pub told: &'a str,
-}
-
-/// User 1's upload at the start.
-pub fn row<'a>(upload: &'a [Sketch<'a>], told: &'a str) -> Case<'a> {
-    row_at(1, START, upload, told)
-}
-
-pub fn row_at<'a>(user: u64, moment: u64, upload: &'a [Sketch<'a>], told: &'a str) -> Case<'a> {
-    Case {
-        user,
-        moment,
-        upload,
-        told,
-    }
-}
+pub struct Case<'a>(pub u64, pub u64, pub &'a [Sketch<'a>], pub &'a str);
 
 /// Asserts what uploads are told, one after the other.
 pub fn tells(
@@ -291,8 +302,8 @@ pub fn tells(
     rows: &[Case<'_>],
 ) -> Result<(), Fail> {
     for row in rows {
-        let told = uploaded_at(alloc, journal, row.user, row.moment, row.upload)?;
-        assert_eq!(rt; told.as_str(), row.told);
+        let told = uploaded_at(alloc, journal, row.0, row.1, row.2)?;
+        assert_eq!(rt; told.as_str(), row.3);
     }
     Ok(())
 }

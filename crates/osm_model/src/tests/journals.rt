@@ -1,7 +1,6 @@
 //! Commands on a journal.
-use super::fixture::{
-    START, acted, begun, built, create, delete, modify, row, tells, told, uploaded,
-};
+use super::fixture::Sketch::{Create, Delete, Modify};
+use super::fixture::{Case, START, acted, begun, built, tells, told, uploaded};
 use crate::commands::Command;
 use osm_base::Kind::Node;
 use osm_change::OneOp;
@@ -11,13 +10,13 @@ use std::test::Fail;
 fn a_single_change_answers_the_new_id_or_version(rt: HostRuntime) -> Result<(), Fail> {
     let alloc = rt.alloc();
     let mut journal = begun(alloc)?;
-    uploaded(alloc, &mut journal, &[create(Node, -1, &[])])?;
+    uploaded(alloc, &mut journal, &[Create(Node, -1, &[])])?;
     for (sketch, want) in [
-        (create(Node, -1, &[]), "Number(2)"),
-        (modify(Node, 2, 1, &[]), "Number(2)"),
-        (modify(Node, 1, 1, &[]), "Number(2)"),
-        (modify(Node, 1, 2, &[]), "Number(3)"),
-        (delete(Node, 1, 3), "Number(4)"),
+        (Create(Node, -1, &[]), "Number(2)"),
+        (Modify(Node, 2, 1, &[]), "Number(2)"),
+        (Modify(Node, 1, 1, &[]), "Number(2)"),
+        (Modify(Node, 1, 2, &[]), "Number(3)"),
+        (Delete(Node, 1, 3), "Number(4)"),
     ] {
         let change = OneOp::of(built(alloc, 1, &[sketch])??)?;
         let command = Command::Single {
@@ -34,7 +33,7 @@ fn a_single_change_answers_the_new_id_or_version(rt: HostRuntime) -> Result<(), 
 #[test]
 fn two_operations_are_no_single_change(rt: HostRuntime) -> Result<(), Fail> {
     let alloc = rt.alloc();
-    let two = [create(Node, -1, &[]), create(Node, -2, &[])];
+    let two = [Create(Node, -1, &[]), Create(Node, -2, &[])];
     assert!(rt; OneOp::of(built(alloc, 1, &two)??).is_err());
     assert!(rt; OneOp::of(built(alloc, 1, &[])??).is_err());
     Ok(())
@@ -54,22 +53,29 @@ fn a_changeset_is_its_owners(rt: HostRuntime) -> Result<(), Fail> {
     Ok(())
 }
 
+const STALE: [Case<'static>; 3] = [
+    Case(
+        1,
+        START,
+        &[Create(Node, -1, &[])],
+        "Node -1 Some(1) Some(1)\n",
+    ),
+    Case(
+        1,
+        START,
+        &[Modify(Node, 1, 1, &[])],
+        "Node 1 Some(1) Some(2)\n",
+    ),
+    Case(
+        1,
+        START,
+        &[Modify(Node, 1, 1, &[])],
+        "Refused(WrongVersion { found: 2, id: Id(1), op: Some(1), provided: 1, kind: Node })",
+    ),
+];
+
 #[test]
 fn a_version_that_was_changed_is_stale(rt: HostRuntime) -> Result<(), Fail> {
     let alloc = rt.alloc();
-    let mut journal = begun(alloc)?;
-    uploaded(alloc, &mut journal, &[create(Node, -1, &[])])?;
-    tells(
-        &rt,
-        alloc,
-        &mut journal,
-        &[
-            row(&[modify(Node, 1, 1, &[])], "Node 1 Some(1) Some(2)\n"),
-            row(
-                &[modify(Node, 1, 1, &[])],
-                "Refused(WrongVersion { found: 2, id: Id(1), op: Some(1), provided: 1, kind: Node })",
-            ),
-        ],
-    )?;
-    Ok(())
+    tells(&rt, alloc, &mut begun(alloc)?, &STALE)
 }

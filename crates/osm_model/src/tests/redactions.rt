@@ -1,5 +1,6 @@
 //! Marks on versions that are redacted.
-use super::fixture::{START, acted, begun, create, modify, told, uploaded};
+use super::fixture::Sketch::{Create, Modify};
+use super::fixture::{START, acted, begun, told, uploaded};
 use crate::commands::Command;
 use crate::journals::Journal;
 use map_state::version;
@@ -33,8 +34,8 @@ fn mark(journal: &Journal) -> Option<u64> {
 /// A journal in which node 1 has two versions, and redaction 1 was made.
 fn changed(alloc: Global) -> Result<Journal, Fail> {
     let mut journal = begun(alloc)?;
-    uploaded(alloc, &mut journal, &[create(Node, -1, &[])])?;
-    uploaded(alloc, &mut journal, &[modify(Node, 1, 1, &[])])?;
+    uploaded(alloc, &mut journal, &[Create(Node, -1, &[])])?;
+    uploaded(alloc, &mut journal, &[Modify(Node, 1, 1, &[])])?;
     let title = Text::of(alloc, "private")?;
     acted(
         alloc,

@@ -1,5 +1,6 @@
 //! An editor's session: a changeset with tags, one upload of nodes, ways and a relation, and its close.
-use super::fixture::{START, Sketch, acted, create, row, tells, uploaded};
+use super::fixture::Sketch::{self, Create, Place};
+use super::fixture::{Case, START, acted, tells, uploaded};
 use crate::asks::plain_ask;
 use crate::commands::Command;
 use crate::journals::Journal;
@@ -28,10 +29,7 @@ fn nodes(alloc: Global) -> Result<Vec<Sketch<'static>>, Memory> {
     let mut made = Vec::new(alloc);
     for k in 1..31u32 {
         let k = i64::from(k);
-        made.push(Sketch {
-            at: (481_000_000 + 1_000 * k, 115_000_000 + 1_000 * k),
-            ..create(Node, -k, &[])
-        })?;
+        made.push(Place(-k, 481_000_000 + 1_000 * k, 115_000_000 + 1_000 * k))?;
     }
     Ok(made)
 }
@@ -52,10 +50,10 @@ fn drawn(alloc: Global, journal: &mut Journal) -> Result<String, Fail> {
     let third = ten(alloc, 2)?;
     let members = [(Way, -1), (Way, -2), (Way, -3)];
     let mut upload = nodes(alloc)?;
-    upload.push(create(Way, -1, first.as_slice()))?;
-    upload.push(create(Way, -2, second.as_slice()))?;
-    upload.push(create(Way, -3, third.as_slice()))?;
-    upload.push(create(Relation, -1, &members))?;
+    upload.push(Create(Way, -1, first.as_slice()))?;
+    upload.push(Create(Way, -2, second.as_slice()))?;
+    upload.push(Create(Way, -3, third.as_slice()))?;
+    upload.push(Create(Relation, -1, &members))?;
     uploaded(alloc, journal, upload.as_slice())
 }
 
@@ -79,6 +77,13 @@ fn changeset(alloc: Global, journal: &Journal) -> Result<ChangesetRow, Fail> {
     }
 }
 
+const CLOSED: [Case<'static>; 1] = [Case(
+    1,
+    START,
+    &[],
+    "Refused(Closed { changeset: 1, closed_at: Stamp(1700000000) })",
+)];
+
 #[test]
 fn an_editors_session(rt: HostRuntime) -> Result<(), Fail> {
     let alloc = rt.alloc();
@@ -93,15 +98,7 @@ fn an_editors_session(rt: HostRuntime) -> Result<(), Fail> {
     assert_eq!(rt; shown.closes, Some(Stamp(START)));
     let area = Box7::new(115_001_000, 481_001_000, 115_030_000, 481_030_000)?;
     assert_eq!(rt; shown.touched, Some(area));
-    tells(
-        &rt,
-        alloc,
-        &mut journal,
-        &[row(
-            &[],
-            "Refused(Closed { changeset: 1, closed_at: Stamp(1700000000) })",
-        )],
-    )?;
+    tells(&rt, alloc, &mut journal, &CLOSED)?;
     Ok(())
 }
 

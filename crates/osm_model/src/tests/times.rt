@@ -1,5 +1,6 @@
 //! When a changeset is open, and the stamps of commands.
-use super::fixture::{START, acted, begun, create, delete_if_unused, row, row_at, tells, told};
+use super::fixture::Sketch::{self, Create, DeleteIfUnused};
+use super::fixture::{Case, START, acted, begun, tells, told};
 use crate::asks::plain_ask;
 use crate::commands::Command;
 use crate::queries::Query;
@@ -12,38 +13,40 @@ use std::test::Fail;
 /// The refusal at the end of an hour without activity.
 const HOUR_OVER: &str = "Refused(Closed { changeset: 1, closed_at: Stamp(1700003600) })";
 
+const ONE: Sketch<'static> = Create(Node, -1, &[]);
+
+const OPEN: [Case<'static>; 1] = [Case(1, 1_700_003_599, &[ONE], "Node -1 Some(1) Some(1)\n")];
+
+const CLOSED: [Case<'static>; 1] = [Case(1, 1_700_003_600, &[ONE], HOUR_OVER)];
+
 #[test]
 fn open_for_an_hour(rt: HostRuntime) -> Result<(), Fail> {
     let alloc = rt.alloc();
-    let one = [create(Node, -1, &[])];
-    let open = row_at(1, 1_700_003_599, &one, "Node -1 Some(1) Some(1)\n");
-    tells(&rt, alloc, &mut begun(alloc)?, &[open])?;
-    let closed = row_at(1, 1_700_003_600, &one, HOUR_OVER);
-    tells(&rt, alloc, &mut begun(alloc)?, &[closed])?;
-    Ok(())
+    tells(&rt, alloc, &mut begun(alloc)?, &OPEN)?;
+    tells(&rt, alloc, &mut begun(alloc)?, &CLOSED)
 }
+
+const NO_ACTIVITY: [Case<'static>; 4] = [
+    Case(
+        1,
+        START,
+        &[ONE, DeleteIfUnused(Node, -1, 1)],
+        "Node -1 Some(1) Some(1)\nNode -1 None None\n",
+    ),
+    Case(1, START + 3_000, &[], ""),
+    Case(
+        1,
+        START + 3_000,
+        &[DeleteIfUnused(Node, 1, 2)],
+        "Node 1 Some(1) Some(2)\n",
+    ),
+    Case(1, START + 3_600, &[], HOUR_OVER),
+];
 
 #[test]
 fn an_upload_that_applies_nothing_is_no_activity(rt: HostRuntime) -> Result<(), Fail> {
     let alloc = rt.alloc();
-    let mut journal = begun(alloc)?;
-    let made_and_gone = [create(Node, -1, &[]), delete_if_unused(Node, -1, 1)];
-    let skipped = [delete_if_unused(Node, 1, 2)];
-    tells(
-        &rt,
-        alloc,
-        &mut journal,
-        &[
-            row(
-                &made_and_gone,
-                "Node -1 Some(1) Some(1)\nNode -1 None None\n",
-            ),
-            row_at(1, START + 3_000, &[], ""),
-            row_at(1, START + 3_000, &skipped, "Node 1 Some(1) Some(2)\n"),
-            row_at(1, START + 3_600, &[], HOUR_OVER),
-        ],
-    )?;
-    Ok(())
+    tells(&rt, alloc, &mut begun(alloc)?, &NO_ACTIVITY)
 }
 
 #[test]
