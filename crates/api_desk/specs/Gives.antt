@@ -1,20 +1,30 @@
 -- A reading of a message gives what the definitions say, unless memory ran out.
 use Rattle.std.specs.Prelude.{◌≡◌, Result, Ok, Err, ⊤}
-use Rattle.osm_base.specs.declared.people.User.{User}
 use Rattle.osm_change.specs.declared.refusals.Refusal.{Refusal}
-use Rattle.osm_model.specs.Answered.{Request, refused, does}
+use Rattle.osm_model.specs.Answered.{Request, refused, does, reads}
+use Rattle.osm_json.specs.Answered.{RefusalHasShownEnd}
 use Rattle.api_desk.specs.declared.faults.RequestFault.{RequestFault}
 use Rattle.api_desk.specs.declared.faults.RequestFault.TheVariants as fault
-use Rattle.osm_json.specs.Answered.{RefusalHasShownEnd}
-use Rattle.api_desk.specs.declared.requests.Asked.{Asked}
+use Rattle.api_desk.specs.declared.requests.Request.{Request as Made}
+use Rattle.api_desk.specs.declared.requests.Request.TheVariants.{Change, Read}
 
-abbrev pub GivesUser : Result User Refusal → Result User RequestFault → Type 0
-GivesUser expected (Ok user) = expected ≡ Ok user
-GivesUser expected (Err fault.Memory) = ⊤
-GivesUser expected (Err (fault.Refused r)) = expected ≡ Err r
+abbrev pub Gives : {A : Type 0} → Result A Refusal → Result A RequestFault → Type 0
+Gives expected (Ok made) = expected ≡ Ok made
+Gives expected (Err fault.Memory) = ⊤
+Gives expected (Err (fault.Refused r)) = expected ≡ Err r
 
-abbrev pub GivesRequest : Request → Result Asked RequestFault → Type 0
-GivesRequest expected (Ok asked) = expected ≡ does asked.user asked.command
+-- the request that the desk's one stands for
+abbrev pub shown_request : Made → Request
+shown_request (Change asked) = does asked.user asked.command
+shown_request (Read q) = reads q
+
+abbrev pub GivesAsked : Result Request Refusal → Result Made RequestFault → Type 0
+GivesAsked expected (Ok made) = expected ≡ Ok (shown_request made)
+GivesAsked expected (Err fault.Memory) = ⊤
+GivesAsked expected (Err (fault.Refused r)) = expected ≡ Err r
+
+abbrev pub GivesRequest : Request → Result Made RequestFault → Type 0
+GivesRequest expected (Ok made) = expected ≡ shown_request made
 GivesRequest expected (Err fault.Memory) = ⊤
 GivesRequest expected (Err (fault.Refused r)) = expected ≡ refused r
 

@@ -1,3 +1,8 @@
+pub mod Faults
+pub mod Parts
+pub mod Routes
+pub mod Media
+pub mod Bodies
 pub mod Request
 pub mod Gives
 pub mod Answers

@@ -2,19 +2,20 @@
 ghost use Rattle.std.specs.Prelude.{◌≡◌, Some, IfOk, OnOk, OnErr};
 ghost use Rattle.osm_json.specs.Answered.{HasShownMoments};
 ghost use Rattle.osm_model.specs.Act.{act};
+ghost use Rattle.osm_model.specs.Ask.{ask};
 ghost use Rattle.osm_model.specs.Journal.{IsLegal, replay, journal_after};
 ghost use Rattle.http_link.specs.Desk.{counted_reply};
 ghost use Rattle.osm_base.specs.Status.{IsStatus};
 ghost use Rattle.api_desk.specs.Answers.{reply_of, Answers};
 
 use crate::faults::RequestFault;
-use crate::requests::{Asked, request_of};
+use crate::requests::{Asked, Request, request_of};
 use http_link::{Desk, Reply};
 use http_wire::Message;
 use osm_base::Memory;
 use osm_change::Answer;
 use osm_json::{answer_body, answer_status};
-use osm_model::Journal;
+use osm_model::{Journal, Query, plain_ask};
 use std::alloc::Global;
 use user_table::UserTable;
 
@@ -39,7 +40,6 @@ fn change(
     asked: Asked,
     moment: u64,
 ) -> Result<Reply, Memory>
-    requires { HasShownMoments (act (replay journal.old) asked.user moment asked.command).1 }
     ensures reply { IfOk result (λ reply. reply
         ≡ reply_of (Some (act (replay journal.old) asked.user moment asked.command).1)) }
     ensures journal { OnOk result (journal.new
@@ -53,6 +53,21 @@ fn change(
     let reply = reply_to(alloc, judged.answer())?;
     journal.keep(alloc, judged)?;
     Ok(reply)
+}
+
+/// Answers a query by all of the journal.
+fn read(
+    journal: &Journal,
+    alloc: Global,
+    query: Query,
+    moment: u64,
+) -> Result<Reply, Memory>
+    ensures reply { IfOk result (λ reply. reply
+        ≡ reply_of (Some (ask (replay journal.now) moment query))) }
+    ensures status { IfOk result (λ reply. IsStatus reply.status) }
+{
+    let answer = plain_ask(alloc, journal.state(), moment, &query)?;
+    reply_to(alloc, &answer)
 }
 
 /// Answers one request of a session.
@@ -69,7 +84,8 @@ fn answer_on(
     ensures status { IfOk result (λ reply. IsStatus reply.status) }
 {
     match request_of(alloc, message, users) {
-        Ok(asked) => change(journal, alloc, session, asked, moment),
+        Ok(Request::Change(asked)) => change(journal, alloc, session, asked, moment),
+        Ok(Request::Read(query)) => read(journal, alloc, query, moment),
         Err(RequestFault::Refused(refusal)) => reply_to(alloc, &Answer::Refused(refusal)),
         Err(RequestFault::Memory) => Err(Memory),
     }

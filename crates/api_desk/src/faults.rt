@@ -1,5 +1,7 @@
 use osm_base::Memory;
-use osm_change::Refusal;
+use osm_change::{Cause, Refusal, ShapeFault};
+use osm_element::LocalFault;
+use osm_json::BodyFault;
 
 /// Why a message is no request that is judged on the map.
 #[derive(Debug, Drop)]
@@ -27,5 +29,52 @@ impl From<Refusal> for RequestFault {
 
     fn from(refusal: Refusal) -> Self {
         RequestFault::Refused(refusal)
+    }
+}
+
+impl From<BodyFault> for RequestFault {
+    ghost use Rattle.std.specs.Prelude.{◌≡◌};
+    ghost use Rattle.api_desk.specs.Faults.{of_body};
+
+    ghost from_gives = { λ fault made. made ≡ of_body fault };
+
+    fn from(fault: BodyFault) -> Self {
+        match fault {
+            BodyFault::Memory => RequestFault::Memory,
+            BodyFault::NotJson => RequestFault::Refused(Refusal::NotJson),
+            BodyFault::Shape { op } => RequestFault::Refused(Refusal::Shape { op: Some(op) }),
+        }
+    }
+}
+
+impl From<ShapeFault> for RequestFault {
+    ghost use Rattle.std.specs.Prelude.{◌≡◌};
+    ghost use Rattle.api_desk.specs.Faults.{of_change};
+
+    ghost from_gives = { λ fault made. made ≡ of_change fault };
+
+    fn from(fault: ShapeFault) -> Self {
+        let op = Some(fault.op);
+        RequestFault::Refused(match fault.cause {
+            Cause::Memory => return RequestFault::Memory,
+            Cause::NotNegative => Refusal::NotNegative { op },
+            Cause::DoublePlaceholder => Refusal::DoublePlaceholder { op },
+            Cause::UnknownPlaceholder => Refusal::UnknownPlaceholder { op },
+            Cause::NoVersion => Refusal::NoVersion { op },
+            Cause::Local(fault) => Refusal::Local { fault, op },
+            Cause::OtherChangeset { named } => Refusal::OtherChangeset { named, op },
+        })
+    }
+}
+
+/// A changeset's tags are beyond a limit. They count as operation 0.
+impl From<LocalFault> for RequestFault {
+    ghost use Rattle.std.specs.Prelude.{◌≡◌};
+    ghost use Rattle.api_desk.specs.Faults.{of_tags};
+
+    ghost from_gives = { λ fault made. made ≡ of_tags fault };
+
+    fn from(fault: LocalFault) -> Self {
+        RequestFault::Refused(Refusal::Local { fault, op: Some(0) })
     }
 }

@@ -1,12 +1,17 @@
 //! A message as a request of the map, and a desk that answers requests over a journal.
 #![tactic(auto)]
 
+mod bodies;
 mod desk;
 mod faults;
+mod fields;
 mod law;
+mod media;
+mod parts;
 mod requests;
+mod routes;
 
 pub use desk::OneDesk;
 pub use faults::RequestFault;
 pub use law::desk_answers;
-pub use requests::{Asked, request_of};
+pub use requests::{Asked, Request, request_of};

@@ -1,15 +1,19 @@
 //! What a message asks.
-ghost use Rattle.std.specs.Prelude.{◌≡◌, [], option_copied, IfOk, IfErr};
-ghost use Rattle.osm_model.specs.declared.commands.Command.TheVariants.{CreateChangeset};
-ghost use Rattle.api_desk.specs.Request.{request_of, user_of, is_creation};
-ghost use Rattle.api_desk.specs.Gives.{GivesRequest, GivesUser, HasShownFault};
+ghost use Rattle.std.specs.Prelude.{◌≡◌, IfErr};
+ghost use Rattle.api_desk.specs.Request.{user_of, may_read, asked_by, request_of};
+ghost use Rattle.api_desk.specs.Routes.{HasPathNumbers};
+ghost use Rattle.api_desk.specs.Gives.{Gives, GivesRequest, GivesAsked, HasShownFault};
+ghost use Rattle.user_table.specs.Who.{who_of};
 
+use crate::bodies::command_of;
 use crate::faults::RequestFault;
+use crate::fields::value_of;
+use crate::media::is_xml;
+use crate::routes::{Call, call_of};
 use http_wire::Message;
-use osm_base::{Bytes, TryCopy, User};
+use osm_base::{TryCopy, User};
 use osm_change::Refusal;
-use osm_element::Tags;
-use osm_model::Command;
+use osm_model::{Command, Query};
 use std::alloc::Global;
 use user_table::{UserTable, Who};
 
@@ -20,28 +24,16 @@ pub struct Asked {
     pub command: Command,
 }
 
-/// Whether the message asks for a new changeset (OpenStreetMap wiki, API v0.6, "Create: PUT
-/// /api/0.6/changeset/create").
-fn is_creation(message: &Message) -> bool
-    ensures { result ≡ is_creation message.now }
-{
-    message.method.as_slice() == b"PUT".as_slice()
-        && message.target.as_slice() == b"/api/0.6/changeset/create".as_slice()
-}
-
-/// The value of a field, where there is one.
-fn value_of(field: &Option<Bytes>) -> Option<&[u8]>
-    ensures { option_copied result ≡ field.now }
-{
-    match field {
-        Some(value) => Some(value.as_slice()),
-        None => None,
-    }
+/// What a message asks of the map.
+#[derive(Debug, Drop)]
+pub enum Request {
+    Change(Asked),
+    Read(Query),
 }
 
 /// The user who sent the message.
 fn user_of(alloc: Global, message: &Message, users: &UserTable) -> Result<User, RequestFault>
-    ensures gives { GivesUser (user_of users.now message.now) result }
+    ensures gives { Gives (user_of users.now message.now) result }
     ensures shown { IfErr result HasShownFault }
 {
     match users.who(value_of(&message.authorization)) {
@@ -50,25 +42,56 @@ fn user_of(alloc: Global, message: &Message, users: &UserTable) -> Result<User, 
     }
 }
 
-/// What the message asks. It depends on the message and the users alone. A creation's body isn't
-/// read yet.
+/// A caller may read who doesn't say who it is, but not one whom the server can't know.
+fn may_read(message: &Message, users: &UserTable) -> Result<(), Refusal>
+    ensures { result ≡ may_read (who_of users.now message.now.authorization) }
+{
+    match users.who(value_of(&message.authorization)) {
+        Who::Known(_) | Who::Anonymous => Ok(()),
+        Who::Unknown => Err(Refusal::NoUser),
+    }
+}
+
+/// What a call asks, where its caller may.
+fn asked_by(
+    alloc: Global,
+    message: &Message,
+    users: &UserTable,
+    call: Call,
+) -> Result<Request, RequestFault>
+    requires { HasPathNumbers call }
+    ensures gives { GivesAsked (asked_by users.now message.now call) result }
+    ensures shown { IfErr result HasShownFault }
+{
+    match call {
+        Call::Read(query) => {
+            may_read(message, users)?;
+            Ok(Request::Read(query))
+        }
+        Call::Edit(edit) => {
+            let user = user_of(alloc, message, users)?;
+            let command = command_of(alloc, edit, message.body.as_slice())?;
+            Ok(Request::Change(Asked { user, command }))
+        }
+    }
+}
+
+/// What the message asks, or the first cause for which it is refused: it has no path, its body is
+/// XML, its caller may not, its body is none of the call. It depends on the message and the users
+/// alone.
+#[tactic(auto, unfolding(crate::specs::Request::asked))]
 pub fn request_of(
     alloc: Global,
     message: &Message,
     users: &UserTable,
-) -> Result<Asked, RequestFault>
+) -> Result<Request, RequestFault>
     ensures gives { GivesRequest (request_of users.now message.now) result }
-    ensures creation { IfOk result (λ asked. asked.command ≡ CreateChangeset []) }
     ensures shown { IfErr result HasShownFault }
 {
-    if !is_creation(message) {
-        return Err(RequestFault::Refused(Refusal::NoPath));
+    let call = call_of(message.method.as_slice(), message.target.as_slice());
+    let call = call.ok_or(Refusal::NoPath)?;
+    if is_xml(message) {
+        return Err(RequestFault::Refused(Refusal::Xml));
     }
-    let user = user_of(alloc, message, users)?;
-    Ok(Asked {
-        user,
-        command: Command::CreateChangeset {
-            tags: Tags::none(alloc),
-        },
-    })
+    asked_by(alloc, message, users, call)
 }

@@ -1,0 +1,62 @@
+-- The command that a call and its body ask for.
+use Rattle.std.specs.Prelude.{ℕ, ℤ, pos, negsuc, Bool, true, false, List, [], ◌∷◌, Result, Ok, Err}
+use Rattle.osm_base.specs.declared.keys.Kind.{Kind}
+use Rattle.osm_change.specs.Build.{change_of as built}
+use Rattle.osm_change.specs.declared.operations.Op.{Op}
+use Rattle.osm_change.specs.declared.raw.Action.{Action}
+use Rattle.osm_change.specs.declared.raw.Action.TheVariants.{Create, Modify, Delete}
+use Rattle.osm_change.specs.declared.raw.RawOp.{RawOp}
+use Rattle.osm_change.specs.declared.refusals.Refusal.{Refusal}
+use Rattle.osm_change.specs.declared.refusals.Refusal.TheVariants as refusals
+use Rattle.osm_element.specs.Limits.{check_tags}
+use Rattle.osm_element.specs.Tags.{Tag}
+use Rattle.osm_element.specs.declared.faults.LocalFault.{LocalFault}
+use Rattle.osm_json.specs.Reading.{changeset_tags, change_of, single_in}
+use Rattle.osm_model.specs.declared.commands.Command.{Command}
+use Rattle.osm_model.specs.declared.commands.Command.TheVariants as command
+use Rattle.map_state.specs.Outcome.{◌>>=◌}
+use Rattle.api_desk.specs.declared.faults.RequestFault.{RequestFault}
+use Rattle.api_desk.specs.declared.faults.RequestFault.TheVariants.{Memory, Refused}
+use Rattle.api_desk.specs.declared.routes.Edit.{Edit}
+use Rattle.api_desk.specs.declared.routes.Edit.TheVariants as edit
+use Rattle.api_desk.specs.Faults.{of_body, of_change, of_tags}
+
+-- the refusal of a fault. No definition gives want of memory
+abbrev pub refusal_in : RequestFault → Refusal
+refusal_in (Refused r) = r
+refusal_in Memory = refusals.NotJson
+
+-- a result, or the refusal that its fault is told as
+abbrev pub or_refused : {A E : Type 0} → (E → RequestFault) → Result A E → Result A Refusal
+or_refused of (Ok a) = Ok a
+or_refused of (Err fault) = Err (refusal_in (of fault))
+
+-- the tags of a changeset's body, within the limits
+unfoldable pub tags_in : Bool → List ℕ → Result (List Tag) Refusal
+tags_in needed body = do
+  tags ← or_refused of_body (changeset_tags needed body)
+  within ← or_refused of_tags (check_tags tags)
+  Ok tags
+
+-- the operations of an upload to a changeset
+unfoldable pub upload_in : ℕ → List ℕ → Result (List Op) Refusal
+upload_in changeset body = do
+  raw ← or_refused of_body (change_of body)
+  or_refused of_change (built changeset raw)
+
+-- a single change, to the changeset that its body names
+unfoldable pub change_in : Action → Kind → ℤ → List ℕ → Result Command Refusal
+change_in action kind id body = do
+  read ← or_refused of_body (single_in action kind id body)
+  ops ← or_refused of_change (built read.0 (read.1 ∷ []))
+  Ok (command.Single read.0 ops)
+
+-- a creation's id isn't read
+abbrev pub command_of : Edit → List ℕ → Result Command Refusal
+command_of edit.CreateChangeset body = tags_in false body >>= λ tags. Ok (command.CreateChangeset tags)
+command_of (edit.Retag id) body = tags_in true body >>= λ tags. Ok (command.Retag id tags)
+command_of (edit.CloseChangeset id) body = Ok (command.CloseChangeset id)
+command_of (edit.Upload id) body = upload_in id body >>= λ ops. Ok (command.Upload id ops)
+command_of (edit.CreateSingle kind) body = change_in Create kind (negsuc 0) body
+command_of (edit.ModifySingle key) body = change_in Modify key.kind (pos key.id) body
+command_of (edit.DeleteSingle key) body = change_in (Delete false) key.kind (pos key.id) body

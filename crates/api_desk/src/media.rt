@@ -1,0 +1,89 @@
+//! Whether a body is XML.
+ghost use Rattle.std.specs.Prelude.{◌≡◌, option_copied};
+ghost use Rattle.std.specs.List.{before_first};
+ghost use Rattle.user_table.specs.Who.{is_gap, trimmed_start, trimmed_end, trimmed};
+ghost use Rattle.api_desk.specs.Media.{is_semicolon, names_xml, says_xml, is_blank, begins_as_xml, is_xml};
+
+use crate::fields::value_of;
+use http_wire::Message;
+
+fn is_gap(byte: u8) -> bool
+    ensures { result ≡ is_gap byte }
+{
+    byte == b' ' || byte == b'\t'
+}
+
+fn trimmed_start(bytes: &[u8]) -> &[u8]
+    ensures { result.now ≡ trimmed_start bytes.now }
+{
+    let mut rest = bytes;
+    while let [b' ' | b'\t', after @ ..] = rest {
+        rest = after;
+    }
+    rest
+}
+
+fn trimmed_end(bytes: &[u8]) -> &[u8]
+    ensures { result.now ≡ trimmed_end bytes.now }
+{
+    let mut end = bytes.len();
+    while end > 0 && is_gap(bytes[end - 1]) {
+        end -= 1;
+    }
+    &bytes[..end]
+}
+
+/// What stands before the first `;`.
+fn before_parameters(media: &[u8]) -> &[u8]
+    ensures { result.now ≡ before_first is_semicolon media.now }
+{
+    match media.iter().position(|byte| *byte == b';') {
+        Some(end) => &media[..end],
+        None => media,
+    }
+}
+
+fn names_xml(kind: &[u8]) -> bool
+    ensures { result ≡ names_xml kind.now }
+{
+    let ending = &kind[kind.len().saturating_sub(4)..];
+    kind.eq_ignore_ascii_case(b"text/xml")
+        || kind.eq_ignore_ascii_case(b"application/xml")
+        || ending.eq_ignore_ascii_case(b"+xml")
+}
+
+/// Whether a media type is that of XML (RFC 7303). Its parameters don't count.
+fn says_xml(media: Option<&[u8]>) -> bool
+    ensures { result ≡ says_xml (option_copied media.entry) }
+{
+    match media {
+        Some(media) => names_xml(trimmed_end(trimmed_start(before_parameters(media)))),
+        None => false,
+    }
+}
+
+fn is_blank(byte: u8) -> bool
+    ensures { result ≡ is_blank byte }
+{
+    byte == b' ' || byte == b'\t' || byte == b'\r' || byte == b'\n'
+}
+
+/// Whether the first byte that isn't white space is `<`.
+fn begins_as_xml(body: &[u8]) -> bool
+    ensures { result ≡ begins_as_xml body.now }
+{
+    for byte in body {
+        if !is_blank(*byte) {
+            return *byte == b'<';
+        }
+    }
+    false
+}
+
+/// Whether the message has a body that is XML, by its media type or by its first byte.
+pub fn is_xml(message: &Message) -> bool
+    ensures { result ≡ is_xml message.now }
+{
+    let body = message.body.as_slice();
+    !body.is_empty() && (says_xml(value_of(&message.media)) || begins_as_xml(body))
+}
