@@ -3,6 +3,7 @@ mod bodies;
 mod changesets;
 mod cuts;
 mod editor;
+mod faults;
 mod fixture;
 mod heads;
 mod refusals;

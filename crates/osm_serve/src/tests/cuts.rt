@@ -1,17 +1,9 @@
 //! Input that comes in pieces, and input that ends too early.
 use super::fixture::{CREATION, Came, Given, answered, answered_in, reply, served};
-use super::session::Session;
+use super::session::{ONE_NODE, Session};
 use osm_base::Memory;
 use std::alloc::Global;
 use std::test::Fail;
-
-/// A creation of a changeset, and an upload of a node to it.
-const SESSION: &str = r#"
-alice PUT changeset/create
-200 1
-alice POST changeset/1/upload {"osmChange":[{"create":[{"type":"node","id":-1,"lat7":481400000,"lon7":115400000}]}]}
-200 {"diffResult":[{"new_id":1,"new_version":1,"old_id":-1,"type":"node"}],"version":"0.6"}
-"#;
 
 /// The input in reads of at most so many bytes.
 fn in_pieces(alloc: Global, input: &str, size: usize) -> Result<Came, Memory> {
@@ -21,7 +13,7 @@ fn in_pieces(alloc: Global, input: &str, size: usize) -> Result<Came, Memory> {
 
 #[test]
 fn pieces_of_any_size(rt: HostRuntime) -> Result<(), Fail> {
-    let Session { input, replies } = Session::of(rt.alloc(), SESSION)?;
+    let Session { input, replies } = Session::of(rt.alloc(), ONE_NODE)?;
     let want = replies.as_slice().concat(rt.alloc())?;
     for size in 1..input.len() {
         let came = in_pieces(rt.alloc(), input.as_str(), size)?;
@@ -33,7 +25,7 @@ fn pieces_of_any_size(rt: HostRuntime) -> Result<(), Fail> {
 
 #[test]
 fn two_pieces(rt: HostRuntime) -> Result<(), Fail> {
-    let Session { input, replies } = Session::of(rt.alloc(), SESSION)?;
+    let Session { input, replies } = Session::of(rt.alloc(), ONE_NODE)?;
     let want = replies.as_slice().concat(rt.alloc())?;
     for first in 1..input.len() {
         let came = answered_in(rt.alloc(), input.as_str(), &[first])?;
@@ -62,7 +54,7 @@ fn the_end_inside_a_head(rt: HostRuntime) -> Result<(), Fail> {
 /// The end inside the second message, its head or its body: the first one's reply came.
 #[test]
 fn the_end_inside_an_upload(rt: HostRuntime) -> Result<(), Fail> {
-    let session = Session::of(rt.alloc(), SESSION)?;
+    let session = Session::of(rt.alloc(), ONE_NODE)?;
     let want = reply(rt.alloc(), "200 OK", "", "1")?;
     let whole = CREATION.len();
     let came = cut_off(rt.alloc(), session.input.as_str(), whole)?;

@@ -5,6 +5,14 @@ use std::alloc::Global;
 use std::process::Abort;
 use std::str;
 
+/// A creation of a changeset, and an upload of a node to it.
+pub const ONE_NODE: &str = r#"
+alice PUT changeset/create
+200 1
+alice POST changeset/1/upload {"osmChange":[{"create":[{"type":"node","id":-1,"lat7":481400000,"lon7":115400000}]}]}
+200 {"diffResult":[{"new_id":1,"new_version":1,"old_id":-1,"type":"node"}],"version":"0.6"}
+"#;
+
 /// The bytes of a session's requests, and those of each reply.
 #[derive(Drop)]
 pub struct Session {
