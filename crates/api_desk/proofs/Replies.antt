@@ -10,19 +10,22 @@ use Rattle.osm_model.specs.declared.commands.Entry.{Entry}
 use Rattle.osm_model.specs.declared.commands.Accepted.{Accepted}
 use Rattle.osm_model.specs.Act.{act, judge}
 use Rattle.osm_model.specs.Journal.{replay, calls_of, appended, journal_after, next_entry}
-use Rattle.osm_model.specs.Answered.{Request, refused, does, Place, all_of, stamp_on, IsRow}
+use Rattle.osm_model.specs.Ask.{ask}
+use Rattle.osm_model.specs.Answered.{Request, refused, does, reads, Place, all_of, stamp_on, IsRow}
+use Rattle.osm_model.specs.declared.queries.Query.{Query}
 use Rattle.http_wire.specs.declared.message.Message.{Message}
 use Rattle.http_link.specs.declared.desk.Reply.{Reply}
 use Rattle.http_link.specs.Desk.{counted_reply}
 use Rattle.user_table.specs.Rows.{Row}
 use Rattle.api_desk.specs.Request.{request_of}
 use Rattle.api_desk.specs.Answers.{Answers, reply_of}
-use Rattle.api_desk.proofs.Rows.{row_of_act, calls_of-next}
+use Rattle.api_desk.proofs.Rows.{row_of_act, row_of_ask, calls_of-next}
 
 -- want of memory is a row of every request
 lacking : (F : List Entry) (s : ℕ) (p : Place) (q : Request) (m : ℕ) → IsRow F s p q m None p
 lacking F s p (refused r) m = inr (record { told = refl; stays = refl })
 lacking F s p (does user c) m = inr (inr (inl (record { told = refl; stays = refl })))
+lacking F s p (reads q) m = inr (record { told = refl; stays = refl })
 
 -- a journal keeps what it had, and gets no entry but one of the session
 record Grows (s : ℕ) (old new : List Entry) : Type 0 where
@@ -82,6 +85,25 @@ change_answers users s old new message moment user c (Ok reply) asks text after 
       own = ap (calls_of s) after ∙ grows.own;
     }
 change_answers users s old new message moment user c (Err memory) asks text after same = memory_answers users s old new message moment same
+
+-- a query
+pub query_answers :
+    (users : List Row) (s : ℕ) (es : List Entry) (message : Message) (moment : ℕ) (q : Query) (result : Result Reply Memory)
+    → request_of users message ≡ reads q
+    → IfOk result (λ reply. reply ≡ reply_of (Some (ask (replay es) moment q)))
+    → Answers users s es es message moment (counted_reply result)
+query_answers users s es message moment q (Ok reply) asks text = record {
+  answer = Some (ask (replay es) moment q);
+  row = subst
+      (λ (r : Request). IsRow es s (all_of s es) r moment (Some (ask (replay es) moment q)) (all_of s es))
+      (sym asks)
+      (row_of_ask es s moment q);
+  text = text;
+  more = [];
+  grown = sym (append-nil es);
+  own = grows_by_nothing_own s es;
+}
+query_answers users s es message moment q (Err memory) asks text = memory_answers users s es es message moment refl
 
 -- a request that is refused by itself
 pub refusal_answers :

@@ -15,7 +15,9 @@ use Rattle.osm_model.specs.declared.commands.Accepted.{Accepted}
 use Rattle.map_state.specs.declared.states.State.{State}
 use Rattle.osm_model.specs.Act.{act, judge, settle}
 use Rattle.osm_model.specs.Journal.{replay, calls_of, appended, next_entry, journal_after}
-use Rattle.osm_model.specs.Answered.{Request, refused, does, Place, all_of, map_at, stamp_on, RefusesCommand, AcceptsCommand, IsRow}
+use Rattle.osm_model.specs.Ask.{ask}
+use Rattle.osm_model.specs.Answered.{Request, refused, does, reads, Place, all_of, map_at, stamp_on, RefusesCommand, AcceptsCommand, AnswersQuery, IsRow}
+use Rattle.osm_model.specs.declared.queries.Query.{Query}
 
 -- ---- lists
 
@@ -112,6 +114,17 @@ pub row_of_act :
     (all_of s (journal_after es s user m c))
 row_of_act es s user m c = row_of_judged es s user m c (judge (replay es) user (stamp_on (replay es) m) c) refl
 
+-- ---- a query
+
+-- asking all of a journal is a row of it
+pub row_of_ask : (es : List Entry) (s : ℕ) (m : ℕ) (q : Query) → IsRow es s (all_of s es) (reads q) m (Some (ask (replay es) m q)) (all_of s es)
+row_of_ask es s m q = inl (record {
+  later = omega arith;
+  told = ap (λ (P : State). Some (ask P m q)) (sym (map_at-all es));
+  calls = refl;
+  debts = refl;
+})
+
 -- ---- a longer journal
 
 refuses-append :
@@ -151,6 +164,18 @@ accepts-append F more s before after user c m reply row =
       comes_to = row.comes_to;
     }
 
+answers-append :
+    (F more : List Entry) (before after : Place) (q : Query) (m : ℕ) (reply : Option Answer)
+    → after.point ≤ length F
+    → AnswersQuery F before q m reply after
+    → AnswersQuery (F ++ more) before q m reply after
+answers-append F more before after q m reply within row = record {
+  later = row.later;
+  told = row.told ∙ ap (λ (P : State). Some (ask P m q)) (sym (map_at-append F more after.point within));
+  calls = row.calls;
+  debts = row.debts;
+}
+
 -- a row of a journal is a row of each longer one
 pub row-append :
     (F more : List Entry) (s : ℕ) (before after : Place) (q : Request) (m : ℕ) (reply : Option Answer)
@@ -163,3 +188,5 @@ row-append F more s before after (does user c) m reply within row =
     (λ refuses. inl (refuses-append F more before after user c m reply within refuses))
     (λ other. inr (⊎_elim (λ accepts. inl (accepts-append F more s before after user c m reply accepts)) (λ lacks. inr lacks) other))
     row
+row-append F more s before after (reads q) m reply within row =
+    ⊎_elim (λ answers. inl (answers-append F more before after q m reply within answers)) (λ lacks. inr lacks) row

@@ -8,12 +8,16 @@ use Rattle.user_table.specs.Who.{trimmed}
 abbrev pub is_semicolon : ℕ → Bool
 is_semicolon byte = byte == 59
 
--- text/xml, application/xml, or one that ends `+xml`, in letters of any case (RFC 7303)
+-- it ends `+xml`, in letters of any case
+abbrev pub has_xml_suffix : List ℕ → Bool
+has_xml_suffix kind = str_eq_ignore_ascii_case (drop (length kind - 4) kind) (codes "+xml")
+
+-- text/xml, application/xml, or one with that ending, in letters of any case (RFC 7303)
 abbrev pub names_xml : List ℕ → Bool
 names_xml kind =
     str_eq_ignore_ascii_case kind (codes "text/xml")
     || str_eq_ignore_ascii_case kind (codes "application/xml")
-    || str_eq_ignore_ascii_case (drop (length kind - 4) kind) (codes "+xml")
+    || has_xml_suffix kind
 
 -- the media type says XML: its part before the first `;`, without spaces and tabs at both ends
 abbrev pub says_xml : Option (List ℕ) → Bool

@@ -39,7 +39,7 @@ IsPathNumber n = (1 ≤ n) × (n < 2 ^ 63)
 
 abbrev pub IsProper : Word → Type 0
 IsProper (word.Number n) = IsPathNumber n
-IsProper other = ⊤
+IsProper _ = ⊤
 
 -- the parts of a path that was cut at its first slash
 abbrev pub joined : List ℕ → Option (List ℕ) → List (List ℕ)
@@ -48,9 +48,9 @@ joined first (Some rest) = first ∷ slice_split is_slash rest
 
 abbrev pub only : List Word → Option Word
 only (a ∷ []) = Some a
-only other = None
+only _ = None
 
 abbrev pub two_or_three : List Word → Option Words
 two_or_three (a ∷ b ∷ []) = Some (record { first = a; second = b; third = None })
 two_or_three (a ∷ b ∷ c ∷ []) = Some (record { first = a; second = b; third = Some c })
-two_or_three other = None
+two_or_three _ = None

@@ -44,7 +44,7 @@ call_at Post (Changeset ∷ Number id ∷ Upload ∷ []) = Some (Changes (edit.U
 call_at Put (Named kind ∷ Create ∷ []) = Some (Changes (edit.CreateSingle kind))
 call_at Put (Named kind ∷ Number id ∷ []) = Some (Changes (edit.ModifySingle (key_of kind id)))
 call_at Delete (Named kind ∷ Number id ∷ []) = Some (Changes (edit.DeleteSingle (key_of kind id)))
-call_at method words = None
+call_at _ _ = None
 
 -- the call of a request line, where it has one
 abbrev pub call_of : List ℕ → List ℕ → Option Call
@@ -57,7 +57,7 @@ call_of method target =
 abbrev pub HasPathNumber : Edit → Type 0
 HasPathNumber (edit.ModifySingle key) = IsPathNumber key.id
 HasPathNumber (edit.DeleteSingle key) = IsPathNumber key.id
-HasPathNumber other = ⊤
+HasPathNumber _ = ⊤
 
 abbrev pub HasPathNumbers : Call → Type 0
 HasPathNumbers (Read q) = ⊤

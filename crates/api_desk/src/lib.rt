@@ -2,9 +2,9 @@
 #![tactic(auto)]
 
 mod bodies;
+mod bytes;
 mod desk;
 mod faults;
-mod fields;
 mod law;
 mod media;
 mod parts;

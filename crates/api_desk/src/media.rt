@@ -2,9 +2,9 @@
 ghost use Rattle.std.specs.Prelude.{◌≡◌, option_copied};
 ghost use Rattle.std.specs.List.{before_first};
 ghost use Rattle.user_table.specs.Who.{is_gap, trimmed_start, trimmed_end, trimmed};
-ghost use Rattle.api_desk.specs.Media.{is_semicolon, names_xml, says_xml, is_blank, begins_as_xml, is_xml};
+ghost use Rattle.api_desk.specs.Media.{is_semicolon, has_xml_suffix, names_xml, says_xml, is_blank, begins_as_xml, is_xml};
 
-use crate::fields::value_of;
+use crate::bytes::{place_of, value_of};
 use http_wire::Message;
 
 fn is_gap(byte: u8) -> bool
@@ -37,19 +37,24 @@ fn trimmed_end(bytes: &[u8]) -> &[u8]
 fn before_parameters(media: &[u8]) -> &[u8]
     ensures { result.now ≡ before_first is_semicolon media.now }
 {
-    match media.iter().position(|byte| *byte == b';') {
+    match place_of(b';', media) {
         Some(end) => &media[..end],
         None => media,
     }
 }
 
+fn has_xml_suffix(kind: &[u8]) -> bool
+    ensures { result ≡ has_xml_suffix kind.now }
+{
+    kind[kind.len().saturating_sub(4)..].eq_ignore_ascii_case(b"+xml")
+}
+
 fn names_xml(kind: &[u8]) -> bool
     ensures { result ≡ names_xml kind.now }
 {
-    let ending = &kind[kind.len().saturating_sub(4)..];
     kind.eq_ignore_ascii_case(b"text/xml")
         || kind.eq_ignore_ascii_case(b"application/xml")
-        || ending.eq_ignore_ascii_case(b"+xml")
+        || has_xml_suffix(kind)
 }
 
 /// Whether a media type is that of XML (RFC 7303). Its parameters don't count.

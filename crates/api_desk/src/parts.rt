@@ -3,6 +3,7 @@ ghost use Rattle.std.specs.Prelude.{◌≡◌, option_copied, IfSome};
 ghost use Rattle.std.specs.List.{slice_split};
 ghost use Rattle.api_desk.specs.Parts.{is_slash, joined, word_of, words_of, two_or_three, only, IsProper};
 
+use crate::bytes::place_of;
 use osm_base::{Kind, path_number};
 
 /// A part of a path.
@@ -55,7 +56,7 @@ fn word_of(part: &[u8]) -> Word
 fn cut(path: &[u8]) -> (&[u8], Option<&[u8]>)
     ensures { slice_split is_slash path.now ≡ joined result.0.now (option_copied result.1) }
 {
-    match path.iter().position(|byte| *byte == b'/') {
+    match place_of(b'/', path) {
         Some(slash) => (&path[..slash], Some(&path[slash + 1..])),
         None => (path, None),
     }

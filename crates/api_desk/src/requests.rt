@@ -6,8 +6,8 @@ ghost use Rattle.api_desk.specs.Gives.{Gives, GivesRequest, GivesAsked, HasShown
 ghost use Rattle.user_table.specs.Who.{who_of};
 
 use crate::bodies::command_of;
+use crate::bytes::value_of;
 use crate::faults::RequestFault;
-use crate::fields::value_of;
 use crate::media::is_xml;
 use crate::routes::{Call, call_of};
 use http_wire::Message;

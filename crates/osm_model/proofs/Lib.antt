@@ -4,3 +4,4 @@ pub mod JournalLemmas
 pub mod Small
 mod Rows
 pub mod Points
+pub mod Timely

@@ -4,3 +4,4 @@ pub mod Journal
 pub mod Judged
 pub mod Ask
 pub mod Answered
+pub mod Timely

@@ -14,7 +14,7 @@ pub use acts::plain_act;
 pub use asks::plain_ask;
 pub use commands::{Accepted, Command, Entry};
 pub use journals::{Journal, Judged};
-pub use law::points_are_consistent;
+pub use law::{moments_are_bounded, points_are_consistent};
 pub use map_state::{Changeset, State, Work};
 pub use queries::Query;
 pub use steps::Step;

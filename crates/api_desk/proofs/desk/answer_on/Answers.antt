@@ -1,8 +1,8 @@
-use Rattle.api_desk.proofs.Replies.{change_answers, refusal_answers}
+use Rattle.api_desk.proofs.Replies.{change_answers, query_answers, refusal_answers}
 use Rattle.api_desk.proofs.desk.answer_on.Goals as goal
 
-pub returns-in-Ok-clause-answers : goal.returns-in-Ok-clause-answers
-returns-in-Ok-clause-answers c =
+pub returns-in-Ok-Change-clause-answers : goal.returns-in-Ok-Change-clause-answers
+returns-in-Ok-Change-clause-answers c =
     change_answers
     c.args.users.now
     c.args.session
@@ -10,13 +10,26 @@ returns-in-Ok-clause-answers c =
     c.change.new.journal
     c.args.message.now
     c.args.moment
-    c.in-Ok.asked.user
-    c.in-Ok.asked.command
+    c.in-Ok-Change.asked.user
+    c.in-Ok-Change.asked.command
     c.change.result
-    c.in-Ok.ensures.gives
+    (rw c.in-Ok-Change.field-0-is at c.in-Ok-Change.ensures.gives)
     c.change.ensures.reply
     c.change.ensures.journal
     c.change.ensures.memory
+
+pub returns-in-Ok-Read-clause-answers : goal.returns-in-Ok-Read-clause-answers
+returns-in-Ok-Read-clause-answers c =
+    query_answers
+    c.args.users.now
+    c.args.session
+    c.args.journal.now
+    c.args.message.now
+    c.args.moment
+    c.in-Ok-Read.query
+    c.read.result
+    (rw c.in-Ok-Read.field-0-is at c.in-Ok-Read.ensures.gives)
+    c.read.ensures.reply
 
 pub returns-in-Err-Refused-clause-answers : goal.returns-in-Err-Refused-clause-answers
 returns-in-Err-Refused-clause-answers c =
