@@ -1,6 +1,6 @@
 //! Uploads of changes (OpenStreetMap wiki, API v0.6, "Diff upload: POST
 //! /api/0.6/changeset/#id/upload"): what is done, what is refused, and that a refused one does nothing.
-use super::session::must_go;
+use super::session::{ONE_NODE, must_go};
 use osm_base::Memory;
 use std::alloc::Global;
 use std::test::Fail;
@@ -258,15 +258,8 @@ fn way_of(alloc: Global, count: usize, reply: &str) -> Result<String, Memory> {
     Ok(parts.concat(alloc)?)
 }
 
-#[test]
-fn ways_of_every_length(rt: HostRuntime) -> Result<(), Fail> {
-    let alloc = rt.alloc();
-    let start = r#"
-alice PUT changeset/create
-200 1
-alice POST changeset/1/upload {"osmChange":[{"create":[{"type":"node","id":-1,"lat7":481400000,"lon7":115400000}]}]}
-200 {"diffResult":[{"new_id":1,"new_version":1,"old_id":-1,"type":"node"}],"version":"0.6"}
-"#;
+/// A node, and ways of 2,000 references to it, of one more, and of none.
+fn ways(alloc: Global) -> Result<String, Memory> {
     let full = way_of(
         alloc,
         2_000,
@@ -274,7 +267,12 @@ alice POST changeset/1/upload {"osmChange":[{"create":[{"type":"node","id":-1,"l
     )?;
     let long = way_of(alloc, 2_001, r#"400 {"error":"way_long","op":1}"#)?;
     let empty = way_of(alloc, 0, r#"400 {"error":"way_empty","op":1}"#)?;
-    let text = [start, full.as_str(), long.as_str(), empty.as_str()].concat(alloc)?;
-    must_go(&rt, alloc, "ways", text.as_str())?;
+    Ok([ONE_NODE, full.as_str(), long.as_str(), empty.as_str()].concat(alloc)?)
+}
+
+#[test]
+fn ways_of_every_length(rt: HostRuntime) -> Result<(), Fail> {
+    let text = ways(rt.alloc())?;
+    must_go(&rt, rt.alloc(), "ways", text.as_str())?;
     Ok(())
 }
