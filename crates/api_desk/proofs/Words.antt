@@ -1,12 +1,9 @@
 -- The words of a path that was cut.
-use Rattle.std.proofs.Common.{◌≡◌, ℕ, ◌+◌, ◌<◌, List, [], ◌∷◌, length, map, Option, Some, None, refl, sym, ap, ◌∙◌, subst, arith, rules}
+use Rattle.std.proofs.Common.{◌≡◌, ℕ, ◌+◌, ◌<◌, List, [], ◌∷◌, length, map, None, refl, subst, arith, rules}
 use Rattle.std.specs.Prelude.{count_by}
 use Rattle.std.specs.List.{slice_split}
-use Rattle.std.proofs.lemmas.Grind.{common_steps}
 use Rattle.std.proofs.lemmas.List.Splits.{length-slice_split}
 use Rattle.api_desk.specs.declared.parts.Word.{Word}
-use Rattle.api_desk.specs.declared.parts.Words.{Words}
-use Rattle.api_desk.specs.declared.routes.Call.{Call}
 use Rattle.api_desk.specs.declared.routes.Method.{Method}
 use Rattle.api_desk.specs.Parts.{is_slash, word_of, words_of, only, two_or_three}
 use Rattle.api_desk.specs.Routes.{call_at}

@@ -5,12 +5,10 @@ use Rattle.osm_change.specs.Build.{change_of as built}
 use Rattle.osm_change.specs.declared.operations.Op.{Op}
 use Rattle.osm_change.specs.declared.raw.Action.{Action}
 use Rattle.osm_change.specs.declared.raw.Action.TheVariants.{Create, Modify, Delete}
-use Rattle.osm_change.specs.declared.raw.RawOp.{RawOp}
 use Rattle.osm_change.specs.declared.refusals.Refusal.{Refusal}
 use Rattle.osm_change.specs.declared.refusals.Refusal.TheVariants as refusals
 use Rattle.osm_element.specs.Limits.{check_tags}
 use Rattle.osm_element.specs.Tags.{Tag}
-use Rattle.osm_element.specs.declared.faults.LocalFault.{LocalFault}
 use Rattle.osm_json.specs.Reading.{changeset_tags, change_of, single_in}
 use Rattle.osm_model.specs.declared.commands.Command.{Command}
 use Rattle.osm_model.specs.declared.commands.Command.TheVariants as command

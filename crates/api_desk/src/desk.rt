@@ -56,12 +56,7 @@ fn change(
 }
 
 /// Answers a query by all of the journal.
-fn read(
-    journal: &Journal,
-    alloc: Global,
-    query: Query,
-    moment: u64,
-) -> Result<Reply, Memory>
+fn read(journal: &Journal, alloc: Global, query: Query, moment: u64) -> Result<Reply, Memory>
     ensures reply { IfOk result (λ reply. reply
         ≡ reply_of (Some (ask (replay journal.now) moment query))) }
     ensures status { IfOk result (λ reply. IsStatus reply.status) }

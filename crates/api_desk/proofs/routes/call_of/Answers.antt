@@ -1,4 +1,4 @@
-use Rattle.std.proofs.Common.{◌≡◌, rules, sym, ◌∙◌}
+use Rattle.std.proofs.Common.{rules, sym, ◌∙◌}
 use Rattle.api_desk.proofs.Words.{no_call}
 use Rattle.api_desk.proofs.routes.call_of.Goals as goal
 
