@@ -1,5 +1,6 @@
 //! Input that comes in pieces, and input that ends too early.
-use super::fixture::{CREATION, Came, answered, answered_in};
+use super::fixture::{CREATION, Came, Given, answered, answered_in, reply, served};
+use super::session::{ONE_NODE, Session};
 use osm_base::Memory;
 use std::alloc::Global;
 use std::test::Fail;
@@ -12,35 +13,32 @@ fn in_pieces(alloc: Global, input: &str, size: usize) -> Result<Came, Memory> {
 
 #[test]
 fn pieces_of_any_size(rt: HostRuntime) -> Result<(), Fail> {
-    let input = CREATION.repeat(rt.alloc(), 2)?;
-    let whole = answered(rt.alloc(), input.as_str())?;
+    let Session { input, replies } = Session::of(rt.alloc(), ONE_NODE)?;
+    let want = replies.as_slice().concat(rt.alloc())?;
     for size in 1..input.len() {
         let came = in_pieces(rt.alloc(), input.as_str(), size)?;
         assert_eq!(rt; came.status, 0, "{size}");
-        assert_eq!(rt; came.written.as_slice(), whole.written.as_slice(), "{size}");
+        assert_eq!(rt; came.written.as_slice(), want.as_bytes(), "{size}");
     }
     Ok(())
 }
 
 #[test]
 fn two_pieces(rt: HostRuntime) -> Result<(), Fail> {
-    let input = CREATION.repeat(rt.alloc(), 2)?;
-    let whole = answered(rt.alloc(), input.as_str())?;
+    let Session { input, replies } = Session::of(rt.alloc(), ONE_NODE)?;
+    let want = replies.as_slice().concat(rt.alloc())?;
     for first in 1..input.len() {
         let came = answered_in(rt.alloc(), input.as_str(), &[first])?;
         assert_eq!(rt; came.status, 0, "{first}");
-        assert_eq!(rt;
-            came.written.as_slice(),
-            whole.written.as_slice(),
-            "{first}"
-        );
+        assert_eq!(rt; came.written.as_slice(), want.as_bytes(), "{first}");
     }
     Ok(())
 }
 
 /// The first bytes of an input, and no more.
 fn cut_off(alloc: Global, input: &str, count: usize) -> Result<Came, Memory> {
-    answered(alloc, input.get(..count).unwrap_or(input))
+    let given = Given::usual(input.as_bytes().get(..count).unwrap_or(&[]));
+    served(alloc, &given)
 }
 
 #[test]
@@ -53,8 +51,25 @@ fn the_end_inside_a_head(rt: HostRuntime) -> Result<(), Fail> {
     Ok(())
 }
 
+/// The end inside the second message, its head or its body: the first one's reply came.
 #[test]
-fn the_end_inside_a_body(rt: HostRuntime) -> Result<(), Fail> {
+fn the_end_inside_an_upload(rt: HostRuntime) -> Result<(), Fail> {
+    let session = Session::of(rt.alloc(), ONE_NODE)?;
+    let want = reply(rt.alloc(), "200 OK", "", "1")?;
+    let whole = CREATION.len();
+    let came = cut_off(rt.alloc(), session.input.as_str(), whole)?;
+    assert_eq!(rt; came.status, 0);
+    assert_eq!(rt; came.written.as_slice(), want.as_bytes());
+    for count in whole + 1..session.input.len() {
+        let came = cut_off(rt.alloc(), session.input.as_str(), count)?;
+        assert_eq!(rt; came.status, 7, "{count}");
+        assert_eq!(rt; came.written.as_slice(), want.as_bytes(), "{count}");
+    }
+    Ok(())
+}
+
+#[test]
+fn the_end_inside_the_only_body(rt: HostRuntime) -> Result<(), Fail> {
     let input =
         "PUT /api/0.6/changeset/create HTTP/1.1\r\nAuthorization: Bearer alicetoken\r\nContent-Length: 3\r\n\r\n";
     for start in ["", "{", "{}"] {

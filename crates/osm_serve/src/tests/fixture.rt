@@ -7,6 +7,9 @@ use std::alloc::Global;
 /// The words of most runs.
 pub const WORDS: [&str; 6] = ["osm", "pipe", "--users", "users.txt", "--at", "1700000000"];
 
+/// The words of a run by the link's own clock.
+pub const WORDS_BY_THE_CLOCK: [&str; 4] = ["osm", "pipe", "--users", "users.txt"];
+
 /// The users text of most runs.
 pub const USERS: &str = "1 alicetoken user alice\n2 bobtoken moderator bob\n";
 
@@ -19,13 +22,34 @@ pub const CREATION: &str =
 pub struct Given<'a> {
     pub words: &'a [&'a str],
     pub users: &'a str,
-    pub input: &'a str,
+    pub input: &'a [u8],
+    /// What each reading of the clock gives, past the list the last of it, until it is fixed.
+    pub moments: &'a [u64],
     /// The most bytes that each read gives, past the list any number.
     pub cuts: &'a [usize],
+    /// The room for what is written, in bytes.
+    pub room: usize,
     /// The numbers of the calls that fail, from 0: of the host, of reading and of writing.
     pub bad_calls: &'a [u64],
     pub bad_reads: &'a [u64],
     pub bad_writes: &'a [u64],
+}
+
+impl<'a> Given<'a> {
+    /// A run with the usual words and users, with that input in any pieces, in which nothing fails.
+    pub fn usual(input: &'a [u8]) -> Given<'a> {
+        Given {
+            words: &WORDS,
+            users: USERS,
+            input,
+            moments: &[],
+            cuts: &[],
+            room: 1_000_000,
+            bad_calls: &[],
+            bad_reads: &[],
+            bad_writes: &[],
+        }
+    }
 }
 
 /// What comes of a run: the program's status, and what it wrote.
@@ -44,16 +68,16 @@ pub fn owned(alloc: Global, words: &[&str]) -> Result<Vec<String>, Memory> {
     Ok(strings)
 }
 
-/// The link of a run, with ample room.
+/// The link of a run.
 fn link_of(alloc: Global, given: &Given<'_>) -> Result<MemLink, Memory> {
     MemLink::new(
         alloc,
-        Bytes::of(alloc, given.input.as_bytes())?,
+        Bytes::of(alloc, given.input)?,
         given.cuts.to_vec(alloc)?,
-        Vec::new(alloc),
+        given.moments.to_vec(alloc)?,
         given.bad_reads.to_vec(alloc)?,
         given.bad_writes.to_vec(alloc)?,
-        100_000,
+        given.room,
     )
 }
 
@@ -70,7 +94,7 @@ pub fn served(alloc: Global, given: &Given<'_>) -> Result<Came, Memory> {
 
 /// A run with that input in which nothing fails.
 pub fn answered(alloc: Global, input: &str) -> Result<Came, Memory> {
-    answered_in(alloc, input, &[])
+    served(alloc, &Given::usual(input.as_bytes()))
 }
 
 /// The same, with the input cut as `Given` says.
@@ -78,13 +102,8 @@ pub fn answered_in(alloc: Global, input: &str, cuts: &[usize]) -> Result<Came, M
     served(
         alloc,
         &Given {
-            words: &WORDS,
-            users: USERS,
-            input,
             cuts,
-            bad_calls: &[],
-            bad_reads: &[],
-            bad_writes: &[],
+            ..Given::usual(input.as_bytes())
         },
     )
 }

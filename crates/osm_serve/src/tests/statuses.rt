@@ -1,5 +1,5 @@
 //! The program's statuses where nothing is served, or the outside fails.
-use super::fixture::{CREATION, Came, Given, USERS, WORDS, served};
+use super::fixture::{CREATION, Came, Given, served};
 use osm_base::Memory;
 use std::alloc::Global;
 use std::test::Fail;
@@ -10,12 +10,7 @@ fn with_words(alloc: Global, words: &[&str]) -> Result<Came, Memory> {
         alloc,
         &Given {
             words,
-            users: USERS,
-            input: CREATION,
-            cuts: &[],
-            bad_calls: &[],
-            bad_reads: &[],
-            bad_writes: &[],
+            ..Given::usual(CREATION.as_bytes())
         },
     )
 }
@@ -33,13 +28,8 @@ fn with_users(alloc: Global, users: &str) -> Result<Came, Memory> {
     served(
         alloc,
         &Given {
-            words: &WORDS,
             users,
-            input: CREATION,
-            cuts: &[],
-            bad_calls: &[],
-            bad_reads: &[],
-            bad_writes: &[],
+            ..Given::usual(CREATION.as_bytes())
         },
     )
 }
@@ -58,13 +48,10 @@ fn with_bad(alloc: Global, calls: &[u64], reads: &[u64], writes: &[u64]) -> Resu
     served(
         alloc,
         &Given {
-            words: &WORDS,
-            users: USERS,
-            input: input.as_str(),
-            cuts: &[],
             bad_calls: calls,
             bad_reads: reads,
             bad_writes: writes,
+            ..Given::usual(input.as_bytes())
         },
     )
 }
