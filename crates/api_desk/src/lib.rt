@@ -15,3 +15,6 @@ pub use desk::OneDesk;
 pub use faults::RequestFault;
 pub use law::desk_answers;
 pub use requests::{Asked, Request, request_of};
+
+#[cfg(test)]
+mod tests;

@@ -1,12 +1,6 @@
-//! What the rules are meant to say, at worked examples: uploads are built from raw operations and
-//! done on a journal.
+//! What the rules are meant to say, at worked examples without uploads.
 
 mod fixture;
 mod journals;
-mod limits;
-mod order;
-mod placeholders;
-mod redactions;
-mod sessions;
 mod times;
 mod vectors;

@@ -1,0 +1,6 @@
+//! Uploads on a journal, as bodies and the texts of what they are told.
+
+mod journal;
+mod limits;
+mod redactions;
+mod uploads;
