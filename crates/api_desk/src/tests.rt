@@ -4,3 +4,4 @@ mod journal;
 mod limits;
 mod redactions;
 mod uploads;
+mod values;

@@ -56,7 +56,7 @@ pub fn told(alloc: Global, answer: &Answer) -> Result<String, Memory> {
 }
 
 /// The change of a body, or why it is none.
-fn change_of(alloc: Global, body: &str) -> Result<Result<Change, String>, Fail> {
+pub fn change_of(alloc: Global, body: &str) -> Result<Result<Change, String>, Fail> {
     let raw = read_change(alloc, body.as_bytes())?;
     match Change::build(alloc, 1, raw) {
         Ok(change) => Ok(Ok(change)),
