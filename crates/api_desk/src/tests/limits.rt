@@ -12,15 +12,14 @@ const NODE: &str =
 
 /// An upload of a way with so many references to node 1.
 fn way_of(alloc: Global, count: usize) -> Result<String, Memory> {
-    let more = ",1".repeat(alloc, count.saturating_sub(1))?;
-    let first = if count == 0 { "" } else { "1" };
-    let parts = [
-        r#"{"osmChange":[{"create":[{"type":"way","id":-1,"nodes":["#,
-        first,
-        more.as_str(),
-        "]}]}]}",
-    ];
-    Ok(parts.concat(alloc)?)
+    let start = r#"{"osmChange":[{"create":[{"type":"way","id":-1,"nodes":["#;
+    let mut text = String::from_str(alloc, start)?;
+    for place in 0..count {
+        let next = if place == 0 { "1" } else { ",1" };
+        text.push_str(next)?;
+    }
+    text.push_str("]}]}]}")?;
+    Ok(text)
 }
 
 /// What an upload of a way with so many references is told.
