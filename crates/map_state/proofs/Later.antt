@@ -2,13 +2,13 @@
 use Rattle.std.proofs.Common.{◌≡◌, ℕ, zero, suc, ◌+◌, ◌-◌, ◌<◌, ◌≤◌, Bool, true, false, ◌&&◌, ⊎_elim, List, [], ◌∷◌, ◌++◌, length, map, length-append, get_or, Option, Some, None, refl, sym, ap, ◌∙◌, subst, append_assoc, arith}
 use Rattle.std.specs.Prelude.{slice_get, slice_set, is_some, option_and_then, ◌==◌, if◌then◌else◌}
 use Rattle.std.specs.Option.{option_map_or}
-use Rattle.std.proofs.lemmas.Bool.{eqb-true}
+use Rattle.std.proofs.lemmas.Bool.{eqb-true, cases_Bool}
 use Rattle.std.proofs.lemmas.Bool.Decides.{nat_tests}
 use Rattle.std.proofs.lemmas.List.{get_or-set_same, get_or-set_other}
 use Rattle.osm_base.specs.Key.{kind_eq, key_eq, lists_key}
 use Rattle.osm_base.specs.declared.keys.Kind.{Kind}
 use Rattle.osm_base.specs.declared.keys.Key.{Key}
-use Rattle.osm_base.proofs.KeyOrder.{bool_cases, kind_eq-same, key_eq-same}
+use Rattle.osm_base.proofs.KeyOrder.{kind_eq-same, key_eq-same}
 use Rattle.osm_element.specs.declared.contents.Content.{Content}
 use Rattle.osm_element.specs.declared.versions.Version.{Version}
 use Rattle.osm_element.specs.declared.elements.Elements.{Elements}
@@ -69,7 +69,7 @@ next-push E k v kind counted =
     ∙ ap (λ (b : Bool). if b then (if k.id == next_id E k.kind then next_id E kind + 1 else next_id E kind) else next_id E kind) (sym t))
     (λ f. ap (λ (b : Bool). length (if b then add_version (histories E k.kind) (k.id - 1) v else histories E kind) + 1) f
     ∙ ap (λ (b : Bool). if b then (if k.id == next_id E k.kind then next_id E kind + 1 else next_id E kind) else next_id E kind) (sym f))
-    (bool_cases (kind_eq kind k.kind))
+    (cases_Bool (kind_eq kind k.kind))
   where
     tests : (id n : ℕ) → 0 < id → (id - 1 == n) ≡ (id == n + 1)
     tests id n counted = grind (arith, nat_tests)
@@ -111,7 +111,7 @@ later-push E k v counted reached = record {
             ∙ ap (λ (b : Bool). map (λ (v : Version). v.content) (if b then history E k ++ v ∷ [] else history E a)) f
             ∙ ((later-refl E).kept a).1,
       ))
-      (bool_cases (key_eq a k));
+      (cases_Bool (key_eq a k));
 }
 
 pub begun-push :
@@ -134,7 +134,7 @@ begun-push E k v counted reached begun = record {
       in
       let was : 0 < count E a = begun.begun a some (earlier E k a v counted f below) in
       omega (arith, now, was))
-      (bool_cases (key_eq a k));
+      (cases_Bool (key_eq a k));
 }
   where
     -- another id was given before
@@ -154,7 +154,7 @@ begun-push E k v counted reached begun = record {
         next-push E k v a.kind counted ∙ ap (λ (b : Bool). if b then (if k.id == next_id E k.kind then next_id E a.kind + 1 else next_id E a.kind) else next_id E a.kind) n
         in
         omega (arith, still, below))
-        (bool_cases (kind_eq a.kind k.kind))
+        (cases_Bool (kind_eq a.kind k.kind))
 
 -- -- a mark
 
@@ -203,7 +203,7 @@ alike-mark vs n m = by (version_in vs n) (λ v e. found v e)
     found v e = ⊎_elim
         (λ t. absurd (none v (sym (ap (λ (b : Bool). if b then None else slice_get vs (n - 1)) t) ∙ e)))
         (λ f. sym (ap (λ (b : Bool). if b then None else slice_get vs (n - 1)) f) ∙ e)
-        (bool_cases (n == 0))
+        (cases_Bool (n == 0))
 
 alike-last : (vs ws : List Version) → Alike vs ws → last_content ws ≡ last_content vs
 alike-last vs ws same =
@@ -235,8 +235,8 @@ history_in-set hs id vs a counted within =
     ∙ get_or-set_other hs (id - 1) (a - 1) vs [] (apart a id f counted unlike)
     ∙ sym (ap (λ (b : Bool). if b then [] else get_or hs (a - 1) []) f)
     ∙ ap (λ (b : Bool). if b then vs else history_in hs a) (sym unlike))
-    (bool_cases (a == id)))
-    (bool_cases (a == 0))
+    (cases_Bool (a == id)))
+    (cases_Bool (a == 0))
   where
     apart : (a id : ℕ) → (a == 0) ≡ false → 0 < id → (a == id) ≡ false → a - 1 ≡ id - 1 → ⊥
     apart a id f counted unlike e = grind (arith, nat_tests)
@@ -257,7 +257,7 @@ history-mark E k a n m counted within =
     ∙ ap (λ (b : Bool). if b && (a.id == k.id) then mark_in (history E k) n m else history E a) (sym t))
     (λ f. ap (λ (b : Bool). history_in (if b then hs else histories E a.kind) a.id) f
     ∙ ap (λ (b : Bool). if b && (a.id == k.id) then mark_in (history E k) n m else history E a) (sym f))
-    (bool_cases (kind_eq a.kind k.kind))
+    (cases_Bool (kind_eq a.kind k.kind))
 
 -- every history holds the same after a mark
 alike-marked :
@@ -273,7 +273,7 @@ alike-marked E k a n m counted within =
     (λ f. subst (λ (vs : List Version). Alike (history E a) vs)
     (sym (history-mark E k a n m counted within ∙ ap (λ (b : Bool). if b then mark_in (history E k) n m else history E a) f))
     (record { long = refl; each = λ j. refl; whole = refl }))
-    (bool_cases (key_eq a k))
+    (cases_Bool (key_eq a k))
 
 pub content-mark :
     (E : Elements) (k a : Key) (n : ℕ) (m : Option ℕ)
@@ -290,7 +290,7 @@ next-mark E k n m kind =
     ∙ ap (λ (l : ℕ). l + 1) (length-set (histories E k.kind) (k.id - 1) (mark_in (history E k) n m))
     ∙ ap (λ (other : Kind). next_id E other) (sym (kind_eq-same kind k.kind t)))
     (λ f. ap (λ (b : Bool). length (if b then slice_set (histories E k.kind) (k.id - 1) (mark_in (history E k) n m) else histories E kind) + 1) f)
-    (bool_cases (kind_eq kind k.kind))
+    (cases_Bool (kind_eq kind k.kind))
 
 pub later-mark :
     (E : Elements) (k : Key) (n : ℕ) (m : Option ℕ)
@@ -352,18 +352,15 @@ given-there E k some = ⊎_elim (λ none. absurd (contrary (count E k) (ap lengt
     contrary : (n : ℕ) → n ≡ 0 → (n == 0) ≡ false → ⊥
     contrary n e f = grind (arith, nat_tests)
 
+nonzero : (n : ℕ) → 0 < n → (n == 0) ≡ false
+nonzero n h = grind (arith, nat_tests)
+
 pub given_some : (E : Elements) (k : Key) → 0 < count E k → (0 < k.id) × (k.id ≤ length (histories E k.kind))
 given_some E k some = given-there E k (nonzero (count E k) some)
-  where
-    nonzero : (n : ℕ) → 0 < n → (n == 0) ≡ false
-    nonzero n h = grind (arith, nat_tests)
 
 pub history_in_there : (hs : List (List Version)) (id : ℕ) → 0 < id → id ≤ length hs → (h : List Version) → slice_get hs (id - 1) ≡ Some h → h ≡ history_in hs id
 history_in_there hs id counted within h found =
     sym (ap (λ (b : Bool). if b then [] else get_or hs (id - 1) []) (nonzero id counted) ∙ get_or_from_slice_get hs (id - 1) h [] found)
-  where
-    nonzero : (n : ℕ) → 0 < n → (n == 0) ≡ false
-    nonzero n h = grind (arith, nat_tests)
 
 pub mark_of_is :
     (hs : List (List Version)) (id n : ℕ) (m : Option ℕ) (h none : List Version)
@@ -384,6 +381,3 @@ mark_in_there vs n m v hidden counted found =
     set_twice vs (n - 1) hidden (record v { redaction = m })
     ∙ ap (λ (o : Option Version). option_map_or (λ v. slice_set vs (n - 1) (record v { redaction = m })) o vs)
     (sym (ap (λ (b : Bool). if b then None else slice_get vs (n - 1)) (nonzero n counted) ∙ found))
-  where
-    nonzero : (n : ℕ) → 0 < n → (n == 0) ≡ false
-    nonzero n h = grind (arith, nat_tests)

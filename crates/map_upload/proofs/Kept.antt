@@ -1,15 +1,16 @@
 -- What an accepted upload keeps: whatever a visible element lists is visible, ids that were given
 -- have versions, and histories only grow.
-use Rattle.std.proofs.Common.{◌≡◌, ℕ, zero, suc, ◌+◌, ◌<◌, ◌≤◌, Bool, true, false, List, [], ◌∷◌, ◌++◌, length, inl, inr, ◌⊎◌, Some, None, Ok, Err, refl, sym, ap, ◌∙◌, ⊎_elim, subst, arith}
+use Rattle.std.proofs.Common.{◌≡◌, ℕ, ◌+◌, ◌<◌, ◌≤◌, Bool, true, false, List, [], ◌∷◌, ◌++◌, length, Some, None, Ok, Err, refl, sym, ap, ◌∙◌, ⊎_elim, subst, arith}
 use Rattle.std.specs.Prelude.{Option, Result, slice_get, option_and_then, nat_lt, ◌==◌, if◌then◌else◌}
 use Rattle.std.specs.Option.{option_map_or}
 use Rattle.std.proofs.lemmas.Bool.Decides.{nat_tests}
+use Rattle.std.proofs.lemmas.Bool.{cases_Bool}
 use Rattle.osm_base.specs.Key.{kind_eq, lists_key}
 use Rattle.osm_base.specs.declared.limits.TheConstants.{CHANGE_LIMIT}
 use Rattle.osm_base.specs.declared.keys.Kind.{Kind}
 use Rattle.osm_base.specs.declared.keys.Key.{Key}
 use Rattle.osm_base.specs.declared.people.User.{User}
-use Rattle.osm_base.proofs.KeyOrder.{bool_cases}
+use Rattle.osm_base.proofs.Pushed.{found_in_push}
 use Rattle.osm_element.specs.Elements.{key, next_id, count, is_visible, users, push_version, IsConsistent, KeepsConsistent}
 use Rattle.osm_element.specs.Tags.{Tag}
 use Rattle.osm_element.specs.declared.contents.Content.{Content}
@@ -56,16 +57,6 @@ pub record IsUnderway (u : Upload) (g : Progress) : Type 0 where
 given-later : (E F : Elements) (k : Key) → IsLater E F → IsGiven E k → IsGiven F k
 given-later E F k later given = record { counted = given.counted; below = omega (arith, later.grown k.kind, given.below) }
 
--- an item of a list with one more at its end
-found_in_push :
-    {A : Type 0} (xs : List A) (y : A) (n : ℕ) (x : A)
-    → slice_get (xs ++ y ∷ []) n ≡ Some x
-    → (slice_get xs n ≡ Some x) ⊎ (x ≡ y)
-found_in_push [] y zero x found = inr cc
-found_in_push [] y (suc n) x found = cc
-found_in_push (z ∷ zs) y zero x found = inl found
-found_in_push (z ∷ zs) y (suc n) x found = found_in_push zs y n x found
-
 -- with one more key
 given-more :
     (E F : Elements) (ks : List Key) (k : Key)
@@ -77,8 +68,8 @@ given-more :
     → IsGiven F x
 given-more E F ks k later given this place x found =
     ⊎_elim
-    (λ old. given-later E F x later (given place x old))
-    (λ new. subst (λ (y : Key). IsGiven F y) (sym new) this)
+    (λ old. given-later E F x later (given place x old.0))
+    (λ new. subst (λ (y : Key). IsGiven F y) (sym new.1) this)
     (found_in_push ks k place x found)
 
 -- the element that gets a version has an id that is given then
@@ -133,7 +124,7 @@ known-given u g kind (Old id) k on known_is =
     (λ t. absurd (none-some k (sym (ap (λ (b : Bool). if b then None else Some (key kind id)) t) ∙ known_is)))
     (λ f. let same : key kind id ≡ k = unsome (key kind id) k (sym (ap (λ (b : Bool). if b then None else Some (key kind id)) f) ∙ known_is) in
     subst (λ (x : Key). IsGiven g.state.elements x) same (given-later u.before g.state.elements (key kind id) on.later (old f)))
-    (bool_cases (count u.before (key kind id) == 0))
+    (cases_Bool (count u.before (key kind id) == 0))
   where
     none-some : (k : Key) → ◌≡◌ {A = Option Key} None (Some k) → ⊥
     none-some k e = cc
@@ -164,7 +155,7 @@ known-given u g kind (New place) k on known_is = by (slice_get g.keys place) ref
         (unsome x k (sym (ap (λ (b : Bool). if b then Some x else None) t) ∙ e))
         (on.given place x at))
         (λ f. absurd (none-some k (sym (ap (λ (b : Bool). if b then Some x else None) f) ∙ e)))
-        (bool_cases (kind_eq x.kind kind))
+        (cases_Bool (kind_eq x.kind kind))
 
 named-known : (o : Option Key) (r : Refusal) (k : Key) → option_map_or Ok o (Err r) ≡ Ok k → o ≡ Some k
 named-known None r k e = cc

@@ -1,12 +1,13 @@
 -- The references of an accepted operation are visible.
 use Rattle.std.proofs.Common.{◌≡◌, Bool, true, false, cond, ◌||◌, List, [], ◌∷◌, map, Some, None, Ok, Err, refl, sym, ap, ◌∙◌, ⊎_elim}
-use Rattle.std.specs.Prelude.{Option, find, not, slice_get, option_and_then, ◌==◌, if◌then◌else◌}
+use Rattle.std.specs.Prelude.{Option, find, slice_get, option_and_then, ◌==◌, if◌then◌else◌}
 use Rattle.std.specs.Option.{option_map_or}
+use Rattle.std.proofs.lemmas.Bool.{cases_Bool, false≢true, not-false}
 use Rattle.osm_base.specs.Key.{kind_eq, key_eq, lists_key}
 use Rattle.osm_base.specs.declared.keys.Kind.{Kind}
 use Rattle.osm_base.specs.declared.keys.Kind.TheVariants as kind
 use Rattle.osm_base.specs.declared.keys.Key.{Key}
-use Rattle.osm_base.proofs.KeyOrder.{bool_cases, kind_eq-same, key_eq-same}
+use Rattle.osm_base.proofs.KeyOrder.{kind_eq-same, key_eq-same}
 use Rattle.osm_element.specs.Elements.{key, count, is_visible, refs, key_of_member}
 use Rattle.osm_element.specs.declared.contents.Content.{Content}
 use Rattle.osm_element.specs.declared.contents.Content.TheVariants.{Node, Way, Relation}
@@ -20,9 +21,6 @@ use Rattle.map_upload.specs.declared.uploads.Progress.{Progress}
 use Rattle.map_upload.specs.Upload.{Upload}
 use Rattle.map_upload.specs.Names.{id_of, of_kind, known_key, with_ids, member_with_id}
 use Rattle.map_upload.specs.Operation.{is_missing, missing, references_visible}
-
-false-not-true : {b : Bool} → b ≡ false → b ≡ true → ⊥
-false-not-true f t = cc
 
 -- the key that a name stands for
 abbrev key_named : List Key → Named → Key
@@ -38,12 +36,8 @@ new-known g k (Some x) seen =
     (λ t. ap (λ (kind : Kind). is_visible g.state.elements (key kind x.id)) (sym (kind_eq-same x.kind k t))
     ∙ sym (ap (λ (b : Bool). option_map_or (is_visible g.state.elements) (if b then Some x else None) false) t)
     ∙ seen)
-    (λ f. absurd (false-not-true {b = false} refl (sym (ap (λ (b : Bool). option_map_or (is_visible g.state.elements) (if b then Some x else None) false) f) ∙ seen)))
-    (bool_cases (kind_eq x.kind k))
-
-not-false : (b : Bool) → not b ≡ false → b ≡ true
-not-false true e = refl
-not-false false e = cc
+    (λ f. absurd (false≢true (sym (ap (λ (b : Bool). option_map_or (is_visible g.state.elements) (if b then Some x else None) false) f) ∙ seen)))
+    (cases_Bool (kind_eq x.kind k))
 
 known-visible :
     (u : Upload) (g : Progress) (k : Kind) (name : Name)
@@ -52,10 +46,10 @@ known-visible :
 known-visible u g k (Old id) there =
     let seen = not-false (option_map_or (is_visible g.state.elements) (known_key u g k (Old id)) false) there in
     ⊎_elim
-    (λ t. absurd (false-not-true {b = false} refl
+    (λ t. absurd (false≢true
     (sym (ap (λ (b : Bool). option_map_or (is_visible g.state.elements) (if b then None else Some (key k id)) false) t) ∙ seen)))
     (λ f. sym (ap (λ (b : Bool). option_map_or (is_visible g.state.elements) (if b then None else Some (key k id)) false) f) ∙ seen)
-    (bool_cases (count u.before (key k id) == 0))
+    (cases_Bool (count u.before (key k id) == 0))
 known-visible u g k (New place) there =
     new-known g k (slice_get g.keys place) (not-false (option_map_or (is_visible g.state.elements) (known_key u g k (New place)) false) there)
 
@@ -73,8 +67,8 @@ named-visible u g (r ∷ rs) b none listed =
     (λ n. named-visible u g rs b
     (sym (ap (λ (x : Bool). cond x (Some r) (find (is_missing u g) rs)) f) ∙ none)
     (sym (ap (λ (x : Bool). x || lists_key (map (key_named g.keys) rs) b) n) ∙ listed))
-    (bool_cases (key_eq (key_named g.keys r) b)))
-    (bool_cases (is_missing u g r))
+    (cases_Bool (key_eq (key_named g.keys r) b)))
+    (cases_Bool (is_missing u g r))
   where
     some-none : (r : Named) → ◌≡◌ {A = Option Named} (Some r) None → ⊥
     some-none r e = cc

@@ -1,4 +1,4 @@
-ghost use Rattle.std.specs.Prelude.{◌≡◌, map, position, option_copied, slice_get, IfOk};
+ghost use Rattle.std.specs.Prelude.{◌≡◌, map, position, option_copied, IfOk};
 ghost use Rattle.osm_base.specs.Key.{key_eq};
 ghost use Rattle.osm_change.specs.Said.{placeholder_in};
 ghost use Rattle.map_upload.specs.Names.{id_of, of_kind, known_key, said, said_at, said_key, with_ids, member_with_id};

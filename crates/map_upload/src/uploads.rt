@@ -1,12 +1,9 @@
-ghost use Rattle.std.specs.Prelude.{◌≡◌, ◌<◌, ◌^◌, length, count_by, IfOk};
-ghost use Rattle.map_state.specs.Outcome.{Gives, Leaves};
-ghost use Rattle.map_upload.specs.Judged.{start, is_applied, applied_count, finished, upload};
-ghost use Rattle.map_upload.specs.Operation.{operate_all};
+ghost use Rattle.std.specs.Prelude.{◌≡◌, ◌<◌, ◌^◌, count_by, IfOk};
+ghost use Rattle.map_upload.specs.Judged.{start, is_applied, applied_count};
 
-use crate::operations::operate;
-use map_state::{Fault, State, own_changeset, set_activity};
-use osm_base::{CHANGE_LIMIT, Items, Key, Memory, Stamp, TryCopy, User};
-use osm_change::{Change, Op, OpDone, Refusal};
+use map_state::State;
+use osm_base::{Items, Key, Memory, Stamp, TryCopy};
+use osm_change::{Op, OpDone};
 use osm_element::Elements;
 use std::alloc::Global;
 use std::marker::Model;

@@ -1,5 +1,5 @@
 -- Worked boxes and stamps.
-use Rattle.std.proofs.Common.{◌≡◌, ℕ, ℤ, pos, negsuc, Ok, Err, refl}
+use Rattle.std.proofs.Common.{◌≡◌, ℤ, pos, negsuc, Ok, Err, refl}
 use Rattle.osm_base.specs.Place.{Area, area_between, square_units}
 use Rattle.osm_base.specs.Stamp.{stamp_after}
 use Rattle.osm_base.specs.declared.box_faults.BoxFault.TheVariants.{OutOfRange, Crossed}

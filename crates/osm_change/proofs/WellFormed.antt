@@ -1,5 +1,5 @@
 -- In operations that were read each name of a created element stands after its creation.
-use Rattle.std.proofs.Common.{◌≡◌, ℕ, zero, suc, ◌^◌, ◌<◌, Bool, true, false, ◌&&◌, List, [], ◌∷◌, ◌++◌, length, take, map, Option, Some, None, ℤ, pos, negsuc, Result, Ok, Err, refl, sym, ap, ◌∙◌, subst, arith, true≢false, slice_get}
+use Rattle.std.proofs.Common.{◌≡◌, ℕ, zero, suc, ◌^◌, ◌<◌, Bool, true, List, [], ◌∷◌, ◌++◌, length, take, map, Option, Some, None, ℤ, pos, negsuc, Result, Ok, Err, refl, sym, ap, ◌∙◌, subst, arith, true≢false, slice_get}
 use Rattle.std.specs.Prelude.{All, MatchOption, position, ⊤}
 use Rattle.std.proofs.lemmas.Int.{ints}
 use Rattle.std.proofs.lemmas.List.{append_assoc, append-nil}
@@ -7,6 +7,7 @@ use Rattle.std.proofs.lemmas.List.Elements.{All-nil, All-cons, All-head, All-tai
 use Rattle.std.proofs.lemmas.List.Quantifiers.{position-Some}
 use Rattle.std.proofs.lemmas.Option.{slice_get-get_or}
 use Rattle.std.proofs.Math.ListN.{get_or}
+use Rattle.std.proofs.lemmas.Bool.{and_parts}
 use Rattle.osm_base.specs.Key.{kind_eq}
 use Rattle.osm_base.specs.declared.keys.Kind.{Kind}
 use Rattle.osm_base.specs.declared.keys.Kind.TheVariants.{Node, Way, Relation}
@@ -29,10 +30,6 @@ use Rattle.osm_change.specs.declared.operations.Name.TheVariants.{Old, New}
 use Rattle.osm_change.specs.declared.operations.Named.{Named}
 use Rattle.osm_change.specs.declared.operations.Op.{Op}
 use Rattle.osm_change.specs.declared.operations.Op.TheVariants.{Create, Modify, Delete}
-
-and-parts : (a b : Bool) → (a && b) ≡ true → (a ≡ true) × (b ≡ true)
-and-parts true b e = (refl, e)
-and-parts false b e = absurd (true≢false (sym e))
 
 -- a step that gave something, and the next
 bind-ok : {A B E : Type 0} (first : Result A E) (next : A → Result B E) (b : B) → (first >>= next) ≡ Ok b → (a : A) × (first ≡ Ok a) × (next a ≡ Ok b)
@@ -194,8 +191,8 @@ module _ (whole : List RawOp) (ops : List Op) (raw : All IsRawOp whole) (built :
       let at = position-at (creates kind id) (take n whole) p found in
       let there = taken whole n p at.0 at.1 in
       let r = at.0 in
-      let tests = and-parts (is_create r.action) _ at.2 in
-      let more = and-parts (kind_eq r.kind kind) _ tests.1 in
+      let tests = and_parts (is_create r.action) _ at.2 in
+      let more = and_parts (kind_eq r.kind kind) _ tests.1 in
       let same = kind_eq-same r.kind kind more.0 in
       let o = built-of [] whole ops built p r there.1 in
       let has = (raw-at whole p r raw there.1).content in

@@ -1,8 +1,8 @@
-ghost use Rattle.std.specs.Prelude.{◌≡◌, true, ◌+◌, ◌^◌, ◌<◌, length, map, List, [], None, Some, Ok, Err, OnOk, IfOk, MatchOption, All, ⊤};
+ghost use Rattle.std.specs.Prelude.{◌≡◌, true, ◌+◌, ◌^◌, ◌<◌, length, [], None, Some, Ok, Err, OnOk, MatchOption, ⊤};
 ghost use Rattle.osm_base.specs.Place.{is_position};
 ghost use Rattle.placeholder_map.specs.Placeholders.{look_of, bound};
-ghost use Rattle.osm_change.specs.Outcome.{Gives, unless, each, fault_at, GivesChange};
-ghost use Rattle.osm_change.specs.Build.{IsRaw, IsRawOp, IsReference, HasContent, IsPlaced, name_of, member_named, content_unless, local_cause, version_named, created, modified, deleted, op_of, noted, operations_after, other_name, other_changeset, change_of};
+ghost use Rattle.osm_change.specs.Outcome.{Gives, unless, each, GivesChange};
+ghost use Rattle.osm_change.specs.Build.{IsRaw, IsRawOp, IsReference, IsPlaced, name_of, member_named, content_unless, local_cause, created, modified, deleted, op_of, noted, operations_after, other_name, other_changeset, change_of};
 
 use crate::causes::{Cause, ShapeFault};
 use crate::changes::Change;

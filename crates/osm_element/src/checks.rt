@@ -1,6 +1,6 @@
-ghost use Rattle.std.specs.Prelude.{◌≡◌, length, chars, if◌then◌else◌};
+ghost use Rattle.std.specs.Prelude.{◌≡◌, length, chars};
 ghost use Rattle.std.specs.List.{list_any};
-ghost use Rattle.osm_base.specs.Place.{is_position, is_within};
+ghost use Rattle.osm_base.specs.Place.{is_within};
 ghost use Rattle.osm_element.specs.Limits.{is_long, is_bad_key, check_tags, check_position, check_nodes, check_members, check_content, check_parts};
 
 use crate::contents::{Member, RawContent};

@@ -1,5 +1,5 @@
 //! What versions hold: boxes, references, members and tags.
-ghost use Rattle.std.specs.Prelude.{◌≡◌, map, flat_map};
+ghost use Rattle.std.specs.Prelude.{map, flat_map};
 ghost use Rattle.osm_element.specs.declared.contents.Content.{Content};
 ghost use Rattle.osm_json.specs.Shown.{field, natural, integer};
 ghost use Rattle.osm_json.specs.Fields.{IsMember};

@@ -1,5 +1,5 @@
 //! The bodies of changesets and of single elements.
-ghost use Rattle.std.specs.Prelude.{◌≡◌, IfOk};
+ghost use Rattle.std.specs.Prelude.{IfOk};
 ghost use Rattle.osm_json.specs.Borrowed.{view};
 ghost use Rattle.osm_json.specs.Reading.{Gives, Reads, changeset_tags, tags_among, single_of, single_in};
 ghost use Rattle.osm_change.specs.Build.{IsReference, IsRawOp};

@@ -1,10 +1,11 @@
 -- A journal stays legal, and its state its replay, where an accepted command is appended.
-use Rattle.std.proofs.Common.{◌≡◌, ℕ, ◌<◌, ◌≤◌, List, [], ◌∷◌, ◌++◌, length, take, Some, Ok, refl, sym, ap, ◌∙◌, subst, inl, inr, ⊎_elim, ◌⊎◌, zero, suc, arith}
+use Rattle.std.proofs.Common.{◌≡◌, ℕ, ◌≤◌, List, [], ◌∷◌, ◌++◌, length, take, Ok, sym, ap, ◌∙◌, subst, ⊎_elim, arith}
 use Rattle.std.proofs.lemmas.List.{take-append-le}
 use Rattle.std.proofs.Math.Seq.{take-append_seam}
-use Rattle.std.specs.Prelude.{slice_get, Result}
+use Rattle.std.specs.Prelude.{Result}
 use Rattle.std.proofs.lemmas.List.Sums.{fold-append}
 use Rattle.osm_base.specs.Stamp.{stamp_after}
+use Rattle.osm_base.proofs.Pushed.{found_in_push}
 use Rattle.osm_element.specs.Elements.{IsConsistent}
 use Rattle.osm_change.specs.declared.refusals.Refusal.{Refusal}
 use Rattle.osm_model.specs.declared.commands.Entry.{Entry}
@@ -24,17 +25,6 @@ stamp_after-stamp_after last m = omega arith
 
 pub replay-push : (es : List Entry) (e : Entry) → replay (es ++ e ∷ []) ≡ after (replay es) e
 replay-push es e = fold-append after empty es (e ∷ [])
-
--- an item of a list with one more at its end
-pub found_in_push :
-    {A : Type 0} (xs : List A) (y : A) (n : ℕ) (x : A)
-    → slice_get (xs ++ y ∷ []) n ≡ Some x
-    → (slice_get xs n ≡ Some x) × (n < length xs) ⊎ (n ≡ length xs) × (x ≡ y)
-found_in_push [] y zero x found = inr (refl, cc)
-found_in_push [] y (suc n) x found = cc
-found_in_push (z ∷ zs) y zero x found = inl (found, omega arith)
-found_in_push (z ∷ zs) y (suc n) x found =
-    ⊎_elim (λ a. inl (a.0, omega (arith, a.1))) (λ b. inr (ap suc b.0, b.1)) (found_in_push zs y n x found)
 
 -- what follows the entries may be appended
 pub IsLegal-push : (es : List Entry) (e : Entry) → IsLegal es → Follows es e → IsLegal (es ++ e ∷ [])

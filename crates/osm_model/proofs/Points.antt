@@ -1,5 +1,5 @@
 -- Every point of a legal journal is consistent.
-use Rattle.std.proofs.Common.{◌≡◌, ℕ, zero, suc, Bool, true, false, List, [], ◌∷◌, ◌++◌, length, take, Option, Some, None, Ok, Err, refl, sym, ap, ◌∙◌, subst}
+use Rattle.std.proofs.Common.{◌≡◌, ℕ, zero, suc, Bool, true, false, List, [], ◌∷◌, ◌++◌, length, take, Option, Some, None, Ok, Err, refl, sym, ap, subst}
 use Rattle.std.specs.Prelude.{slice_get, Result, IsOk, IsTrue, ◌==◌, if◌then◌else◌, option_and_then}
 use Rattle.osm_base.specs.Stamp.{stamp_after}
 use Rattle.osm_base.specs.Key.{lists_key}
@@ -7,7 +7,7 @@ use Rattle.osm_base.specs.declared.keys.Key.{Key}
 use Rattle.osm_base.specs.declared.keys.Kind.{Kind}
 use Rattle.osm_base.specs.declared.keys.Kind.TheVariants as kind
 use Rattle.osm_change.specs.declared.refusals.Refusal.{Refusal}
-use Rattle.osm_element.specs.Elements.{no_elements, histories, history_in, history, version_in, refs_in, refs_of, IsConsistent}
+use Rattle.osm_element.specs.Elements.{no_elements, histories, history_in, version_in, refs_in, refs_of, IsConsistent}
 use Rattle.osm_element.specs.declared.versions.Version.{Version}
 use Rattle.map_state.specs.declared.states.State.{State}
 use Rattle.osm_model.specs.declared.commands.Accepted.{Accepted}

@@ -1,4 +1,4 @@
-ghost use Rattle.std.specs.Prelude.{◌≡◌, MatchResult, Ok, Err, ◌<◌, ◌≤◌, OnOk};
+ghost use Rattle.std.specs.Prelude.{◌≡◌, Ok, Err, ◌<◌, ◌≤◌, OnOk};
 ghost use Rattle.osm_element.specs.Elements.{count};
 ghost use Rattle.osm_model.specs.Act.{judge, retag, close_changeset, upload_change, number_of, single_number, single_change, known_version, known_redaction, old_version, redact, unredact};
 ghost use Rattle.osm_model.specs.Step.{Steps};
@@ -7,7 +7,7 @@ use crate::commands::Command;
 use crate::steps::Step;
 use map_state::{Fault, State, count, new_changeset, own_changeset, row_with, version};
 use map_upload::{Progress, diff, done_version, upload};
-use osm_base::{Key, Memory, Stamp, TryCopy, User};
+use osm_base::{Key, Stamp, TryCopy, User};
 use osm_change::{Answer, Change, Op, OpDone, Refusal, Said};
 use osm_element::Tags;
 use std::alloc::Global;

@@ -1,5 +1,5 @@
 //! A link in memory.
-ghost use Rattle.std.specs.Prelude.{◌≡◌, ℕ, ◌+◌, ◌<◌, ◌≤◌, ◌↔◌, ◌++◌, ◌∷◌, [], length, take, drop, min, IfOk, IfSome, IsErr, OnErr, None, Some};
+ghost use Rattle.std.specs.Prelude.{◌≡◌, ◌+◌, ◌<◌, ◌≤◌, ◌↔◌, ◌++◌, ◌∷◌, [], length, take, drop, min, IfOk, IfSome, IsErr, OnErr, None, Some};
 ghost use Rattle.std.specs.Io.KnownBytes.{Appends, ReadConsumes, WriteAppends};
 ghost use Rattle.osm_outside.specs.Told.{OnlyReads, OnlyTime, OnlyWrites, Rose};
 ghost use Rattle.osm_outside.specs.Memory.{IsBad, after_write, called, faulted, given_count, moment_of, next_count, no_call, piece_limit, taken_count, told_of};

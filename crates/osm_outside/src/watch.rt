@@ -1,5 +1,5 @@
 //! A clock in memory.
-ghost use Rattle.std.specs.Prelude.{◌≡◌, ◌∷◌, ◌++◌, [], None, Some, unwrap_or};
+ghost use Rattle.std.specs.Prelude.{◌≡◌, ◌∷◌, ◌++◌, [], None, Some};
 ghost use Rattle.osm_outside.specs.Memory.{moment_at, moment_of, next_count};
 
 use crate::answered::Answered;

@@ -1,5 +1,4 @@
 //! A host over the system's files.
-ghost use Rattle.std.specs.Prelude.{◌≡◌};
 
 use osm_base::{Bytes, USERS_LIMIT};
 use osm_outside::{Host, HostFault};

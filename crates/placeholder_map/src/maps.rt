@@ -1,4 +1,4 @@
-ghost use Rattle.std.specs.Prelude.{◌≡◌, length, OnOk, OnErr, Ok, IfOk, IsNone, ◌↔◌};
+ghost use Rattle.std.specs.Prelude.{◌≡◌, length, OnOk, OnErr, Ok, IfOk};
 
 use indexmap::IndexMap;
 use osm_base::{Kind, Memory};
@@ -75,7 +75,7 @@ impl PlaceholderMap {
 }
 
 ghost use Rattle.std.specs.Prelude.{not};
-ghost use Rattle.placeholder_map.specs.Bindings.{place_in, with_binding, is_bound_in};
+ghost use Rattle.placeholder_map.specs.Bindings.{with_binding, is_bound_in};
 
 /// One search serves the test and the insert.
 fn bind_in(bindings: &mut IndexMap<i64, u32>, placeholder: i64, place: u32) -> Result<bool, Memory>

@@ -1,5 +1,4 @@
-ghost use Rattle.std.specs.Prelude.{◌≡◌, ◌≤◌, length, ◌∷◌, ◌++◌, [], Ok, IfOk, OnOk, MatchResult, true, false, not, nat_eq};
-ghost use Rattle.user_table.specs.Rows.{Row};
+ghost use Rattle.std.specs.Prelude.{◌≡◌, ◌≤◌, length, ◌∷◌, ◌++◌, [], Ok, IfOk, OnOk, MatchResult, true, not, nat_eq};
 ghost use Rattle.user_table.specs.Users.{with_row, with_line, with_lines, is_skipped, has_token, Leads, Refuses};
 ghost use Rattle.user_table.specs.Drafts.{rows_of, texts_of, shown, IsIndexed};
 ghost use Rattle.std.specs.List.{list_any};

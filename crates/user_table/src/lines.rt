@@ -4,7 +4,7 @@ ghost use Rattle.std.specs.List.{list_all};
 ghost use Rattle.std.specs.Str.{chars};
 ghost use Rattle.std.specs.Option.{option_map};
 ghost use Rattle.user_table.specs.Drafts.{shown};
-ghost use Rattle.user_table.specs.Rows.{Row, parted, is_token_byte, is_token, is_name, moderator_of, row_with, row_of_parts, row_after_token, row_after_id, row_of};
+ghost use Rattle.user_table.specs.Rows.{parted, is_token_byte, is_token, is_name, moderator_of, row_of_parts, row_after_token, row_after_id, row_of};
 
 use osm_base::{CHARACTER_LIMIT, path_number};
 

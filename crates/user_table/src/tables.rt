@@ -1,7 +1,7 @@
 ghost use Rattle.std.specs.Prelude.{◌≡◌, ◌<◌, length, map, slice_get};
 ghost use Rattle.user_table.specs.Users.{table_of, Gives};
 ghost use Rattle.user_table.specs.Who.{who_of, who_at, place_of, IsWithin};
-ghost use Rattle.std.specs.Option.{option_map, option_copied};
+ghost use Rattle.std.specs.Option.{option_copied};
 
 use crate::drafts::read_lines;
 use crate::faults::UsersFault;
