@@ -105,7 +105,7 @@ impl Journal {
             Ok((step, answer)) => {
                 let entry = Entry {
                     session,
-                    call: calls_of(self.entries.as_slice(), session) + 1,
+                    call: calls_of(self.entries(), session) + 1,
                     user: user.copy(alloc)?,
                     stamp: at,
                     command,
@@ -179,13 +179,17 @@ impl Journal {
     }
 }
 
-/// How many of the entries are of the session.
+/// How many of the entries are of the session. Its calls are numbered from 1, so its last one tells.
 fn calls_of(entries: &[Entry], session: u32) -> u64
+    requires { IsLegal entries.now }
     ensures counted { result ≡ calls_of session entries.now }
     ensures few { result < 2 ^ 63 }
 {
-    entries
-        .iter()
-        .filter(|entry| entry.session == session)
-        .count() as u64
+    for place in (0..entries.len()).rev() {
+        let entry = &entries[place];
+        if entry.session == session {
+            return entry.call;
+        }
+    }
+    0
 }
