@@ -23,11 +23,11 @@ use Rattle.http_wire.proofs.ListLemmas.{slice_range-append}
 use Rattle.http_wire.proofs.UniqueLemmas.{one_begin, one_end, same_head, one_message}
 
 -- a whole head block stands at the front of the bytes
-record HasBlock (bytes : List ℕ) : Type 0 where
-  begin : ℕ
-  end : ℕ
-  block : IsBlockAt bytes begin end
-  limit : end ≤ HEAD_LIMIT
+pub record HasBlock (bytes : List ℕ) : Type 0 where
+  pub begin : ℕ
+  pub end : ℕ
+  pub block : IsBlockAt bytes begin end
+  pub limit : end ≤ HEAD_LIMIT
 
 blank_no_block : (bytes : List ℕ) → IsBlank bytes → ¬ (HasBlock bytes)
 blank_no_block bytes blank w =
@@ -60,7 +60,7 @@ same_end bytes v w =
     one_end bytes v.begin v.end w.end v.block
     (subst (λ (b : ℕ). IsBlockAt bytes b w.end) (sym (same_begin bytes v w)) w.block)
 
-abbrev block_of : (bytes : List ℕ) → HasBlock bytes → List ℕ
+abbrev pub block_of : (bytes : List ℕ) → HasBlock bytes → List ℕ
 block_of bytes w = slice_range bytes w.begin w.end
 
 same_block : (bytes : List ℕ) (v w : HasBlock bytes) → block_of bytes v ≡ block_of bytes w

@@ -19,7 +19,7 @@ pub use close::trim_ows;
 pub use end::WireEnd;
 pub use law::{
     end_in_any_pieces, end_stays, message_in_any_pieces, message_stays, no_empty_message,
-    no_end_at_a_message, one_end, one_message, one_reading,
+    no_end_at_a_message, one_end, one_message, one_reading, some_reading,
 };
 pub use message::Message;
 pub use reply::write_reply;
