@@ -12,6 +12,7 @@ use Rattle.http_wire.specs.Message.{HasMessages, AreMessages}
 use Rattle.http_wire.specs.End.{EndsAs, AgreesWithInput, IsTold}
 use Rattle.http_wire.proofs.UniqueLemmas.{one_message}
 use Rattle.http_wire.proofs.EndLemmas.{no_end_at, one_reading_of, EndsAs-append}
+use Rattle.http_wire.proofs.ReadingLemmas.{some_reading}
 use Rattle.http_link.specs.declared.end.LinkEnd.{LinkEnd}
 use Rattle.http_link.specs.declared.end.LinkEnd.TheVariants as ends
 use Rattle.http_link.specs.Exchange.{Exchange, messages_of}
@@ -198,13 +199,19 @@ module _ (before after : Told) (exchanges : List Exchange) (bytes rest written :
 
   told_by : (b a : Option (List ℕ)) → after.left ≡ a → Consumes b a bytes → (end : LinkEnd)
       → LinkEnds before after exchanges rest written end
-      → IfSome b (λ input. (messages : List Message) (why : WireEnd) → IsTold why → AreMessages input messages why
-      → IsByInput end → (end ≡ end_from 0 messages why) × (messages_of exchanges ≡ answered_from 0 messages))
+      → IfSome b (λ input. (messages : List Message) × (why : WireEnd) × IsTold why × AreMessages input messages why
+      × (IsByInput end → (end ≡ end_from 0 messages why) × (messages_of exchanges ≡ answered_from 0 messages)))
   told_by None a same consumed end facts = tt
   told_by (Some input) None same consumed end facts = absurd consumed
-  told_by (Some input) (Some left) same consumed end facts = λ messages why told reading ok.
-      let at_input = subst (λ (l : List ℕ). AreMessages l messages why) consumed reading in
-      by_reading left messages why told at_input end (agrees_with_left end left same facts) facts ok
+  told_by (Some input) (Some left) same consumed end facts =
+      let (messages, why, told, reading) = some_reading input in
+      let at_input = subst (λ (l : List ℕ). AreMessages l messages why) consumed reading in (
+        messages,
+        why,
+        told,
+        reading,
+        λ ok. by_reading left messages why told at_input end (agrees_with_left end left same facts) facts ok,
+      )
 
   -- the end and the answered messages are those that the input tells
   pub EndsByInput-from_ends : Consumes before.left after.left bytes → (end : LinkEnd)

@@ -29,9 +29,9 @@ IsByInput WriteFault = ⊥
 IsByInput Memory = ⊥
 IsByInput other = ⊤
 
--- Where the source tells its input, and these are the messages in it and its end, the link answered
--- all that it was to answer, and ended as it was to end.
+-- Where the source tells its input, these are the messages in it and its end. Unless reading, writing
+-- or memory failed, the link answered all that it was to answer of them, and ended as it was to end.
 abbrev pub EndsByInput : Told → List Exchange → LinkEnd → Type 0
 EndsByInput before exchanges end =
-    IfSome before.left (λ input. (messages : List Message) (why : WireEnd) → IsTold why → AreMessages input messages why
-    → IsByInput end → (end ≡ end_from 0 messages why) × (messages_of exchanges ≡ answered_from 0 messages))
+    IfSome before.left (λ input. (messages : List Message) × (why : WireEnd) × IsTold why × AreMessages input messages why
+    × (IsByInput end → (end ≡ end_from 0 messages why) × (messages_of exchanges ≡ answered_from 0 messages)))
