@@ -243,36 +243,80 @@ fn refused_uploads(rt: HostRuntime) -> Result<(), Fail> {
     Ok(())
 }
 
-/// An upload of a way with that many references to node 1, and the reply that it must get.
-fn way_of(alloc: Global, count: usize, reply: &str) -> Result<String, Memory> {
-    let more = ",1".repeat(alloc, count.saturating_sub(1))?;
-    let first = if count == 0 { "" } else { "1" };
-    let parts = [
-        "alice POST changeset/1/upload {\"osmChange\":[{\"create\":[{\"type\":\"way\",\"id\":-1,\"nodes\":[",
-        first,
-        more.as_str(),
-        "]}]}]}\n",
-        reply,
-        "\n",
-    ];
+/// The item that often, parted by commas.
+fn repeated(alloc: Global, item: &str, count: usize) -> Result<String, Memory> {
+    let mut text = String::new(alloc);
+    for place in 0..count {
+        let comma = if place == 0 { "" } else { "," };
+        text.push_str(comma)?;
+        text.push_str(item)?;
+    }
+    Ok(text)
+}
+
+/// An upload of an element that lists the item that often, and the reply that it must get.
+fn listing(
+    alloc: Global,
+    element: &str,
+    item: &str,
+    count: usize,
+    reply: &str,
+) -> Result<String, Memory> {
+    let items = repeated(alloc, item, count)?;
+    let start = "alice POST changeset/1/upload {\"osmChange\":[{\"create\":[";
+    let parts = [start, element, items.as_str(), "]}]}]}\n", reply, "\n"];
     Ok(parts.concat(alloc)?)
 }
 
-/// A node, and ways of 2,000 references to it, of one more, and of none.
-fn ways(alloc: Global) -> Result<String, Memory> {
-    let full = way_of(
-        alloc,
+/// Node 1, and then elements that list it that often.
+fn listings(
+    alloc: Global,
+    element: &str,
+    item: &str,
+    rows: &[(usize, &str)],
+) -> Result<String, Memory> {
+    let mut text = String::from_str(alloc, ONE_NODE)?;
+    for (count, reply) in rows {
+        let upload = listing(alloc, element, item, *count, reply)?;
+        text.push_str(upload.as_str())?;
+    }
+    Ok(text)
+}
+
+const WAYS: [(usize, &str); 3] = [
+    (
         2_000,
         r#"200 {"diffResult":[{"new_id":1,"new_version":1,"old_id":-1,"type":"way"}],"version":"0.6"}"#,
-    )?;
-    let long = way_of(alloc, 2_001, r#"400 {"error":"way_long","op":1}"#)?;
-    let empty = way_of(alloc, 0, r#"400 {"error":"way_empty","op":1}"#)?;
-    Ok([ONE_NODE, full.as_str(), long.as_str(), empty.as_str()].concat(alloc)?)
-}
+    ),
+    (2_001, r#"400 {"error":"way_long","op":1}"#),
+    (0, r#"400 {"error":"way_empty","op":1}"#),
+];
 
 #[test]
 fn ways_of_every_length(rt: HostRuntime) -> Result<(), Fail> {
-    let text = ways(rt.alloc())?;
+    let way = r#"{"type":"way","id":-1,"nodes":["#;
+    let text = listings(rt.alloc(), way, "1", WAYS.as_slice())?;
     must_go(&rt, rt.alloc(), "ways", text.as_str())?;
+    Ok(())
+}
+
+const RELATIONS: [(usize, &str); 3] = [
+    (
+        32_000,
+        r#"200 {"diffResult":[{"new_id":1,"new_version":1,"old_id":-1,"type":"relation"}],"version":"0.6"}"#,
+    ),
+    (32_001, r#"400 {"error":"relation_long","op":1}"#),
+    (
+        0,
+        r#"200 {"diffResult":[{"new_id":2,"new_version":1,"old_id":-1,"type":"relation"}],"version":"0.6"}"#,
+    ),
+];
+
+#[test]
+fn relations_of_every_length(rt: HostRuntime) -> Result<(), Fail> {
+    let relation = r#"{"type":"relation","id":-1,"members":["#;
+    let member = r#"{"type":"node","ref":1}"#;
+    let text = listings(rt.alloc(), relation, member, RELATIONS.as_slice())?;
+    must_go(&rt, rt.alloc(), "relations", text.as_str())?;
     Ok(())
 }
