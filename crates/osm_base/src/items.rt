@@ -54,6 +54,20 @@ impl<T> Items<T> {
     }
 }
 
+impl<T> Items<T> {
+    ghost use Rattle.std.specs.Borrow.{Lends, sem};
+    ghost use Rattle.osm_base.specs.contracts.items.Items.{the_row};
+
+    /// The item at a place, to be changed where it stands.
+    pub fn item_mut(&mut self, place: usize) -> &mut T
+        requires { place < length self.old }
+        ensures* lends { sem 𝓛 (Lends (the_row T.row) T.row self.entry result (slice_set self.old place)) }
+        ensures value { slice_get self.old place ≡ Some result.now }
+    {
+        &mut self.items[place]
+    }
+}
+
 impl<T: Drop> Items<T> {
     pub fn push(&mut self, item: T) -> Result<(), Memory>
         ensures ok { OnOk result (self.new ≡ self.old ++ item ∷ []) }

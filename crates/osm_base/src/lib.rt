@@ -12,6 +12,7 @@ mod moments;
 mod numbers;
 mod people;
 mod places;
+mod roomy;
 mod steps;
 mod texts;
 
@@ -29,5 +30,6 @@ pub use moments::Stamp;
 pub use numbers::path_number;
 pub use people::{Owner, User};
 pub use places::{Box7, Coord};
+pub use roomy::Roomy;
 pub use steps::Steps;
 pub use texts::{Bytes, Text};

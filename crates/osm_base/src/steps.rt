@@ -1,4 +1,4 @@
-ghost use Rattle.std.specs.Prelude.{◌≡◌, ◌+◌};
+ghost use Rattle.std.specs.Prelude.{◌≡◌, ◌+◌, ◌<◌};
 
 use std::marker::Model;
 use std::sync::ledger::{Book, Ledger, Share};
@@ -21,6 +21,14 @@ impl<L: Ledger> Model for Steps<L> {
 }
 
 impl<L: Ledger> Steps<L> {
+    /// The steps that a book has counted. Ticks count on in that book.
+    pub fn of(book: Book<L>, share: Share<L>) -> Steps<L>
+        requires { 0 < share.parts }
+        ensures { result ≡ book.total }
+    {
+        Steps { book, share }
+    }
+
     /// Counts one step.
     pub fn tick(&mut self)
         ensures { self.new ≡ self.old + 1 }

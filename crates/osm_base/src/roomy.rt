@@ -1,0 +1,142 @@
+ghost use Rattle.std.specs.List.Retain.{IsFiltered};
+ghost use Rattle.std.specs.Fn.{CalledAt};
+ghost use Rattle.std.specs.Prelude.{◌≡◌, ◌+◌, ◌-◌, ◌<◌, ◌≤◌, ◌∷◌, [], ◌++◌, length, insert, filter, slice_set, slice_get, is_ok, if◌then◌else◌};
+
+use crate::memory::Memory;
+use std::alloc::Global;
+use std::marker::Model;
+use std::mem;
+
+/// A list that is promised room for some more items, ahead of time.
+#[derive(Debug, Drop)]
+pub struct Roomy<T> {
+    items: Vec<T>,
+    free: usize,
+}
+
+impl<T> Model for Roomy<T> {
+    ghost use Rattle.std.specs.Prelude.{◌+◌, ◌≤◌, vec_len, vec_capacity};
+    ghost use Rattle.osm_base.specs.Row.{Row};
+
+    ghost Value = { Row T };
+
+    ghost view = { λ r. record { items = r.items.items; free = r.free } };
+
+    ghost invariant = { λ r. vec_len r.items + r.free ≤ vec_capacity r.items };
+}
+
+impl<T> Roomy<T> {
+    pub fn none(alloc: Global) -> Roomy<T>
+        ensures { result ≡ record { items = []; free = 0 } }
+    {
+        Roomy {
+            items: Vec::new(alloc),
+            free: 0,
+        }
+    }
+
+    /// How many more items need no memory.
+    pub fn free(&self) -> usize
+        ensures { result ≡ self.now.free }
+    {
+        self.free
+    }
+
+    pub fn items(&self) -> &[T]
+        ensures { result.now ≡ self.now.items }
+    {
+        self.items.as_slice()
+    }
+}
+
+impl<T> Roomy<T> {
+    /// The items, without a copy.
+    pub fn into_vec(self) -> Vec<T>
+        ensures { result.items ≡ self.items }
+    {
+        self.items
+    }
+}
+
+impl<T: Drop> Roomy<T> {
+    /// Promises room for some more items, and takes memory for no others.
+    pub fn promise(&mut self, more: usize) -> Result<(), Memory>
+        ensures { self.new ≡ record self.old { free = self.old.free + (if is_ok result then more else 0) } }
+    {
+        let Some(free) = self.free.checked_add(more) else {
+            return Err(Memory);
+        };
+        self.items.reserve_exact(free)?;
+        self.free = free;
+        Ok(())
+    }
+
+    /// The same, and takes memory for as many again as there are where it takes any, so that many
+    /// promises one after the other cost no more than their items.
+    pub fn promise_ahead(&mut self, more: usize) -> Result<(), Memory>
+        ensures { self.new ≡ record self.old { free = self.old.free + (if is_ok result then more else 0) } }
+    {
+        let Some(free) = self.free.checked_add(more) else {
+            return Err(Memory);
+        };
+        self.items.reserve(free)?;
+        self.free = free;
+        Ok(())
+    }
+
+    /// Takes every promise back.
+    pub fn forget(&mut self)
+        ensures { self.new ≡ record self.old { free = 0 } }
+    {
+        self.free = 0;
+    }
+
+    /// Takes a promise back.
+    pub fn release(&mut self, less: usize)
+        requires { less ≤ self.old.free }
+        ensures { self.new ≡ record self.old { free = self.old.free - less } }
+    {
+        self.free -= less;
+    }
+
+    pub fn push(&mut self, item: T)
+        requires { 0 < self.old.free }
+        ensures { self.new ≡ record { items = self.old.items ++ item ∷ []; free = self.old.free - 1 } }
+    {
+        self.items.push_reserved(item);
+        self.free -= 1;
+    }
+
+    pub fn insert(&mut self, place: usize, item: T)
+        requires room { 0 < self.old.free }
+        requires within { place ≤ length self.old.items }
+        ensures { self.new ≡ record { items = insert self.old.items place item; free = self.old.free - 1 } }
+    {
+        let _always = self.items.insert(place, item).is_ok();
+        self.free -= 1;
+    }
+
+    pub fn set(&mut self, place: usize, item: T)
+        requires { place < length self.old.items }
+        ensures { self.new ≡ record self.old { items = slice_set self.old.items place item } }
+    {
+        self.items[place] = item;
+    }
+
+    /// Puts an item in another's place, and gives that one back.
+    pub fn replace(&mut self, place: usize, item: T) -> T
+        requires { place < length self.old.items }
+        ensures was { slice_get self.old.items place ≡ Some result }
+        ensures row { self.new ≡ record self.old { items = slice_set self.old.items place item } }
+    {
+        mem::replace(&mut self.items[place], item)
+    }
+
+    pub fn retain<F: FnMut(&T) -> bool>(&mut self, keep: F)
+        requires { F.IsAlwaysCallable keep }
+        ensures filtered { IsFiltered (CalledAt F.FnMut) keep self.old.items self.new.items }
+        ensures free { self.new.free ≡ self.old.free }
+    {
+        self.items.retain(keep);
+    }
+}
