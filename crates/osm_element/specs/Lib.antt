@@ -1,3 +1,4 @@
 pub mod Tags
 pub mod Elements
+pub mod Later
 pub mod Limits

@@ -1,11 +1,15 @@
-//! What an element of the map holds: contents, tags and versions.
+//! The elements of the map: what they hold, their versions and their use.
 #![tactic(auto)]
 
 mod checks;
 mod contents;
+mod edits;
 mod elements;
 mod faults;
 mod labels;
+mod lookups;
+mod references;
+mod usage;
 mod versions;
 
 pub use checks::check_local;
@@ -13,4 +17,5 @@ pub use contents::{Content, Member, Members, RawContent, Refs};
 pub use elements::{Elements, History};
 pub use faults::LocalFault;
 pub use labels::Tags;
+pub use references::refs_in;
 pub use versions::Version;

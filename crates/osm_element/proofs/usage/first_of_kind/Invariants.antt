@@ -1,0 +1,7 @@
+use Rattle.std.proofs.Common.{◌≡◌, []}
+use Rattle.std.specs.Prelude.{filter}
+use Rattle.osm_element.specs.Elements.{keys_to, uses}
+use Rattle.osm_element.proofs.usage.first_of_kind.Given as goal
+
+abbrev pub invariant-loop-place : goal.invariant-loop-place
+invariant-loop-place l = filter (λ a. uses l.elements a l.used) (keys_to l.kind l.place) ≡ []
