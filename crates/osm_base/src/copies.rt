@@ -5,6 +5,7 @@ use std::alloc::Global;
 
 /// A value of which there can be a second, equal one. `Memory` is the only error.
 pub trait TryCopy {
+    /// A second value that is equal to this one.
     fn copy(&self, alloc: Global) -> Result<Self, Memory>
         ensures { IfOk result (λ copy. copy ≡ self.now) };
 }

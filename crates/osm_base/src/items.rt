@@ -21,12 +21,14 @@ impl<T> Model for Items<T> {
 }
 
 impl<T> Items<T> {
+    /// The items of a vector, without a copy.
     pub fn of(items: Vec<T>) -> Items<T>
         ensures { result ≡ items.items }
     {
         Items { items }
     }
 
+    /// No items. It takes no memory.
     pub fn none(alloc: Global) -> Items<T>
         ensures { result ≡ [] }
     {
@@ -35,18 +37,21 @@ impl<T> Items<T> {
         }
     }
 
+    /// All items, in order.
     pub fn items(&self) -> &[T]
         ensures { result.now ≡ self.now }
     {
         self.items.as_slice()
     }
 
+    /// The items as a vector, without a copy.
     pub fn into_vec(self) -> Vec<T>
         ensures { result.items ≡ self }
     {
         self.items
     }
 
+    /// How many items there are.
     pub fn len(&self) -> usize
         ensures { result ≡ length self.now }
     {
@@ -69,6 +74,7 @@ impl<T> Items<T> {
 }
 
 impl<T: Drop> Items<T> {
+    /// Adds an item at the end. `Memory` leaves the list as it was.
     pub fn push(&mut self, item: T) -> Result<(), Memory>
         ensures ok { OnOk result (self.new ≡ self.old ++ item ∷ []) }
         ensures err { OnErr result (self.new ≡ self.old) }
@@ -77,6 +83,7 @@ impl<T: Drop> Items<T> {
         Ok(())
     }
 
+    /// Puts an item in the place of another, which is dropped.
     pub fn set(&mut self, place: usize, item: T)
         requires { place < length self.old }
         ensures { self.new ≡ slice_set self.old place item }

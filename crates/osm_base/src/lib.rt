@@ -5,6 +5,7 @@
 mod box_faults;
 mod copies;
 mod items;
+mod key_lists;
 mod keys;
 mod limits;
 mod memory;
@@ -19,6 +20,7 @@ mod texts;
 pub use box_faults::BoxFault;
 pub use copies::{TryCopy, copy_all};
 pub use items::{Ids, Items};
+pub use key_lists::is_listed;
 pub use keys::{Key, Kind};
 pub use limits::{
     AREA_LIMIT, BODY_LIMIT, CHANGE_LIMIT, CHARACTER_LIMIT, FIELD_LIMIT, HEAD_LIMIT, MAP_NODE_LIMIT,
@@ -29,7 +31,7 @@ pub use memory::Memory;
 pub use moments::Stamp;
 pub use numbers::path_number;
 pub use people::{Owner, User};
-pub use places::{Box7, Coord};
+pub use places::{Box7, Coord, is_on_globe};
 pub use roomy::Roomy;
 pub use steps::Steps;
 pub use texts::{Bytes, Text};

@@ -4,7 +4,7 @@ ghost use Rattle.osm_base.specs.Stamp.{stamp_after};
 use crate::limits::MOMENT_LIMIT;
 use std::marker::Model;
 
-/// A moment in seconds since 1970.
+/// A moment in seconds since 1970. Those of the map are at most `MOMENT_LIMIT`.
 #[derive(Clone, Copy, Debug, PartialEq, Eq, PartialOrd, Ord)]
 pub struct Stamp(pub u64);
 
@@ -17,6 +17,7 @@ impl Model for Stamp {
 }
 
 impl Stamp {
+    /// The seconds since 1970.
     pub fn seconds(self) -> u64
         ensures { result ≡ self }
     {

@@ -7,7 +7,8 @@ use std::alloc::Global;
 use std::marker::Model;
 use std::mem;
 
-/// A list that is promised room for some more items, ahead of time.
+/// A list that is promised room for some more items, so that adding those takes no memory and
+/// can't fail. What was promised is a number of its own: there may be room for more.
 #[derive(Debug, Drop)]
 pub struct Roomy<T> {
     items: Vec<T>,
@@ -26,6 +27,7 @@ impl<T> Model for Roomy<T> {
 }
 
 impl<T> Roomy<T> {
+    /// No items, and no room promised. It takes no memory.
     pub fn none(alloc: Global) -> Roomy<T>
         ensures { result ≡ record { items = []; free = 0 } }
     {
@@ -42,14 +44,13 @@ impl<T> Roomy<T> {
         self.free
     }
 
+    /// All items, in order.
     pub fn items(&self) -> &[T]
         ensures { result.now ≡ self.now.items }
     {
         self.items.as_slice()
     }
-}
 
-impl<T> Roomy<T> {
     /// The items, without a copy.
     pub fn into_vec(self) -> Vec<T>
         ensures { result.items ≡ self.items }
@@ -91,7 +92,7 @@ impl<T: Drop> Roomy<T> {
         self.free = 0;
     }
 
-    /// Takes a promise back.
+    /// Takes some of what was promised back.
     pub fn release(&mut self, less: usize)
         requires { less ≤ self.old.free }
         ensures { self.new ≡ record self.old { free = self.old.free - less } }
@@ -99,6 +100,7 @@ impl<T: Drop> Roomy<T> {
         self.free -= less;
     }
 
+    /// Adds an item at the end, on promised room.
     pub fn push(&mut self, item: T)
         requires { 0 < self.old.free }
         ensures { self.new ≡ record { items = self.old.items ++ item ∷ []; free = self.old.free - 1 } }
@@ -107,6 +109,7 @@ impl<T: Drop> Roomy<T> {
         self.free -= 1;
     }
 
+    /// Adds an item at a place, on promised room. Those from there on move by one.
     pub fn insert(&mut self, place: usize, item: T)
         requires room { 0 < self.old.free }
         requires within { place ≤ length self.old.items }
@@ -116,6 +119,7 @@ impl<T: Drop> Roomy<T> {
         self.free -= 1;
     }
 
+    /// Puts an item in the place of another, which is dropped.
     pub fn set(&mut self, place: usize, item: T)
         requires { place < length self.old.items }
         ensures { self.new ≡ record self.old { items = slice_set self.old.items place item } }
@@ -123,7 +127,7 @@ impl<T: Drop> Roomy<T> {
         self.items[place] = item;
     }
 
-    /// Puts an item in another's place, and gives that one back.
+    /// Puts an item in the place of another, which it gives back.
     pub fn replace(&mut self, place: usize, item: T) -> T
         requires { place < length self.old.items }
         ensures was { slice_get self.old.items place ≡ Some result }
@@ -132,6 +136,7 @@ impl<T: Drop> Roomy<T> {
         mem::replace(&mut self.items[place], item)
     }
 
+    /// Drops the items that the test doesn't keep. Their room isn't promised.
     pub fn retain<F: FnMut(&T) -> bool>(&mut self, keep: F)
         requires { F.IsAlwaysCallable keep }
         ensures filtered { IsFiltered (CalledAt F.FnMut) keep self.old.items self.new.items }

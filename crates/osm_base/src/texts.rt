@@ -33,6 +33,7 @@ impl Text {
         Text { text }
     }
 
+    /// The text, lent.
     pub fn as_str(&self) -> &str
         ensures { result.now ≡ self.now }
     {
@@ -83,6 +84,7 @@ impl Bytes {
         Bytes { bytes }
     }
 
+    /// The bytes, lent.
     pub fn as_slice(&self) -> &[u8]
         ensures { result.now ≡ self.now }
     {

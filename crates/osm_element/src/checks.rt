@@ -1,12 +1,11 @@
 ghost use Rattle.std.specs.Prelude.{◌≡◌, length, chars};
 ghost use Rattle.std.specs.List.{list_any};
-ghost use Rattle.osm_base.specs.Place.{is_within};
 ghost use Rattle.osm_element.specs.Limits.{is_long, is_bad_key, check_tags, check_position, check_nodes, check_members, check_content, check_parts};
 
 use crate::contents::{Member, RawContent};
 use crate::faults::LocalFault;
 use crate::labels::Tags;
-use osm_base::{CHARACTER_LIMIT, RELATION_LIMIT, Text, WAY_LIMIT};
+use osm_base::{CHARACTER_LIMIT, RELATION_LIMIT, Text, WAY_LIMIT, is_on_globe};
 
 /// The lowest limit that an element's own parts are beyond. It takes no memory.
 pub fn check_local(tags: &Tags, content: &RawContent) -> Result<(), LocalFault>
@@ -46,19 +45,11 @@ impl RawContent {
 fn check_position(lat7: i64, lon7: i64) -> Result<(), LocalFault>
     ensures { result ≡ check_position lat7 lon7 }
 {
-    if is_within(-900_000_000, lat7, 900_000_000)
-        && is_within(-1_800_000_000, lon7, 1_800_000_000)
-    {
+    if is_on_globe(lat7, lon7) {
         Ok(())
     } else {
         Err(LocalFault::Position)
     }
-}
-
-fn is_within(low: i64, value: i64, high: i64) -> bool
-    ensures { result ≡ is_within low value high }
-{
-    low <= value && value <= high
 }
 
 fn check_nodes(nodes: &[i64]) -> Result<(), LocalFault>

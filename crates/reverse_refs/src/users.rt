@@ -1,0 +1,196 @@
+ghost use Rattle.std.specs.Prelude.{◌≡◌, ◌==◌, ℕ, length, ◌+◌, ◌-◌, ◌<◌, ◌≤◌, [], false, true, if◌then◌else◌, count_by, slice_index_or, OnOk, OnErr};
+ghost use Rattle.reverse_refs.specs.Users.{no_row};
+ghost use Rattle.osm_base.specs.Key.{key_eq, lists_key, insert_key, without_key, IsRising};
+ghost use Rattle.osm_base.specs.declared.keys.Key.{Key};
+
+use crate::key_sets::KeySet;
+use osm_base::{Key, Kind, Memory};
+use std::alloc::Global;
+use std::marker::Model;
+
+/// An element that uses another.
+#[derive(Clone, Copy, Debug, PartialEq, Eq)]
+pub struct Pair {
+    pub user: Key,
+    pub used: Key,
+}
+
+/// For each element the elements that use it, and how many more of them need no memory. It has
+/// what is added to it: nothing here looks at elements.
+#[derive(Debug, Drop)]
+pub struct UserIndex {
+    nodes: Vec<KeySet>,
+    ways: Vec<KeySet>,
+    relations: Vec<KeySet>,
+}
+
+impl Model for UserIndex {
+    ghost use Rattle.reverse_refs.specs.Users.{UserRows};
+
+    ghost Value = { UserRows };
+
+    ghost view = { λ u. record { nodes = u.nodes.items; ways = u.ways.items; relations = u.relations.items } };
+}
+
+impl UserIndex {
+    ghost use Rattle.reverse_refs.specs.Users.{users_in, free_in};
+
+    /// An index without users. It takes no memory.
+    pub fn new(alloc: Global) -> UserIndex
+        ensures users { (k : Key) → users_in result k ≡ [] }
+        ensures room { (k : Key) → free_in result k ≡ 0 }
+    {
+        UserIndex {
+            nodes: Vec::new(alloc),
+            ways: Vec::new(alloc),
+            relations: Vec::new(alloc),
+        }
+    }
+
+    /// The users of an element, in order, each once.
+    pub fn users(&self, key: Key) -> &[Key]
+        ensures users { result.now ≡ users_in self.now key }
+        ensures rising { IsRising result.now }
+    {
+        match key.kind {
+            Kind::Node => users_at(self.nodes.as_slice(), key.id),
+            Kind::Way => users_at(self.ways.as_slice(), key.id),
+            Kind::Relation => users_at(self.relations.as_slice(), key.id),
+        }
+    }
+
+    /// Promises room for one more user for each of the pairs. After a refusal no more is promised
+    /// than before.
+    pub fn room(&mut self, alloc: Global, pairs: &[Pair]) -> Result<(), Memory>
+        ensures users { (k : Key) → users_in self.new k ≡ users_in self.old k }
+        ensures ok { OnOk result ((k : Key) → free_in self.new k ≡ free_in self.old k + count_by (λ p. key_eq k p.used) pairs.now) }
+        ensures err { OnErr result ((k : Key) → free_in self.new k ≡ free_in self.old k) }
+    {
+        for (place, pair) in pairs.iter().enumerate() {
+            if let Err(memory) = self.promise(alloc, pair.used) {
+                self.release(&pairs[..place]);
+                return Err(memory);
+            }
+        }
+        Ok(())
+    }
+
+    /// Promises room for one more user of an element. `Memory` leaves what was promised.
+    pub fn promise(&mut self, alloc: Global, used: Key) -> Result<(), Memory>
+        ensures users { (k : Key) → users_in self.new k ≡ users_in self.old k }
+        ensures ok { OnOk result ((k : Key) → free_in self.new k ≡ free_in self.old k + (if key_eq k used then 1 else 0)) }
+        ensures err { OnErr result ((k : Key) → free_in self.new k ≡ free_in self.old k) }
+    {
+        match used.kind {
+            Kind::Node => promise_at(alloc, &mut self.nodes, used.id),
+            Kind::Way => promise_at(alloc, &mut self.ways, used.id),
+            Kind::Relation => promise_at(alloc, &mut self.relations, used.id),
+        }
+    }
+
+    /// Takes back what was promised for the pairs. It takes no memory.
+    pub fn release(&mut self, pairs: &[Pair])
+        requires { (k : Key) → count_by (λ p. key_eq k p.used) pairs.now ≤ free_in self.old k }
+        ensures users { (k : Key) → users_in self.new k ≡ users_in self.old k }
+        ensures room { (k : Key) → free_in self.new k + count_by (λ p. key_eq k p.used) pairs.now ≡ free_in self.old k }
+    {
+        for pair in pairs {
+            self.release_one(pair.used);
+        }
+    }
+
+    fn release_one(&mut self, used: Key)
+        requires { 0 < free_in self.old used }
+        ensures users { (k : Key) → users_in self.new k ≡ users_in self.old k }
+        ensures room { (k : Key) → free_in self.new k + (if key_eq k used then 1 else 0) ≡ free_in self.old k }
+    {
+        let place = used.id as usize;
+        match used.kind {
+            Kind::Node => self.nodes[place].release(1),
+            Kind::Way => self.ways[place].release(1),
+            Kind::Relation => self.relations[place].release(1),
+        }
+    }
+
+    /// Takes back all that was promised for an element. It takes no memory.
+    pub fn forget(&mut self, used: Key)
+        ensures users { (k : Key) → users_in self.new k ≡ users_in self.old k }
+        ensures room { (k : Key) → free_in self.new k ≡ (if key_eq k used then 0 else free_in self.old k) }
+    {
+        match used.kind {
+            Kind::Node => forget_at(&mut self.nodes, used.id),
+            Kind::Way => forget_at(&mut self.ways, used.id),
+            Kind::Relation => forget_at(&mut self.relations, used.id),
+        }
+    }
+
+    /// Adds a user, on promised room. It takes no memory.
+    pub fn add(&mut self, pair: Pair)
+        requires room { 0 < free_in self.old pair.used }
+        requires absent { lists_key (users_in self.old pair.used) pair.user ≡ false }
+        ensures users { (k : Key) → users_in self.new k ≡ (if key_eq k pair.used then insert_key (users_in self.old k) pair.user else users_in self.old k) }
+        ensures room { (k : Key) → free_in self.new k ≡ (if key_eq k pair.used then free_in self.old k - 1 else free_in self.old k) }
+    {
+        let place = pair.used.id as usize;
+        match pair.used.kind {
+            Kind::Node => self.nodes[place].add(pair.user),
+            Kind::Way => self.ways[place].add(pair.user),
+            Kind::Relation => self.relations[place].add(pair.user),
+        }
+    }
+
+    /// Takes a user out. It takes no memory.
+    pub fn take_out(&mut self, pair: Pair)
+        requires { lists_key (users_in self.old pair.used) pair.user ≡ true }
+        ensures users { (k : Key) → users_in self.new k ≡ (if key_eq k pair.used then without_key (users_in self.old k) pair.user else users_in self.old k) }
+        ensures room { (k : Key) → free_in self.new k ≡ free_in self.old k }
+    {
+        let place = pair.used.id as usize;
+        match pair.used.kind {
+            Kind::Node => self.nodes[place].take_out(pair.user),
+            Kind::Way => self.ways[place].take_out(pair.user),
+            Kind::Relation => self.relations[place].take_out(pair.user),
+        }
+    }
+}
+
+fn users_at(rows: &[KeySet], id: u64) -> &[Key]
+    ensures users { result.now ≡ (slice_index_or rows.now id no_row).items }
+    ensures rising { IsRising result.now }
+{
+    match rows.get(id as usize) {
+        Some(row) => row.keys(),
+        None => &[],
+    }
+}
+
+fn promise_at(alloc: Global, rows: &mut Vec<KeySet>, id: u64) -> Result<(), Memory>
+    ensures users { (i : ℕ) → (slice_index_or rows.new.items i no_row).items ≡ (slice_index_or rows.old.items i no_row).items }
+    ensures ok { OnOk result ((i : ℕ) → (slice_index_or rows.new.items i no_row).free ≡ (slice_index_or rows.old.items i no_row).free + (if i == id then 1 else 0)) }
+    ensures err { OnErr result ((i : ℕ) → (slice_index_or rows.new.items i no_row).free ≡ (slice_index_or rows.old.items i no_row).free) }
+{
+    let place = id as usize;
+    extend(alloc, rows, place)?;
+    rows[place].promise(1)
+}
+
+fn forget_at(rows: &mut Vec<KeySet>, id: u64)
+    ensures users { (i : ℕ) → (slice_index_or rows.new.items i no_row).items ≡ (slice_index_or rows.old.items i no_row).items }
+    ensures room { (i : ℕ) → (slice_index_or rows.new.items i no_row).free ≡ (if i == id then 0 else (slice_index_or rows.old.items i no_row).free) }
+{
+    let place = id as usize;
+    if place < rows.len() {
+        rows[place].forget();
+    }
+}
+
+/// Makes empty rows up to a place.
+fn extend(alloc: Global, rows: &mut Vec<KeySet>, place: usize) -> Result<(), Memory>
+    ensures same { (i : ℕ) → slice_index_or rows.new.items i no_row ≡ slice_index_or rows.old.items i no_row }
+    ensures ok { OnOk result (place < length rows.new.items) }
+{
+    while rows.len() <= place {
+        rows.push(KeySet::none(alloc))?;
+    }
+    Ok(())
+}
