@@ -25,7 +25,7 @@ impl Model for PlaceholderMap {
 impl PlaceholderMap {
     ghost use Rattle.placeholder_map.specs.Placeholders.{Placeholders, no_placeholders, bindings, look_of, bound, is_bound};
 
-    /// Takes no memory.
+    /// A map that binds nothing. It takes no memory.
     pub fn new(alloc: Global) -> PlaceholderMap
         ensures { result ≡ no_placeholders }
     {
@@ -36,7 +36,7 @@ impl PlaceholderMap {
         }
     }
 
-    /// The place that the placeholder of this kind is bound to.
+    /// The place that the placeholder of this kind is bound to. None where it isn't bound.
     pub fn look(&self, kind: Kind, placeholder: i64) -> Option<u32>
         ensures { result ≡ look_of self.now kind placeholder }
     {
@@ -50,7 +50,8 @@ impl PlaceholderMap {
         self.of_kind(kind).len() as u64
     }
 
-    /// Binds the placeholder, or answers false where it is bound already.
+    /// Binds the placeholder, or answers false where it is bound already. `Memory` leaves the map
+    /// as it was.
     pub fn bind(&mut self, kind: Kind, placeholder: i64, place: u32) -> Result<bool, Memory>
         ensures answer { IfOk result (λ new. new ≡ not (is_bound self.old kind placeholder)) }
         ensures ok { OnOk result (self.new ≡ bound self.old kind placeholder place) }
@@ -89,23 +90,5 @@ fn bind_in(bindings: &mut IndexMap<i64, u32>, placeholder: i64, place: u32) -> R
             bindings.insert(placeholder, earlier)?;
             Ok(false)
         }
-    }
-}
-
-#[cfg(test)]
-mod tests {
-    use super::*;
-    use std::test::Fail;
-
-    #[test]
-    fn a_placeholder_binds_once(rt: HostRuntime) -> Result<(), Fail> {
-        let mut map = PlaceholderMap::new(rt.alloc());
-        assert!(rt; map.bind(Kind::Node, -1, 0)?);
-        assert!(rt; map.bind(Kind::Way, -1, 1)?);
-        assert!(rt; !map.bind(Kind::Node, -1, 2)?);
-        assert_eq!(rt; map.look(Kind::Node, -1), Some(0));
-        assert_eq!(rt; map.look(Kind::Node, -2), None);
-        assert_eq!(rt; map.count(Kind::Node), 1);
-        Ok(())
     }
 }

@@ -35,5 +35,14 @@ no_header = refl
 any_case : who_of (alice ∷ bob ∷ []) (Some (codes "bearer  bobtoken")) ≡ who.Known 1
 any_case = refl
 
+tab_before_token : who_of (alice ∷ bob ∷ []) (Some (codes "Bearer " ++ 9 ∷ codes "alicetoken")) ≡ who.Known 0
+tab_before_token = refl
+
+tab_for_space : who_of (alice ∷ bob ∷ []) (Some (codes "Bearer" ++ 9 ∷ codes "alicetoken")) ≡ who.Unknown
+tab_for_space = refl
+
+spaces_around : who_of (alice ∷ bob ∷ []) (Some (codes " Bearer  alicetoken" ++ 9 ∷ [])) ≡ who.Known 0
+spaces_around = refl
+
 another_scheme : who_of (alice ∷ bob ∷ []) (Some (codes "Basic x")) ≡ who.Unknown
 another_scheme = refl

@@ -3,7 +3,7 @@ use Rattle.std.specs.Prelude.{⊤, ℕ, ◌-◌, ◌<◌, Bool, ◌&&◌, ◌||�
 use Rattle.std.specs.Option.{option_and_then}
 use Rattle.std.specs.List.{prefix_len, suffix_len}
 use Rattle.std.specs.Str.{bytes_eq, str_eq_ignore_ascii_case}
-use Rattle.user_table.specs.Rows.{Row, is_space}
+use Rattle.user_table.specs.Rows.{Row}
 use Rattle.user_table.specs.declared.tables.Who.{Who}
 use Rattle.user_table.specs.declared.tables.Who.TheVariants.{Anonymous, Known, Unknown}
 
@@ -25,13 +25,9 @@ trimmed bytes = trimmed_end (trimmed_start bytes)
 abbrev pub is_bearer : List ℕ → Bool
 is_bearer bytes = str_eq_ignore_ascii_case (take 6 bytes) (codes "Bearer") && (slice_index bytes 6 == 32)
 
--- what stands after the spaces at the front
-abbrev pub after_spaces : List ℕ → List ℕ
-after_spaces bytes = drop (prefix_len is_space bytes) bytes
-
--- the token of a header: cut at both ends, it is `Bearer`, one or more spaces, the token
+-- the token of a header: `Bearer`, one or more spaces, the token, cut of spaces and tabs at both ends
 abbrev pub token_of : List ℕ → Option (List ℕ)
-token_of header = if is_bearer (trimmed header) then Some (after_spaces (drop 6 (trimmed header))) else None
+token_of header = if is_bearer (trimmed header) then Some (trimmed (drop 6 (trimmed header))) else None
 
 -- the place of the user with the token
 abbrev pub place_of : List Row → List ℕ → Option ℕ

@@ -1,14 +1,14 @@
 ghost use Rattle.std.specs.Prelude.{◌≡◌, ◌≤◌, IsTrue, length};
 ghost use Rattle.std.specs.Option.{option_copied};
-ghost use Rattle.user_table.specs.Who.{is_gap, trimmed_start, trimmed_end, trimmed, is_bearer, after_spaces, token_of};
+ghost use Rattle.user_table.specs.Who.{is_gap, trimmed_start, trimmed_end, trimmed, is_bearer, token_of};
 
-/// The token of a header's value.
+/// The token of a header's value. Spaces and tabs before and after it don't count.
 pub fn token_of(header: &[u8]) -> Option<&[u8]>
     ensures { option_copied result ≡ token_of header.now }
 {
     let value = trimmed(header);
     if is_bearer(value) {
-        Some(after_spaces(&value[6..]))
+        Some(trimmed(&value[6..]))
     } else {
         None
     }
@@ -19,16 +19,6 @@ fn is_bearer(value: &[u8]) -> bool
     ensures long { IsTrue result → 6 ≤ length value.now }
 {
     value.len() > 6 && value[..6].eq_ignore_ascii_case(b"Bearer") && value[6] == b' '
-}
-
-fn after_spaces(bytes: &[u8]) -> &[u8]
-    ensures { result.now ≡ after_spaces bytes.now }
-{
-    let mut rest = bytes;
-    while let [b' ', after @ ..] = rest {
-        rest = after;
-    }
-    rest
 }
 
 /// The bytes without spaces and tabs at both ends.

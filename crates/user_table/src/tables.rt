@@ -18,6 +18,7 @@ pub enum Who {
     Anonymous,
     /// The user at a place of the table, counted from 0.
     Known(u64),
+    /// The field names nobody of the table.
     Unknown,
 }
 
@@ -54,8 +55,8 @@ impl UserTable {
         }
     }
 
-    /// Who sent a request, by the value of its Authorization field: `Bearer` and a token (RFC 6750,
-    /// section 2.1). Spaces and tabs at both ends of the value don't count.
+    /// Who sent a request, by the value of its Authorization field: `Bearer`, one or more spaces
+    /// and a token (RFC 6750, section 2.1). Spaces and tabs before and after the token don't count.
     pub fn who(&self, header: Option<&[u8]>) -> Who
         ensures who { result ≡ who_of self.now (option_copied header.entry) }
         ensures within { IsWithin self.now result }
@@ -90,65 +91,5 @@ impl UserTable {
         ensures { slice_get (map (λ row. row.user) self.now) place ≡ Some result.now }
     {
         &self.users[place as usize]
-    }
-}
-
-#[cfg(test)]
-mod tests {
-    use super::*;
-    use std::test::Fail;
-
-    fn sender(alloc: Global, header: Option<&[u8]>) -> Result<Who, UsersFault> {
-        let table = UserTable::read(
-            alloc,
-            b"1 alicetoken user alice\n2 bobtoken moderator bob\n",
-        )?;
-        Ok(table.who(header))
-    }
-
-    #[test]
-    fn no_header_is_anonymous(rt: HostRuntime) -> Result<(), Fail> {
-        assert_eq!(rt; sender(rt.alloc(), None)?, Who::Anonymous);
-        Ok(())
-    }
-
-    #[test]
-    fn the_word_may_be_in_any_case(rt: HostRuntime) -> Result<(), Fail> {
-        assert_eq!(rt;
-            sender(rt.alloc(), Some(b"bearer  bobtoken"))?,
-            Who::Known(1)
-        );
-        Ok(())
-    }
-
-    #[test]
-    fn another_scheme_is_unknown(rt: HostRuntime) -> Result<(), Fail> {
-        assert_eq!(rt; sender(rt.alloc(), Some(b"Basic x"))?, Who::Unknown);
-        Ok(())
-    }
-
-    #[test]
-    fn the_second_user_is_bob(rt: HostRuntime) -> Result<(), Fail> {
-        let text = b"# the team\r\n1 alicetoken user alice\r\n\n2 bobtoken moderator bob";
-        let table = UserTable::read(rt.alloc(), text)?;
-        let who = table.who(Some(b"Bearer bobtoken"));
-        assert_eq!(rt; who, Who::Known(1));
-        if let Who::Known(place) = who {
-            let bob = table.user(place);
-            assert_eq!(rt; bob.id, 2);
-            assert_eq!(rt; bob.name.as_str(), "bob");
-            assert!(rt; bob.moderator);
-        }
-        Ok(())
-    }
-
-    fn fault_of(alloc: Global, text: &[u8]) -> Option<UsersFault> {
-        UserTable::read(alloc, text).err()
-    }
-
-    #[test]
-    fn a_line_twice_is_a_double_id(rt: HostRuntime) {
-        let fault = fault_of(rt.alloc(), b"1 a user x\n1 a user x\n");
-        assert_eq!(rt; fault, Some(UsersFault::DoubleId { line: 2 }));
     }
 }
