@@ -8,4 +8,5 @@ mod NamesBefore
 mod OwnParts
 mod Placeholders
 pub mod WellFormed
+mod Again
 mod Naming

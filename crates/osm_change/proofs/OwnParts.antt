@@ -126,10 +126,10 @@ each-any f p q h (x ∷ xs) ys e =
     let more = cons-ok step.0 (each f xs) ys step.2 in
     ap (list_any q) more.2 ∙ ap (λ b. b || list_any q more.0) (h x step.0 step.1) ∙ ap (λ b. p x || b) (each-any f p q h xs more.0 more.1)
 
-abbrev nodes-by : ℕ → Result (Unit {0}) LocalFault
+abbrev pub nodes-by : ℕ → Result (Unit {0}) LocalFault
 nodes-by n = cond (eqb n 0) (Err WayEmpty) (cond (ltb WAY_LIMIT n) (Err WayLong) (Ok tt))
 
-abbrev members-by : ℕ → Bool → Result (Unit {0}) LocalFault
+abbrev pub members-by : ℕ → Bool → Result (Unit {0}) LocalFault
 members-by n long = cond (ltb RELATION_LIMIT n) (Err RelationLong) (cond long (Err Role) (Ok tt))
 
 role-kept : (look : Look) (m : Member ℤ) (made : Member Name) → member_named look m ≡ Ok made → is_long made.role ≡ is_long m.role

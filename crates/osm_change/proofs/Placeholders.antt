@@ -19,12 +19,12 @@ use Rattle.osm_change.proofs.Built.{created-from, modified-from, deleted-from, b
 use Rattle.osm_change.proofs.NamesBefore.{makes}
 use Rattle.osm_change.proofs.OwnParts.{free-is}
 
-kind_eq-refl : (k : Kind) → kind_eq k k ≡ true
+pub kind_eq-refl : (k : Kind) → kind_eq k k ≡ true
 kind_eq-refl Node = refl
 kind_eq-refl Way = refl
 kind_eq-refl Relation = refl
 
-int_eq-refl : (z : ℤ) → int_eq z z ≡ true
+pub int_eq-refl : (z : ℤ) → int_eq z z ≡ true
 int_eq-refl z = (Decides-int_eq z z).1 refl
 
 some-none : {A : Type 0} (x : A) → Some x ≡ None → ⊥
@@ -43,7 +43,7 @@ passes-later place len false e = (refl, at (ltb place len) refl)
     at false past = ap (λ b. cond b (Some place) None) past
 
 -- where no operation of a list passes
-position-none : (test : RawOp → Bool) (xs : List RawOp) → position test xs ≡ None → (p : ℕ) (x : RawOp) → slice_get xs p ≡ Some x → test x ≡ false
+pub position-none : (test : RawOp → Bool) (xs : List RawOp) → position test xs ≡ None → (p : ℕ) (x : RawOp) → slice_get xs p ≡ Some x → test x ≡ false
 position-none test [] none p x at = absurd (cc)
 position-none test (y ∷ ys) none zero x at =
     let same : y ≡ x = cc in

@@ -19,7 +19,7 @@ pub use answers::{
 };
 pub use causes::{Cause, ShapeFault};
 pub use changes::Change;
-pub use law::names_are_said;
+pub use law::{changes_are_read_again, names_are_said};
 pub use listed::{kind_of, names_listed};
 pub use operations::{FirstIds, Name, Named, Op, OpDone, OpDones};
 pub use raw::{Action, RawOp};
