@@ -3,4 +3,10 @@ mod Steps
 mod Positions
 mod Looks
 mod Reading
+mod Built
+mod NamesBefore
+mod OwnParts
+mod Placeholders
 pub mod WellFormed
+mod Again
+mod Naming

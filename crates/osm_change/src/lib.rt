@@ -5,10 +5,13 @@ mod answers;
 mod build;
 mod causes;
 mod changes;
+mod law;
 mod listed;
 mod operations;
 mod raw;
+mod reads;
 mod refusals;
+mod rows;
 mod single;
 
 pub use answers::{
@@ -16,8 +19,10 @@ pub use answers::{
 };
 pub use causes::{Cause, ShapeFault};
 pub use changes::Change;
+pub use law::{changes_are_read_again, names_are_said};
 pub use listed::{kind_of, names_listed};
 pub use operations::{FirstIds, Name, Named, Op, OpDone, OpDones};
 pub use raw::{Action, RawOp};
+pub use reads::{MapFault, ReadFault, Selection, Shown};
 pub use refusals::{Refusal, Said};
 pub use single::OneOp;
