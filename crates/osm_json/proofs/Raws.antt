@@ -1,9 +1,10 @@
 -- What an operation that was read is.
-use Rattle.std.proofs.Common.{◌≡◌, ℕ, Bool, true, false, List, [], ◌∷◌, Option, Some, None, option_map, Result, Ok, Err, refl, sym, ap, ◌∙◌, subst, ℤ, pos, negsuc, ◌+◌, ◌<◌, ◌≤◌, ◌^◌, arith, codes}
+use Rattle.std.proofs.Common.{◌≡◌, ℕ, Bool, true, false, List, [], ◌∷◌, Option, Some, None, option_map, Result, Ok, Err, refl, sym, ap, ◌∙◌, subst, ℤ, pos, negsuc, ◌+◌, ◌<◌, ◌≤◌, ◌^◌, arith, codes, length, Vec, Global}
 use Rattle.std.specs.Prelude.{All, ◌&&◌, nat_lt, unsigned_abs, unwrap_or, MatchOption, ⊤}
 use Rattle.std.proofs.lemmas.Bool.{ltb-true}
 use Rattle.std.proofs.lemmas.Int.{ints}
 use Rattle.std.specs.Ordering.{int_eq}
+use Rattle.std.specs.Result.{IfOk}
 use Rattle.std.proofs.lemmas.List.Elements.{All-nil, All-cons}
 use Rattle.serde_json.specs.Data.{Data, Items, no_items, item}
 use Rattle.serde_json.specs.Find.{get, as_str, as_array, as_number, as_u64}
@@ -17,8 +18,8 @@ use Rattle.osm_change.specs.declared.raw.Action.{Action}
 use Rattle.osm_change.specs.declared.raw.Action.TheVariants.{Create, Modify, Delete}
 use Rattle.osm_change.specs.declared.raw.RawOp.{RawOp}
 use Rattle.osm_json.specs.declared.fault.BodyFault.{BodyFault}
-use Rattle.osm_json.specs.Reading.{◌>>=◌, only_if, needed, optional, if_there, integer_of, is_id, id_of, is_count, count_of, kind_of, given_tags, repeated, single_id, single_of, each_of, list_of, reference_of, content_of, version_of, given_content, operation_of, Step, read_first, operations_from, operations_in, in_json, change_of, data_of, blocks_of, steps_of, Block}
-use Rattle.osm_change.specs.Build.{IsReference, IsRawContent, HasContent, IsRawOp}
+use Rattle.osm_json.specs.Reading.{◌>>=◌, Gives, only_if, needed, optional, if_there, integer_of, is_id, id_of, is_count, count_of, kind_of, given_tags, repeated, single_id, single_of, each_of, list_of, reference_of, content_of, version_of, given_content, operation_of, Step, read_first, operations_from, operations_in, in_json, change_of, data_of, blocks_of, steps_of, Block}
+use Rattle.osm_change.specs.Build.{IsReference, IsRawContent, HasContent, IsRawOp, IsRaw}
 
 -- ---- steps that gave something
 
@@ -228,6 +229,10 @@ document_is (Some d) ops e = in_is (blocks_of d) ops e
 -- what an upload's body gives
 pub change_is : (body : List ℕ) (ops : List RawOp) → change_of body ≡ Ok ops → All IsRawOp ops
 change_is body ops e = document_is (data_of body) ops e
+
+pub raw_of : (body : List ℕ) (r : Result (Vec RawOp Global) BodyFault) → Gives (λ v. v.items) r (change_of body) → IfOk r (λ v. length v.items < 2 ^ 32) → IfOk r (λ v. IsRaw v.items)
+raw_of body (Ok v) h few = record { few = few; each = change_is body v.items h }
+raw_of body (Err fault) h few = tt
 
 -- ---- the operation of a single element
 

@@ -1,14 +1,13 @@
 -- The texts of an object, put into a map one after the other.
-use Rattle.std.proofs.Common.{◌≡◌, ℕ, ◌+◌, ◌<◌, ◌≤◌, List, [], ◌∷◌, ◌++◌, length, drop, get_or, Option, Some, None, Bor, Ordering, Less, Equal, Greater, nat_cmp, refl, sym, ap, ◌∙◌}
-use Rattle.std.proofs.lemmas.List.{at_drop_more, at_drop_all}
+use Rattle.std.proofs.Common.{◌≡◌, ℕ, List, [], ◌∷◌, ◌++◌, Option, Some, None, Bor, Ordering, Less, Equal, Greater, nat_cmp, refl, sym, ap, ◌∙◌}
 use Rattle.std.specs.BTreeMap.{insert_entry}
 use Rattle.std.specs.Cmp.Lexicographic.{slice_cmp}
 use Rattle.std.specs.Ordering.{match_ordering}
 use Rattle.serde_json.specs.Data.{Data, null, string, Members, no_members, member, put}
 use Rattle.serde_json.specs.Find.{as_str}
 use Rattle.osm_json.specs.Reading.{◌>>=◌, pairs_of}
-use Rattle.osm_json.proofs.EachOf.{with_front, regroup}
-use Rattle.osm_json.specs.Borrowed.{Entry, view, put_all, members_view, Texts, text_in, text_pairs}
+use Rattle.osm_json.specs.Found.{Texts, text_in, text_pairs}
+use Rattle.osm_json.proofs.Each.{with_front, regroup}
 
 -- a text, and nothing for what is no text
 abbrev text_data : Option (List ℕ) → Data
@@ -16,18 +15,13 @@ text_data None = null
 text_data (Some text) = string text
 
 -- the members, with nothing in the place of what is no text
-abbrev only_texts : Members → Members
+abbrev pub only_texts : Members → Members
 only_texts no_members = no_members
 only_texts (member k d ms) = member k (text_data (as_str d)) (only_texts ms)
 
 abbrev pub texts_view : Texts → Members
 texts_view [] = no_members
 texts_view (e ∷ es) = member e.0.now (text_data (text_in e.1)) (texts_view es)
-
--- the texts of the members, put one after the other into those before
-abbrev pub put_texts : List Entry → Members → Members
-put_texts [] found = found
-put_texts (e ∷ es) found = put_texts es (put e.0.now (text_data (as_str (view e.1))) found)
 
 only_texts-match : (o : Ordering) (a b c : Members) → only_texts (match_ordering o a b c) ≡ match_ordering o (only_texts a) (only_texts b) (only_texts c)
 only_texts-match Less a b c = refl
@@ -37,10 +31,6 @@ only_texts-match Greater a b c = refl
 only_texts-put : (k : List ℕ) (d : Data) (ms : Members) → only_texts (put k d ms) ≡ put k (text_data (as_str d)) (only_texts ms)
 only_texts-put k d no_members = refl
 only_texts-put k d (member l e ms) = only_texts-match (slice_cmp nat_cmp k l) _ _ _ ∙ rw (only_texts-put k d ms) refl
-
-put_texts-only_texts : (es : List Entry) (found : Members) → put_texts es (only_texts found) ≡ only_texts (put_all es found)
-put_texts-only_texts [] found = refl
-put_texts-only_texts (e ∷ es) found = ap (put_texts es) (sym (only_texts-put e.0.now (view e.1) found)) ∙ put_texts-only_texts es (put e.0.now (view e.1) found)
 
 abbrev key_cmp : Bor (List ℕ) → Bor (List ℕ) → Ordering
 key_cmp a b = slice_cmp nat_cmp a.now b.now
@@ -54,14 +44,6 @@ texts_view-insert : (es : Texts) (k : Bor (List ℕ)) (t : Option (Bor (List ℕ
 texts_view-insert [] k t = refl
 texts_view-insert (e ∷ es) k t = texts_view-match (key_cmp k e.0) _ _ _ ∙ rw (texts_view-insert es k t) refl
 
--- one more member, with the text that it has
-pub puts_on : (es : List Entry) (i : ℕ) (e : Entry) (found old : Texts) (t : Option (Bor (List ℕ))) → i < length es → e ≡ get_or es i e → text_in t ≡ as_str (view e.1)
-    → found ≡ insert_entry key_cmp old e.0 t → put_texts (drop (i + 1) es) (texts_view found) ≡ put_texts (drop i es) (texts_view old)
-puts_on es i e found old t lt is same inserted =
-    let put_in : texts_view found ≡ put e.0.now (text_data (as_str (view e.1))) (texts_view old) = ap texts_view inserted ∙ texts_view-insert old e.0 t ∙ ap (λ text. put e.0.now (text_data text) (texts_view old)) same in
-    ap (put_texts (drop (i + 1) es)) put_in
-    ∙ sym (at_drop_more (λ (rest : List Entry). put_texts rest (texts_view old)) es i e lt ∙ ap (λ (x : Entry). put_texts (x ∷ drop (i + 1) es) (texts_view old)) (sym is))
-
 as_str-text_data : (text : Option (List ℕ)) → as_str (text_data text) ≡ text
 as_str-text_data None = refl
 as_str-text_data (Some text) = refl
@@ -70,7 +52,6 @@ with_text : (key : List ℕ) (text same : Option (List ℕ)) (rest others : Opti
     → (text >>= λ t. rest >>= λ pairs. Some ((key, t) ∷ pairs)) ≡ (same >>= λ t. others >>= λ pairs. Some ((key, t) ∷ pairs))
 with_text key text same rest others e f = rw (e, f) refl
 
--- what is no text has no pair in either
 pairs_of-only_texts : (ms : Members) → pairs_of (only_texts ms) ≡ pairs_of ms
 pairs_of-only_texts no_members = refl
 pairs_of-only_texts (member k d ms) = with_text k _ (as_str d) _ (pairs_of ms) (as_str-text_data (as_str d)) (pairs_of-only_texts ms)
@@ -79,12 +60,20 @@ pairs_of-texts_view : (es : Texts) → text_pairs es ≡ pairs_of (texts_view es
 pairs_of-texts_view [] = refl
 pairs_of-texts_view (e ∷ es) = with_text e.0.now (text_in e.1) _ (text_pairs es) _ (sym (as_str-text_data (text_in e.1))) (pairs_of-texts_view es)
 
-pub puts_all : (es : List Entry) (i : ℕ) (found : Texts) → length es ≤ i → put_texts (drop i es) (texts_view found) ≡ put_texts es no_members → text_pairs found ≡ pairs_of (members_view es)
-puts_all es i found le e =
-    let same : texts_view found ≡ only_texts (members_view es) = sym (at_drop_all (λ (rest : List Entry). put_texts rest (texts_view found)) es i le) ∙ e ∙ put_texts-only_texts es no_members in
-    pairs_of-texts_view found ∙ ap pairs_of same ∙ pairs_of-only_texts (members_view es)
+-- one more member, with the text that it has
+pub text_put : (old found : Texts) (key : Bor (List ℕ)) (t : Option (Bor (List ℕ))) (d : Data) (ms : Members) → texts_view old ≡ only_texts ms → text_in t ≡ as_str d → found ≡ insert_entry key_cmp old key t
+    → texts_view found ≡ only_texts (put key.now d ms)
+text_put old found key t d ms e same inserted =
+    ap texts_view inserted ∙ texts_view-insert old key t ∙ ap (λ text. put key.now (text_data text) (texts_view old)) same ∙ ap (put key.now (text_data (as_str d))) e ∙ sym (only_texts-put key.now d ms)
+
+pub texts_read : (found : Texts) (ms : Members) → texts_view found ≡ only_texts ms → pairs_of ms ≡ text_pairs found
+texts_read found ms e = sym (pairs_of-texts_view found ∙ ap pairs_of e ∙ pairs_of-only_texts ms)
 
 -- one more name with its text
 pub pairs_more : (front : List (List ℕ × List ℕ)) (key : Bor (List ℕ)) (given : Option (Bor (List ℕ))) (text : List ℕ) (rest : Texts) → text_in given ≡ Some text
     → with_front (front ++ (key.now, text) ∷ []) (text_pairs rest) ≡ with_front front (text_pairs ((key, given) ∷ rest))
 pairs_more front key given text rest e = sym (regroup front (key.now, text) (text_pairs rest)) ∙ ap (λ found. with_front front (found >>= λ t. text_pairs rest >>= λ pairs. Some ((key.now, t) ∷ pairs))) (sym e)
+
+-- a name with no text
+pub pairs_none : (front : List (List ℕ × List ℕ)) (key : Bor (List ℕ)) (given : Option (Bor (List ℕ))) (rest : Texts) → text_in given ≡ None → with_front front (text_pairs ((key, given) ∷ rest)) ≡ None
+pairs_none front key given rest e = ap (λ found. with_front front (found >>= λ t. text_pairs rest >>= λ pairs. Some ((key.now, t) ∷ pairs))) e

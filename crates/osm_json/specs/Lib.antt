@@ -1,10 +1,14 @@
 pub mod Answered
-pub mod Borrowed
+pub mod Bodies
 pub mod Fields
+pub mod Found
 pub mod Moment
+pub mod Names
+pub mod Pull
 pub mod Reading
 pub mod Refused
 pub mod Rows
+pub mod Scalars
 pub mod Sent
 pub mod Shown
-pub mod Walk
+pub mod Walked

@@ -17,8 +17,6 @@ use Rattle.osm_element.specs.declared.contents.RawContent.{RawContent}
 use Rattle.osm_element.specs.declared.contents.RawContent.TheVariants as contents
 use Rattle.osm_json.specs.declared.fault.BodyFault.{BodyFault}
 use Rattle.osm_json.specs.declared.fault.BodyFault.TheVariants.{NotJson, Shape}
-use Rattle.osm_json.specs.declared.fault.PartFault.{PartFault}
-use Rattle.osm_json.specs.declared.fault.PartFault.TheVariants.{Malformed}
 
 -- ---- steps that may fail
 
@@ -266,12 +264,3 @@ IsFault (Shape op) defined = defined ≡ Err (Shape op)
 abbrev pub Gives : {A X : Type 0} → (X → A) → Result X BodyFault → Result A BodyFault → Type 0
 Gives view (Ok x) defined = defined ≡ Ok (view x)
 Gives view (Err fault) defined = IsFault fault defined
-
--- the same of a part that has no fault of its own
-abbrev pub IsPartFault : {A : Type 0} → PartFault → Option A → Type 0
-IsPartFault PartFault.Memory defined = Unit {0}
-IsPartFault Malformed defined = defined ≡ None
-
-abbrev pub Reads : {A X : Type 0} → (X → A) → Result X PartFault → Option A → Type 0
-Reads view (Ok x) defined = defined ≡ Some (view x)
-Reads view (Err fault) defined = IsPartFault fault defined

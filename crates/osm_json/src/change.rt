@@ -1,108 +1,109 @@
 //! The document of an upload.
-ghost use Rattle.std.specs.Prelude.{◌≡◌, ◌<◌, ◌^◌, map, option_map, vec_len, IfOk};
-ghost use Rattle.osm_json.specs.Borrowed.{view, items_view};
-ghost use Rattle.osm_json.specs.Reading.{Gives, Reads, block_of, blocks_of, each_of, steps_among, change_of};
+ghost use Rattle.std.specs.Prelude.{◌≡◌, ◌^◌, ◌<◌, ◌≤◌, [], length, codes, option_map, if◌then◌else◌, IfOk, OnOk};
+ghost use Rattle.std.specs.Str.{bytes_eq};
+ghost use Rattle.serde_json.specs.Find.{get, get_member, as_array};
+ghost use Rattle.serde_json.specs.Read.{read};
 ghost use Rattle.osm_change.specs.Build.{IsRaw};
-ghost use Rattle.osm_json.specs.Walk.{block_view, ReadsOn};
+ghost use Rattle.osm_json.specs.Reading.{Gives, in_json, operations_in, blocks_of, change_of};
+ghost use Rattle.osm_json.specs.Pull.{next_data, next_members, ended, Pulled};
+ghost use Rattle.osm_json.specs.Walked.{sight, walk_value, walk_document, outcome};
 
-use crate::document::document;
-use crate::fault::{BodyFault, PartFault};
-use crate::parts::operation;
-use crate::read::{needed_list, optional_bool};
-use crate::tree;
-use crate::tree::member;
-use json::{Scratch, Value};
-use osm_change::{Action, RawOp};
+use crate::blocks::{Progress, blocks};
+use crate::fault::{BodyFault, ReadFault};
+use crate::pass::pass_value;
+use crate::scalar::{DEPTH_LIMIT, enter_object};
+use json::{Reader, Scratch};
+use osm_change::RawOp;
 use std::alloc::Global;
 
-/// What is done to each element of a list.
-#[derive(Clone, Copy)]
-pub(crate) struct Block<'v, 'a> {
-    action: Action,
-    elements: &'v Vec<Value<'a>>,
-}
-
-#[tactic(auto, unfolding(crate::specs::Reading::block_of))]
-fn read_block<'v, 'a>(value: &'v Value<'a>) -> Option<Block<'v, 'a>>
-    ensures { option_map block_view result ≡ block_of (view value.now) }
+/// Reads a member of the document.
+fn member(
+    alloc: Global,
+    reader: &mut Reader<'_>,
+    depth: usize,
+    key: &str,
+    found: &mut Option<Progress>,
+) -> Result<(), ReadFault>
+    ensures value { Pulled (λ _. option_map sight found.new) (λ d. if bytes_eq key.now (codes "osmChange") then walk_value (as_array d) else option_map sight found.old) result (next_data depth reader.old) reader.new }
+    ensures shorter { OnOk result (length reader.new < length reader.old) }
 {
-    match (
-        member(value, "create"),
-        member(value, "modify"),
-        member(value, "delete"),
-    ) {
-        (Some(list), None, None) => Some(Block {
-            action: Action::Create,
-            elements: tree::list(list)?,
-        }),
-        (None, Some(list), None) => Some(Block {
-            action: Action::Modify,
-            elements: tree::list(list)?,
-        }),
-        (None, None, Some(list)) => {
-            let elements = tree::list(list)?;
-            let if_unused = optional_bool(value, "if-unused")?.unwrap_or(false);
-            Some(Block {
-                action: Action::Delete { if_unused },
-                elements,
-            })
-        }
-        _ => None,
+    if key == "osmChange" {
+        // Of two such members the first isn't kept while the second is read.
+        *found = None;
+        let read = blocks(alloc, reader, depth)?;
+        *found = read;
+        Ok(())
+    } else {
+        pass_value(reader, depth)
     }
 }
 
-fn read_each_block<'v, 'a>(
+/// The members of the document.
+fn members(
     alloc: Global,
-    list: &'v [Value<'a>],
-) -> Result<Vec<Block<'v, 'a>>, PartFault>
-    ensures { Reads (λ v. map block_view v.items) result (each_of block_of (items_view list.now)) }
+    reader: &mut Reader<'_>,
+    depth: usize,
+) -> Result<Option<Progress>, ReadFault>
+    ensures value { Pulled (λ o. option_map sight o) (λ ms. walk_document (get_member (codes "osmChange") ms)) result (next_members depth reader.old) reader.new }
+    ensures shorter { OnOk result (length reader.new ≤ length reader.old) }
 {
-    let mut found = Vec::with_capacity(alloc, list.len())?;
-    for value in list {
-        found.push(read_block(value).ok_or(PartFault::Malformed)?)?;
+    let mut found = None;
+    while let Some(key) = reader.next_key()? {
+        member(alloc, reader, depth, key, &mut found)?;
     }
     Ok(found)
 }
 
-#[tactic(auto, unfolding(crate::specs::Reading::blocks_of))]
-fn read_blocks<'v, 'a>(
-    alloc: Global,
-    document: &'v Value<'a>,
-) -> Result<Vec<Block<'v, 'a>>, PartFault>
-    ensures { Reads (λ v. map block_view v.items) result (blocks_of (view document.now)) }
+/// The operations of the document. None where it isn't that of an upload.
+fn document(alloc: Global, reader: &mut Reader<'_>) -> Result<Option<Progress>, ReadFault>
+    ensures { Pulled (λ o. option_map sight o) (λ d. walk_document (get (codes "osmChange") d)) result (next_data 127 reader.old) reader.new }
 {
-    let list = needed_list(document, "osmChange").ok_or(PartFault::Malformed)?;
-    read_each_block(alloc, list)
+    match enter_object(reader, DEPTH_LIMIT)? {
+        Some(within) => members(alloc, reader, within),
+        None => Ok(None),
+    }
 }
 
-/// Reads the operations of a list after those that were read.
-fn operations(
-    alloc: Global,
-    action: Action,
-    elements: &[Value<'_>],
-    ops: &mut Vec<RawOp>,
-) -> Result<(), BodyFault>
-    requires { vec_len ops.old < 2 ^ 32 }
-    ensures reads { ReadsOn result ops.old.items ops.new.items
-        (steps_among action (items_view elements.now)) }
-    ensures count { vec_len ops.new < 2 ^ 32 }
+/// The same of a document that nothing follows.
+fn whole(alloc: Global, reader: &mut Reader<'_>) -> Result<Option<Progress>, ReadFault>
+    ensures { Pulled (λ o. option_map sight o) (λ d. walk_document (get (codes "osmChange") d)) result (ended (next_data 127 reader.old)) [] }
 {
-    for element in elements {
-        let count = ops.len();
-        if count >= u32::MAX as usize {
-            return Err(BodyFault::Memory);
-        }
-        match operation(alloc, action, element) {
-            Ok(op) => ops.push(op)?,
-            Err(PartFault::Memory) => return Err(BodyFault::Memory),
-            Err(PartFault::Malformed) => {
-                return Err(BodyFault::Shape {
-                    op: count as u32 + 1,
-                });
-            }
-        }
+    let found = document(alloc, reader)?;
+    match reader.next() {
+        None => Ok(found),
+        Some(_) => Err(ReadFault::NotJson),
     }
-    Ok(())
+}
+
+/// The operations, or the fault of the first that is malformed.
+fn operations(found: Option<Progress>) -> Result<Vec<RawOp>, BodyFault>
+    ensures value { Gives (λ v. v.items) result (outcome (option_map sight found)) }
+    ensures few { IfOk result (λ v. length v.items < 2 ^ 32) }
+{
+    match found {
+        None => Err(BodyFault::Shape { op: 0 }),
+        Some(progress) => match progress.fault {
+            Some(op) => Err(BodyFault::Shape { op }),
+            None => if progress.ops.len() <= u32::MAX as usize {
+                Ok(progress.ops)
+            } else {
+                Err(BodyFault::Memory)
+            },
+        },
+    }
+}
+
+fn read_text(alloc: Global, text: &str) -> Result<Vec<RawOp>, BodyFault>
+    ensures value { Gives (λ v. v.items) result (in_json (λ d. operations_in (blocks_of d)) (read text.now)) }
+    ensures few { IfOk result (λ v. length v.items < 2 ^ 32) }
+{
+    let mut scratch = Scratch::new(alloc);
+    let mut reader = Reader::new(text, &mut scratch)?;
+    match whole(alloc, &mut reader) {
+        Ok(found) => operations(found),
+        Err(ReadFault::NotJson) => Err(BodyFault::NotJson),
+        Err(ReadFault::Memory) => Err(BodyFault::Memory),
+    }
 }
 
 /// The operations of an upload, in the order of the document (OpenStreetMap wiki, "OsmChange").
@@ -111,16 +112,8 @@ pub fn read_change(alloc: Global, body: &[u8]) -> Result<Vec<RawOp>, BodyFault>
     ensures value { Gives (λ v. v.items) result (change_of body.now) }
     ensures raw { IfOk result (λ v. IsRaw v.items) }
 {
-    let mut scratch = Scratch::new(alloc);
-    let document = document(alloc, body, &mut scratch)?;
-    let blocks = match read_blocks(alloc, &document) {
-        Ok(blocks) => blocks,
-        Err(PartFault::Memory) => return Err(BodyFault::Memory),
-        Err(PartFault::Malformed) => return Err(BodyFault::Shape { op: 0 }),
-    };
-    let mut ops = Vec::new(alloc);
-    for block in &blocks {
-        operations(alloc, block.action, block.elements, &mut ops)?;
+    match simdutf8::compat::from_utf8(body) {
+        Ok(text) => read_text(alloc, text),
+        Err(_) => Err(BodyFault::NotJson),
     }
-    Ok(ops)
 }

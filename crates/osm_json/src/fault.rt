@@ -1,3 +1,4 @@
+use json::Invalid;
 use osm_base::Memory;
 use std::alloc::{AllocError, AllocFailed};
 
@@ -32,46 +33,6 @@ impl<T: Drop> From<AllocFailed<T>> for BodyFault {
     }
 }
 
-/// Why a part of a body was not read.
-#[derive(Clone, Copy, Debug, PartialEq, Eq, Drop)]
-pub(crate) enum PartFault {
-    Malformed,
-    Memory,
-}
-
-impl From<AllocError> for PartFault {
-    ghost use Rattle.std.specs.Prelude.{◌≡◌};
-    ghost use Rattle.osm_json.specs.declared.fault.PartFault.{PartFault};
-
-    ghost from_gives = { λ _ fault. fault ≡ PartFault.Memory };
-
-    fn from(_refused: AllocError) -> PartFault {
-        PartFault::Memory
-    }
-}
-
-impl From<Memory> for PartFault {
-    ghost use Rattle.std.specs.Prelude.{◌≡◌};
-    ghost use Rattle.osm_json.specs.declared.fault.PartFault.{PartFault};
-
-    ghost from_gives = { λ _ fault. fault ≡ PartFault.Memory };
-
-    fn from(_refused: Memory) -> PartFault {
-        PartFault::Memory
-    }
-}
-
-impl<T: Drop> From<AllocFailed<T>> for PartFault {
-    ghost use Rattle.std.specs.Prelude.{◌≡◌};
-    ghost use Rattle.osm_json.specs.declared.fault.PartFault.{PartFault};
-
-    ghost from_gives = { λ _ fault. fault ≡ PartFault.Memory };
-
-    fn from(_refused: AllocFailed<T>) -> PartFault {
-        PartFault::Memory
-    }
-}
-
 impl From<Memory> for BodyFault {
     ghost use Rattle.std.specs.Prelude.{◌≡◌};
     ghost use Rattle.osm_json.specs.declared.fault.BodyFault.{BodyFault};
@@ -80,5 +41,56 @@ impl From<Memory> for BodyFault {
 
     fn from(_refused: Memory) -> BodyFault {
         BodyFault::Memory
+    }
+}
+
+/// Why the next value of a body was not read.
+#[derive(Clone, Copy, Debug, PartialEq, Eq, Drop)]
+pub(crate) enum ReadFault {
+    NotJson,
+    Memory,
+}
+
+impl From<Invalid> for ReadFault {
+    ghost use Rattle.std.specs.Prelude.{◌≡◌};
+    ghost use Rattle.osm_json.specs.declared.fault.ReadFault.{ReadFault};
+
+    ghost from_gives = { λ _ fault. fault ≡ ReadFault.NotJson };
+
+    fn from(_invalid: Invalid) -> ReadFault {
+        ReadFault::NotJson
+    }
+}
+
+impl From<AllocError> for ReadFault {
+    ghost use Rattle.std.specs.Prelude.{◌≡◌};
+    ghost use Rattle.osm_json.specs.declared.fault.ReadFault.{ReadFault};
+
+    ghost from_gives = { λ _ fault. fault ≡ ReadFault.Memory };
+
+    fn from(_refused: AllocError) -> ReadFault {
+        ReadFault::Memory
+    }
+}
+
+impl From<Memory> for ReadFault {
+    ghost use Rattle.std.specs.Prelude.{◌≡◌};
+    ghost use Rattle.osm_json.specs.declared.fault.ReadFault.{ReadFault};
+
+    ghost from_gives = { λ _ fault. fault ≡ ReadFault.Memory };
+
+    fn from(_refused: Memory) -> ReadFault {
+        ReadFault::Memory
+    }
+}
+
+impl<T: Drop> From<AllocFailed<T>> for ReadFault {
+    ghost use Rattle.std.specs.Prelude.{◌≡◌};
+    ghost use Rattle.osm_json.specs.declared.fault.ReadFault.{ReadFault};
+
+    ghost from_gives = { λ _ fault. fault ≡ ReadFault.Memory };
+
+    fn from(_refused: AllocFailed<T>) -> ReadFault {
+        ReadFault::Memory
     }
 }

@@ -2,23 +2,26 @@
 #![tactic(auto)]
 
 mod answers;
+mod blocks;
 mod change;
 mod changesets;
 mod contents;
 mod diffs;
-mod document;
 mod elements;
 mod fault;
 mod figure;
+mod lists;
 mod moment;
-mod parts;
-mod read;
+mod names;
+mod operation;
+mod pass;
 mod refusals;
+mod scalar;
 mod send;
 mod single;
 mod status;
+mod tags;
 mod title;
-mod tree;
 
 pub use answers::answer_body;
 pub use change::read_change;

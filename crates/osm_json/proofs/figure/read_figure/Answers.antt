@@ -8,9 +8,8 @@ unfolding number_of
 returns-then-begins_with_minus c =
     let digits = c.as_bytes-digits.result.now in
     let below : (slice_index digits 0 == minus) ≡ true = sym c.if-begins_with_minus.ensures.value in
-    let behind : c.scan.result ≡ scan (drop 1 digits) = c.scan.ensures.parts ∙ ap scan (take_all _ (drop 1 digits) (omega (arith, length-drop 1 digits))) in
     let is : number_from true (scan (drop 1 digits)) ≡ number_of digits = rw below in
-    c.below_zero.ensures ∙ ap (number_from true) behind ∙ is ∙ ap number_of c.as_bytes-digits.ensures.value
+    c.below_zero.ensures ∙ ap (λ s. number_from true (scan s)) (take_all _ (drop 1 digits) (omega (arith, length-drop 1 digits))) ∙ is ∙ ap number_of c.as_bytes-digits.ensures.value
 
 pub returns-else-begins_with_minus : goal.returns-else-begins_with_minus
 unfolding number_of
@@ -18,4 +17,4 @@ returns-else-begins_with_minus c =
     let digits = c.as_bytes-digits.result.now in
     let from : (slice_index digits 0 == minus) ≡ false = sym c.if-begins_with_minus.ensures.value in
     let is : number_from false (scan digits) ≡ number_of digits = rw from in
-    c.from_zero.ensures ∙ ap (number_from false) c.scan-else-begins_with_minus.ensures.parts ∙ is ∙ ap number_of c.as_bytes-digits.ensures.value
+    c.from_zero.ensures ∙ is ∙ ap number_of c.as_bytes-digits.ensures.value

@@ -1,0 +1,37 @@
+use Rattle.std.proofs.Common.{◌≡◌, Some, None, if◌then◌else◌, bytes_eq, codes, refl, sym, ap, ◌∙◌, arith}
+use Rattle.json.specs.Json.{read_key}
+use Rattle.serde_json.specs.Find.{as_array}
+use Rattle.osm_json.specs.declared.fault.ReadFault.TheVariants.{NotJson}
+use Rattle.osm_json.specs.Walked.{walk_value}
+use Rattle.osm_json.proofs.Documents.{member_walked}
+use Rattle.osm_json.proofs.Refused.{by_part, at_exit}
+use Rattle.osm_json.proofs.Turns.{no_member, one_member, all_members, no_key, bad_member}
+use Rattle.osm_json.proofs.change.members.Goals as goal
+
+pub loop-found-init : goal.loop-found-init
+loop-found-init c = (_, no_member c.args.depth _, refl)
+
+pub returns-in_err-key-clause-value : goal.returns-in_err-key-clause-value
+returns-in_err-key-clause-value c = at_exit _ _ _ _ _ NotJson c.from_residual.ensures.1 (no_key c.loop-found.invariant.1 c.in_err-key.ensures.value)
+
+pub loop-found-preserved : goal.loop-found-preserved
+loop-found-preserved c =
+    let l = c.loop-found in
+    let name = c.in-Some.key.now in
+    let key : read_key l.reader ≡ Some (Some name, c.next_key.new.self) = grind arith in
+    let read = c.in_ok-member.ensures.value in (
+      _,
+      one_member l.invariant.1 _ _ _ read.source key read.begins,
+      sym read.reads ∙ ap (λ o. if bytes_eq name (codes "osmChange") then walk_value (as_array read.source) else o) l.invariant.2 ∙ member_walked name read.source l.invariant.0,
+    )
+
+pub returns-in_err-member-clause-value : goal.returns-in_err-member-clause-value
+returns-in_err-member-clause-value c =
+    let l = c.loop-found in
+    let key : read_key l.reader ≡ Some (Some c.in-Some.key.now, c.next_key.new.self) = grind arith in
+    at_exit _ _ _ _ _ c.in_err-member.field-0.0 c.from_residual-in_err-member.ensures.1 (by_part c.in_err-member.field-0.0 _ _ c.in_err-member.ensures.value (λ e. bad_member l.invariant.1 _ _ key e))
+
+pub returns-clause-value : goal.returns-clause-value
+returns-clause-value c =
+    let over : read_key c.loop-found.reader ≡ Some (None, c.next_key.new.self) = grind arith in
+    record { source = _; begins = all_members c.loop-found.invariant.1 _ over; reads = sym c.loop-found.invariant.2 }

@@ -1,0 +1,14 @@
+use Rattle.std.proofs.Common.{None, ap}
+use Rattle.serde_json.specs.Find.{as_array}
+use Rattle.osm_json.specs.Reading.{◌>>=◌, reference_of, each_of, list_of}
+use Rattle.osm_json.proofs.Entered.{array_pulled, not_of_kind}
+use Rattle.osm_json.proofs.lists.references.Goals as goal
+
+pub returns-in-None-clause-value : goal.returns-in-None-clause-value
+returns-in-None-clause-value c =
+    not_of_kind as_array (list_of reference_of) None _ _ (λ d e. ap (λ o. o >>= each_of reference_of) e) (rw c.in-None.is at c.in_ok-within.ensures.value)
+
+pub returns-in-Some-clause-value : goal.returns-in-Some-clause-value
+returns-in-Some-clause-value c =
+    let e = rw c.in-Some.is at c.in_ok-within.ensures.value in
+    array_pulled (λ x. x) (list_of reference_of) _ _ c.in-Some.within _ _ _ e.0 e.1 c.references_inside.ensures.value

@@ -1,0 +1,228 @@
+//! One operation.
+ghost use Rattle.std.specs.Prelude.{◌≡◌, ◌<◌, ◌≤◌, length, OnOk};
+ghost use Rattle.osm_json.specs.Reading.{operation_of};
+ghost use Rattle.osm_json.specs.Found.{put_field, fields_of, allowed, version_in, tags_in, content_of_parts, given_parts, operation_in};
+ghost use Rattle.osm_json.specs.Pull.{next_data, next_members, Pulled};
+ghost use Rattle.serde_json.specs.Data.{no_members};
+
+use crate::fault::ReadFault;
+use crate::lists::{ids, references};
+use crate::names::{Name, name_of};
+use crate::pass::pass_value;
+use crate::scalar::{enter_object, next_count, next_id, next_integer, next_kind};
+use crate::tags::tags;
+use json::Reader;
+use osm_base::Kind;
+use osm_change::{Action, RawOp};
+use osm_element::{Members, RawContent, Refs, Tags};
+use std::alloc::Global;
+
+/// What was found of an operation: of each member the last, and whether it reads.
+#[derive(Drop)]
+pub(crate) struct Fields {
+    pub(crate) kind: Option<Option<Kind>>,
+    pub(crate) id: Option<Option<i64>>,
+    pub(crate) version: Option<Option<u64>>,
+    pub(crate) changeset: Option<Option<u64>>,
+    pub(crate) lat7: Option<Option<i64>>,
+    pub(crate) lon7: Option<Option<i64>>,
+    pub(crate) nodes: Option<Option<Refs<i64>>>,
+    pub(crate) members: Option<Option<Members<i64>>>,
+    pub(crate) tags: Option<Option<Tags>>,
+}
+
+fn no_fields() -> Fields
+    ensures { result ≡ fields_of no_members }
+{
+    Fields {
+        kind: None,
+        id: None,
+        version: None,
+        changeset: None,
+        lat7: None,
+        lon7: None,
+        nodes: None,
+        members: None,
+        tags: None,
+    }
+}
+
+/// Reads a member of that name.
+fn field(
+    alloc: Global,
+    reader: &mut Reader<'_>,
+    depth: usize,
+    name: Name,
+    found: &mut Fields,
+) -> Result<(), ReadFault>
+    ensures value { Pulled (λ _. found.new) (λ d. put_field name d found.old) result (next_data depth reader.old) reader.new }
+    ensures shorter { OnOk result (length reader.new < length reader.old) }
+{
+    match name {
+        Name::Type => {
+            let kind = next_kind(reader, depth)?;
+            found.kind = Some(kind);
+        }
+        Name::Id => {
+            let id = next_id(reader, depth)?;
+            found.id = Some(id);
+        }
+        Name::Version => {
+            let version = next_count(reader, depth)?;
+            found.version = Some(version);
+        }
+        Name::Changeset => {
+            let changeset = next_count(reader, depth)?;
+            found.changeset = Some(changeset);
+        }
+        Name::Lat7 => {
+            let lat7 = next_integer(reader, depth)?;
+            found.lat7 = Some(lat7);
+        }
+        Name::Lon7 => {
+            let lon7 = next_integer(reader, depth)?;
+            found.lon7 = Some(lon7);
+        }
+        Name::Nodes => {
+            let nodes = ids(alloc, reader, depth)?;
+            found.nodes = Some(nodes);
+        }
+        Name::Members => {
+            let members = references(alloc, reader, depth)?;
+            found.members = Some(members);
+        }
+        Name::Tags => {
+            let tags = tags(alloc, reader, depth)?;
+            found.tags = Some(tags);
+        }
+        Name::Other => pass_value(reader, depth)?,
+    }
+    Ok(())
+}
+
+/// The members of the object that was entered.
+pub(crate) fn read_fields(
+    alloc: Global,
+    reader: &mut Reader<'_>,
+    depth: usize,
+) -> Result<Fields, ReadFault>
+    ensures value { Pulled (λ x. x) fields_of result (next_members depth reader.old) reader.new }
+    ensures shorter { OnOk result (length reader.new ≤ length reader.old) }
+{
+    let mut found = no_fields();
+    while let Some(key) = reader.next_key()? {
+        field(alloc, reader, depth, name_of(key), &mut found)?;
+    }
+    Ok(found)
+}
+
+fn optional(found: Option<Option<u64>>) -> Option<Option<u64>>
+    ensures { result ≡ allowed found }
+{
+    match found {
+        None => Some(None),
+        Some(read) => Some(Some(read?)),
+    }
+}
+
+pub(crate) fn version(action: Action, found: Option<Option<u64>>) -> Option<Option<u64>>
+    ensures { result ≡ version_in action found }
+{
+    match action {
+        Action::Create => Some(None),
+        Action::Modify | Action::Delete { .. } => optional(found),
+    }
+}
+
+pub(crate) fn given_tags(alloc: Global, action: Action, found: Option<Option<Tags>>) -> Option<Tags>
+    ensures { result ≡ tags_in action found }
+{
+    match (action, found) {
+        (Action::Delete { .. }, _) | (_, None) => Some(Tags::none(alloc)),
+        (_, Some(tags)) => tags,
+    }
+}
+
+fn content(
+    kind: Kind,
+    lat7: Option<Option<i64>>,
+    lon7: Option<Option<i64>>,
+    nodes: Option<Option<Refs<i64>>>,
+    members: Option<Option<Members<i64>>>,
+) -> Option<RawContent>
+    ensures { result ≡ content_of_parts kind lat7 lon7 nodes members }
+{
+    match kind {
+        Kind::Node => {
+            let lat7 = lat7??;
+            let lon7 = lon7??;
+            Some(RawContent::Node { lat7, lon7 })
+        }
+        Kind::Way => Some(RawContent::Way(nodes??)),
+        Kind::Relation => Some(RawContent::Relation(members??)),
+    }
+}
+
+/// The content, which a deletion has not.
+pub(crate) fn content_of(
+    action: Action,
+    kind: Kind,
+    lat7: Option<Option<i64>>,
+    lon7: Option<Option<i64>>,
+    nodes: Option<Option<Refs<i64>>>,
+    members: Option<Option<Members<i64>>>,
+) -> Option<Option<RawContent>>
+    ensures { result ≡ given_parts action kind lat7 lon7 nodes members }
+{
+    match action {
+        Action::Create | Action::Modify => Some(Some(content(kind, lat7, lon7, nodes, members)?)),
+        Action::Delete { .. } => Some(None),
+    }
+}
+
+#[tactic(auto, unfolding(crate::specs::Found::operation_in))]
+fn operation_from(alloc: Global, action: Action, found: Fields) -> Option<RawOp>
+    ensures { result ≡ operation_in action found }
+{
+    let kind = found.kind??;
+    let id = found.id??;
+    let version = version(action, found.version)?;
+    let changeset = optional(found.changeset)?;
+    let tags = given_tags(alloc, action, found.tags)?;
+    let content = content_of(
+        action,
+        kind,
+        found.lat7,
+        found.lon7,
+        found.nodes,
+        found.members,
+    )?;
+    Some(RawOp {
+        action,
+        kind,
+        id,
+        version,
+        changeset,
+        content,
+        tags,
+    })
+}
+
+/// The operation that is next. None where it is malformed.
+pub(crate) fn operation(
+    alloc: Global,
+    reader: &mut Reader<'_>,
+    depth: usize,
+    action: Action,
+) -> Result<Option<RawOp>, ReadFault>
+    ensures value { Pulled (λ x. x) (operation_of action) result (next_data depth reader.old) reader.new }
+    ensures shorter { OnOk result (length reader.new < length reader.old) }
+{
+    match enter_object(reader, depth)? {
+        Some(within) => {
+            let found = read_fields(alloc, reader, within)?;
+            Ok(operation_from(alloc, action, found))
+        }
+        None => Ok(None),
+    }
+}
