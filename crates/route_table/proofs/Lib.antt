@@ -1,0 +1,4 @@
+mod TargetLemmas
+mod ParameterLemmas
+mod RouteLemmas
+mod Vectors
