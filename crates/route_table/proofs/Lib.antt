@@ -2,3 +2,5 @@ mod TargetLemmas
 mod ParameterLemmas
 mod RouteLemmas
 mod Vectors
+mod EachRoute
+mod RequestLines
