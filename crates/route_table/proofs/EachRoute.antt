@@ -251,4 +251,3 @@ patch :
     ∷ []
 unfolding matchit_on_literals percent_encoding_on_literals area_of method_of paths routes call_at call_of
 patch = refl
-

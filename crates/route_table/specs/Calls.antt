@@ -1,6 +1,7 @@
 -- Which call a method and a target ask for (OpenStreetMap wiki, API v0.6).
-use Rattle.std.specs.Prelude.{◌≡◌, ℕ, List, codes, Option, Result, Ok, Err, ⊤}
+use Rattle.std.specs.Prelude.{◌≡◌, ℕ, Bool, true, false, Some, List, codes, Option, Result, Ok, Err, ⊤}
 use Rattle.std.specs.Option.{option_map_or}
+use Rattle.matchit.specs.Router.{RouteOf}
 use Rattle.osm_base.specs.Number.{number_of}
 use Rattle.osm_base.specs.Outcome.{◌>>=◌}
 use Rattle.osm_base.specs.declared.keys.Key.{Key}
@@ -108,6 +109,23 @@ call_of method target = do
   route ← or_fault (route_at path) fault.NoPath
   verb ← or_fault (method_of method) fault.WrongMethod
   call_at route.value verb (details_of route path (query_of target))
+
+-- ---- memory: none is taken for a call without parameters
+
+abbrev pub has_parameters : Resource → Bool
+has_parameters Changesets = true
+has_parameters Map = true
+has_parameters (History kind) = true
+has_parameters (Version kind) = true
+has_parameters (VersionRedaction kind) = true
+has_parameters (Elements kind) = true
+has_parameters _ = false
+
+-- the target's path has a route whose call has parameters
+abbrev pub IsParametric : List ℕ → Type 0
+IsParametric target =
+    (path : List ℕ) × (route : RouteOf Resource)
+    × (path_of target ≡ Some path) × (route_at path ≡ Some route) × (has_parameters route.value ≡ true)
 
 -- ---- what a reading gives: what the definition says, unless memory ran out
 

@@ -1,6 +1,6 @@
 //! The calls of the API.
-ghost use Rattle.std.specs.Prelude.{◌≡◌};
-ghost use Rattle.route_table.specs.Calls.{call_at, changesets, map_call, history, numbered, redact, many, list_name, Gives};
+ghost use Rattle.std.specs.Prelude.{◌≡◌, true};
+ghost use Rattle.route_table.specs.Calls.{call_at, changesets, map_call, history, numbered, redact, many, list_name, Gives, has_parameters};
 
 use crate::details::Details;
 use crate::faults::RouteFault;
@@ -91,7 +91,8 @@ pub fn call_at(
     method: Method,
     details: &Details<'_>,
 ) -> Result<Call, RouteFault>
-    ensures { Gives (call_at resource method details.now) result }
+    ensures call { Gives (call_at resource method details.now) result }
+    ensures memory { result ≡ Err RouteFault.Memory → has_parameters resource ≡ true }
 {
     match (resource, method) {
         (Resource::NewChangeset, Method::Put) => Ok(Call::CreateChangeset),

@@ -1,5 +1,5 @@
 //! What a target says besides its resource.
-ghost use Rattle.std.specs.Prelude.{◌≡◌};
+ghost use Rattle.std.specs.Prelude.{◌≡◌, IfErr};
 ghost use Rattle.route_table.specs.Calls.{id_in, version_in, key_in};
 
 use crate::faults::RouteFault;
@@ -29,19 +29,22 @@ impl<'a> Model for Details<'a> {
 
 impl Details<'_> {
     pub fn id(&self) -> Result<u64, RouteFault>
-        ensures { result ≡ id_in self.now }
+        ensures id { result ≡ id_in self.now }
+        ensures fault { IfErr result (λ e. e ≡ RouteFault.BadNumber) }
     {
         path_number(self.id).ok_or(RouteFault::BadNumber)
     }
 
     pub fn version(&self) -> Result<u64, RouteFault>
-        ensures { result ≡ version_in self.now }
+        ensures version { result ≡ version_in self.now }
+        ensures fault { IfErr result (λ e. e ≡ RouteFault.BadNumber) }
     {
         path_number(self.version).ok_or(RouteFault::BadNumber)
     }
 
     pub fn key(&self, kind: Kind) -> Result<Key, RouteFault>
-        ensures { result ≡ key_in kind self.now }
+        ensures key { result ≡ key_in kind self.now }
+        ensures fault { IfErr result (λ e. e ≡ RouteFault.BadNumber) }
     {
         let id = self.id()?;
         Ok(Key { kind, id })

@@ -5,7 +5,7 @@ ghost use Rattle.matchit.specs.Router.{RouteOf};
 ghost use Rattle.route_table.specs.declared.resources.Resource.{Resource};
 ghost use Rattle.route_table.specs.Paths.{route_at};
 ghost use Rattle.route_table.specs.Details.{details_of, taken_by};
-ghost use Rattle.route_table.specs.Calls.{call_of, Gives};
+ghost use Rattle.route_table.specs.Calls.{call_of, Gives, IsParametric};
 
 use crate::calls::{Call, call_at};
 use crate::details::Details;
@@ -58,7 +58,8 @@ impl Routes {
     /// method and the target alone.
     #[tactic(auto, unfolding(crate::specs::Calls::call_of))]
     pub fn route(&self, alloc: Global, method: &[u8], target: &[u8]) -> Result<Call, RouteFault>
-        ensures { Gives (call_of method.now target.now) result }
+        ensures call { Gives (call_of method.now target.now) result }
+        ensures memory { result ≡ Err RouteFault.Memory → IsParametric target.now }
     {
         let path = path_of(target).ok_or(RouteFault::NoPath)?;
         let query = query_of(target);
