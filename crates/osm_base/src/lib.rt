@@ -4,6 +4,7 @@
 
 mod box_faults;
 mod copies;
+mod decimals;
 mod items;
 mod key_lists;
 mod keys;
@@ -11,6 +12,7 @@ mod limits;
 mod memory;
 mod moments;
 mod numbers;
+mod parts;
 mod people;
 mod places;
 mod roomy;
@@ -30,6 +32,7 @@ pub use limits::{
 pub use memory::Memory;
 pub use moments::Stamp;
 pub use numbers::path_number;
+pub use parts::split_once;
 pub use people::{Owner, User};
 pub use places::{Box7, Coord, is_on_globe};
 pub use roomy::Roomy;

@@ -1,0 +1,6 @@
+mod TargetLemmas
+mod ParameterLemmas
+mod RouteLemmas
+mod Vectors
+mod EachRoute
+mod RequestLines

@@ -1,0 +1,200 @@
+//! The calls of the API.
+ghost use Rattle.std.specs.Prelude.{◌≡◌, true};
+ghost use Rattle.route_table.specs.Calls.{call_at, changesets, map_call, history, numbered, redact, many, list_name, Gives, has_parameters};
+
+use crate::details::Details;
+use crate::faults::RouteFault;
+use crate::methods::Method;
+use crate::parameters::{area, flag, needed_area, needed_ids, number};
+use crate::resources::Resource;
+use osm_base::{Box7, Ids, Key, Kind};
+use std::alloc::Global;
+
+/// What a request line asks for, one for each route. Ids and versions are from 1 to
+/// 9,223,372,036,854,775,807.
+#[derive(Debug, Drop)]
+pub enum Call {
+    CreateChangeset,
+    Changeset {
+        id: u64,
+    },
+    Retag {
+        id: u64,
+    },
+    CloseChangeset {
+        id: u64,
+    },
+    Upload {
+        id: u64,
+    },
+    Download {
+        id: u64,
+    },
+    Changesets {
+        user: Option<u64>,
+        only_open: bool,
+        only_closed: bool,
+        within: Option<Box7>,
+    },
+    Map {
+        within: Box7,
+    },
+    MakeRedaction,
+    CreateSingle {
+        kind: Kind,
+    },
+    One {
+        key: Key,
+    },
+    ModifySingle {
+        key: Key,
+    },
+    DeleteSingle {
+        key: Key,
+    },
+    /// `show` asks for what only a moderator sees.
+    History {
+        key: Key,
+        show: bool,
+    },
+    Numbered {
+        key: Key,
+        version: u64,
+        show: bool,
+    },
+    /// Without a redaction the mark is taken off.
+    Redact {
+        key: Key,
+        version: u64,
+        redaction: Option<u64>,
+    },
+    RelationsOf {
+        key: Key,
+    },
+    WaysOf {
+        id: u64,
+    },
+    Full {
+        key: Key,
+    },
+    Many {
+        kind: Kind,
+        ids: Ids,
+    },
+}
+
+/// The call of a resource by a method.
+#[tactic(auto, unfolding(crate::specs::Calls::call_at))]
+pub fn call_at(
+    alloc: Global,
+    resource: Resource,
+    method: Method,
+    details: &Details<'_>,
+) -> Result<Call, RouteFault>
+    ensures call { Gives (call_at resource method details.now) result }
+    ensures memory { result ≡ Err RouteFault.Memory → has_parameters resource ≡ true }
+{
+    match (resource, method) {
+        (Resource::NewChangeset, Method::Put) => Ok(Call::CreateChangeset),
+        (Resource::Changeset, Method::Get) => Ok(Call::Changeset { id: details.id()? }),
+        (Resource::Changeset, Method::Put) => Ok(Call::Retag { id: details.id()? }),
+        (Resource::ChangesetClosing, Method::Put) => Ok(Call::CloseChangeset { id: details.id()? }),
+        (Resource::ChangesetUpload, Method::Post) => Ok(Call::Upload { id: details.id()? }),
+        (Resource::ChangesetDownload, Method::Get) => Ok(Call::Download { id: details.id()? }),
+        (Resource::Changesets, Method::Get) => changesets(alloc, details),
+        (Resource::Map, Method::Get) => map_call(alloc, details),
+        (Resource::Redactions, Method::Post) => Ok(Call::MakeRedaction),
+        (Resource::NewElement(kind), Method::Put) => Ok(Call::CreateSingle { kind }),
+        (Resource::Element(kind), Method::Get) => Ok(Call::One {
+            key: details.key(kind)?,
+        }),
+        (Resource::Element(kind), Method::Put) => Ok(Call::ModifySingle {
+            key: details.key(kind)?,
+        }),
+        (Resource::Element(kind), Method::Delete) => Ok(Call::DeleteSingle {
+            key: details.key(kind)?,
+        }),
+        (Resource::History(kind), Method::Get) => history(alloc, kind, details),
+        (Resource::Version(kind), Method::Get) => numbered(alloc, kind, details),
+        (Resource::VersionRedaction(kind), Method::Post) => redact(alloc, kind, details),
+        (Resource::Relations(kind), Method::Get) => Ok(Call::RelationsOf {
+            key: details.key(kind)?,
+        }),
+        (Resource::NodeWays, Method::Get) => Ok(Call::WaysOf { id: details.id()? }),
+        (Resource::Full(kind), Method::Get) => Ok(Call::Full {
+            key: details.key(kind)?,
+        }),
+        (Resource::Elements(kind), Method::Get) => many(alloc, kind, details),
+        _ => Err(RouteFault::WrongMethod),
+    }
+}
+
+fn changesets(alloc: Global, details: &Details<'_>) -> Result<Call, RouteFault>
+    ensures { Gives (changesets details.now) result }
+{
+    let query = details.query;
+    let user = number(alloc, query, "user")?;
+    let only_open = flag(alloc, query, "open")?;
+    let only_closed = flag(alloc, query, "closed")?;
+    let within = area(alloc, query, "bbox")?;
+    Ok(Call::Changesets {
+        user,
+        only_open,
+        only_closed,
+        within,
+    })
+}
+
+fn map_call(alloc: Global, details: &Details<'_>) -> Result<Call, RouteFault>
+    ensures { Gives (map_call details.now) result }
+{
+    let within = needed_area(alloc, details.query, "bbox")?;
+    Ok(Call::Map { within })
+}
+
+fn history(alloc: Global, kind: Kind, details: &Details<'_>) -> Result<Call, RouteFault>
+    ensures { Gives (history kind details.now) result }
+{
+    let key = details.key(kind)?;
+    let show = flag(alloc, details.query, "show_redactions")?;
+    Ok(Call::History { key, show })
+}
+
+fn numbered(alloc: Global, kind: Kind, details: &Details<'_>) -> Result<Call, RouteFault>
+    ensures { Gives (numbered kind details.now) result }
+{
+    let key = details.key(kind)?;
+    let version = details.version()?;
+    let show = flag(alloc, details.query, "show_redactions")?;
+    Ok(Call::Numbered { key, version, show })
+}
+
+fn redact(alloc: Global, kind: Kind, details: &Details<'_>) -> Result<Call, RouteFault>
+    ensures { Gives (redact kind details.now) result }
+{
+    let key = details.key(kind)?;
+    let version = details.version()?;
+    let redaction = number(alloc, details.query, "redaction")?;
+    Ok(Call::Redact {
+        key,
+        version,
+        redaction,
+    })
+}
+
+fn list_name(kind: Kind) -> &'static str
+    ensures { result.now ≡ list_name kind }
+{
+    match kind {
+        Kind::Node => "nodes",
+        Kind::Way => "ways",
+        Kind::Relation => "relations",
+    }
+}
+
+fn many(alloc: Global, kind: Kind, details: &Details<'_>) -> Result<Call, RouteFault>
+    ensures { Gives (many kind details.now) result }
+{
+    let ids = needed_ids(alloc, details.query, list_name(kind))?;
+    Ok(Call::Many { kind, ids })
+}
