@@ -4,3 +4,4 @@ mod Positions
 mod Looks
 mod Reading
 pub mod WellFormed
+mod Naming

@@ -8,7 +8,9 @@ mod changes;
 mod listed;
 mod operations;
 mod raw;
+mod reads;
 mod refusals;
+mod rows;
 mod single;
 
 pub use answers::{
@@ -19,5 +21,6 @@ pub use changes::Change;
 pub use listed::{kind_of, names_listed};
 pub use operations::{FirstIds, Name, Named, Op, OpDone, OpDones};
 pub use raw::{Action, RawOp};
+pub use reads::{MapFault, ReadFault, Selection, Shown};
 pub use refusals::{Refusal, Said};
 pub use single::OneOp;

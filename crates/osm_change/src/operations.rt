@@ -90,6 +90,29 @@ pub enum OpDone {
     Skipped { version: u64 },
 }
 
+impl OpDone {
+    ghost use Rattle.std.specs.Prelude.{◌≡◌};
+    ghost use Rattle.osm_change.specs.Done.{is_applied, done_version};
+
+    pub fn is_applied(self) -> bool
+        ensures { result ≡ is_applied self }
+    {
+        match self {
+            OpDone::Applied { .. } => true,
+            OpDone::Skipped { .. } => false,
+        }
+    }
+
+    /// The version that was made, or at which the element was left.
+    pub fn version(self) -> u64
+        ensures { result ≡ done_version self }
+    {
+        match self {
+            OpDone::Applied { version } | OpDone::Skipped { version } => version,
+        }
+    }
+}
+
 /// One for each operation of an upload, in order.
 pub type OpDones = Items<OpDone>;
 

@@ -41,6 +41,14 @@ impl OneOp {
     {
         &self.change
     }
+
+    /// The change itself, without a copy.
+    pub fn into_change(self) -> Change
+        ensures value { result ≡ self }
+        ensures one { length self ≡ 1 }
+    {
+        self.change
+    }
 }
 
 impl TryCopy for OneOp {

@@ -1,0 +1,72 @@
+use osm_base::{Ids, Key, Memory};
+
+/// One version of an element, as a read shows it.
+#[derive(Clone, Copy, Debug)]
+pub struct Shown {
+    pub key: Key,
+    pub number: u64,
+}
+
+/// Why a read shows no element. The first that holds counts.
+#[derive(Clone, Copy, Debug)]
+pub enum ReadFault {
+    /// No such version; version 0 where the element never existed.
+    NotFound {
+        key: Key,
+        version: u64,
+    },
+    /// The element is deleted; `version` is the current one.
+    Gone {
+        key: Key,
+        version: u64,
+    },
+    /// The version has a redaction's mark, and the caller doesn't ask as a moderator.
+    Redacted {
+        key: Key,
+        version: u64,
+        redaction: u64,
+    },
+    /// Memory ran out.
+    Memory,
+}
+
+impl From<Memory> for ReadFault {
+    ghost use Rattle.std.specs.Prelude.{◌≡◌};
+    ghost use Rattle.osm_change.specs.declared.reads.ReadFault.TheVariants as fault;
+
+    ghost from_gives = { λ _ made. made ≡ fault.Memory };
+
+    fn from(_: Memory) -> Self {
+        ReadFault::Memory
+    }
+}
+
+/// Why a map call has no answer. The first that holds counts.
+#[derive(Clone, Copy, Debug)]
+pub enum MapFault {
+    /// The area of the box in square units of 1e-7 degrees, which is above `AREA_LIMIT`.
+    TooLarge { area: u64 },
+    /// The visible nodes in the box, which are more than `MAP_NODE_LIMIT`.
+    TooMany { nodes: u64 },
+    /// Memory ran out.
+    Memory,
+}
+
+impl From<Memory> for MapFault {
+    ghost use Rattle.std.specs.Prelude.{◌≡◌};
+    ghost use Rattle.osm_change.specs.declared.reads.MapFault.TheVariants as fault;
+
+    ghost from_gives = { λ _ made. made ≡ fault.Memory };
+
+    fn from(_: Memory) -> Self {
+        MapFault::Memory
+    }
+}
+
+/// The elements of a map call. The ids of each kind rise, each once.
+#[derive(Debug, Drop)]
+pub struct Selection {
+    pub nodes: Ids,
+    pub ways: Ids,
+    pub relations: Ids,
+}
