@@ -3,7 +3,8 @@ use Rattle.std.proofs.Common.{◌≡◌, ◌⊎◌, ℕ, suc, ◌+◌, ◌<◌, 
 use Rattle.std.proofs.Math.ListN.{get_or}
 use Rattle.std.proofs.lemmas.List.{append_assoc}
 use Rattle.std.proofs.Math.Seq.{drop-cons}
-use Rattle.osm_change.specs.Outcome.{◌>>=◌, each, cons_ok, Gives}
+use Rattle.osm_base.specs.Outcome.{◌>>=◌}
+use Rattle.osm_change.specs.Outcome.{each, cons_ok, Gives}
 use Rattle.osm_change.specs.declared.causes.Cause.{Cause}
 use Rattle.osm_change.specs.declared.causes.Cause.TheVariants.{Memory}
 

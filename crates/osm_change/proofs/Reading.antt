@@ -6,7 +6,8 @@ use Rattle.std.proofs.lemmas.List.Elements.{All-head, All-tail}
 use Rattle.osm_base.specs.declared.keys.Kind.{Kind}
 use Rattle.placeholder_map.specs.Placeholders.{Placeholders, look_of, is_bound}
 use Rattle.osm_element.specs.declared.contents.RawContent.{RawContent}
-use Rattle.osm_change.specs.Outcome.{◌>>=◌, cons_ok, fault_at, is_memory, out_of_memory, GivesChange}
+use Rattle.osm_base.specs.Outcome.{◌>>=◌}
+use Rattle.osm_change.specs.Outcome.{cons_ok, fault_at, is_memory, out_of_memory, GivesChange}
 use Rattle.osm_change.specs.Build.{Look, is_create, created_at, noted, free_placeholder, op_by, op_of, or_fault, operations_after, IsRawOp}
 use Rattle.osm_change.specs.declared.causes.Cause.{Cause}
 use Rattle.osm_change.specs.declared.causes.Cause.TheVariants.{DoublePlaceholder, Memory}

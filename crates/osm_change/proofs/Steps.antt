@@ -7,7 +7,8 @@ use mir.Val.{SFits}
 use Rattle.osm_base.specs.declared.keys.Kind.{Kind}
 use Rattle.osm_element.specs.declared.contents.Content.{Content}
 use Rattle.osm_element.specs.declared.contents.RawContent.{RawContent}
-use Rattle.osm_change.specs.Outcome.{◌>>=◌, unless, Gives}
+use Rattle.osm_base.specs.Outcome.{◌>>=◌, unless}
+use Rattle.osm_change.specs.Outcome.{Gives}
 use Rattle.osm_change.specs.Build.{Look, IsReference, free_placeholder, name_of, content_named, content_unless, local_cause, version_named, created, modified}
 use Rattle.osm_change.specs.declared.causes.Cause.{Cause}
 use Rattle.osm_change.specs.declared.causes.Cause.TheVariants.{NoVersion, DoublePlaceholder}

@@ -17,7 +17,8 @@ use Rattle.osm_element.specs.declared.contents.Content.TheVariants as content
 use Rattle.osm_element.specs.declared.contents.RawContent.{RawContent}
 use Rattle.osm_element.specs.declared.contents.RawContent.TheVariants as raw
 use Rattle.osm_element.specs.declared.contents.Member.{Member}
-use Rattle.osm_change.specs.Outcome.{◌>>=◌, unless, each, cons_ok}
+use Rattle.osm_base.specs.Outcome.{◌>>=◌, unless}
+use Rattle.osm_change.specs.Outcome.{each, cons_ok}
 use Rattle.osm_change.specs.Change.{kind_of, named, named_member, names_listed, names_given, created_kind, IsNamedBefore, IsWellFormed}
 use Rattle.osm_change.specs.Build.{Look, is_create, creates, created_at, new_name, name_of, member_with, member_named, content_named, local_cause, free_placeholder, version_named, op_by, op_of, or_fault, operations_after, IsReference, IsRawContent, HasContent, IsRawOp, IsRaw}
 use Rattle.osm_change.specs.declared.causes.Cause.{Cause}

@@ -14,7 +14,8 @@ use Rattle.osm_element.specs.declared.contents.RawContent.{RawContent}
 use Rattle.osm_element.specs.declared.contents.RawContent.TheVariants as raw
 use Rattle.osm_element.specs.declared.contents.Member.{Member}
 use Rattle.osm_element.specs.declared.faults.LocalFault.{LocalFault}
-use Rattle.osm_change.specs.Outcome.{◌>>=◌, unless, each, cons_ok, fault_at}
+use Rattle.osm_base.specs.Outcome.{◌>>=◌, unless}
+use Rattle.osm_change.specs.Outcome.{each, cons_ok, fault_at}
 use Rattle.osm_change.specs.declared.causes.Cause.{Cause}
 use Rattle.osm_change.specs.declared.causes.Cause.TheVariants.{NotNegative, DoublePlaceholder, UnknownPlaceholder, NoVersion, Local, OtherChangeset}
 use Rattle.osm_change.specs.declared.causes.ShapeFault.{ShapeFault}

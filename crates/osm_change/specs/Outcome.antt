@@ -1,19 +1,10 @@
--- Steps of which each may be refused: the first refusal counts.
-use Rattle.std.specs.Prelude.{◌≡◌, ℕ, ◌+◌, Bool, true, false, List, [], ◌∷◌, Option, Some, None, Result, Ok, Err, ◌⊎◌}
+-- Readings of operations: the first that is refused counts.
+use Rattle.std.specs.Prelude.{◌≡◌, ℕ, ◌+◌, Bool, true, false, List, [], ◌∷◌, Result, Ok, Err, ◌⊎◌}
+use Rattle.osm_base.specs.Outcome.{◌>>=◌}
 use Rattle.osm_change.specs.declared.causes.Cause.{Cause}
 use Rattle.osm_change.specs.declared.causes.Cause.TheVariants.{Memory, NotNegative, DoublePlaceholder, UnknownPlaceholder, NoVersion, Local, OtherChangeset}
 use Rattle.osm_change.specs.declared.causes.ShapeFault.{ShapeFault}
 use Rattle.osm_change.specs.declared.operations.Op.{Op}
-
-infixl 10 ◌>>=◌
-abbrev pub ◌>>=◌ : {A B E : Type 0} → Result A E → (A → Result B E) → Result B E
-Ok a >>= f = f a
-Err e >>= f = Err e
-
--- passed on, unless there is a cause
-abbrev pub unless : {A E : Type 0} → Option E → Result A E → Result A E
-unless None r = r
-unless (Some cause) r = Err cause
 
 abbrev pub cons_ok : {A E : Type 0} → A → Result (List A) E → Result (List A) E
 cons_ok x (Ok xs) = Ok (x ∷ xs)

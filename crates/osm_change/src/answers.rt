@@ -4,7 +4,7 @@ use osm_element::{Tags, Version};
 
 /// What one operation of an upload came to, as the client is told (OpenStreetMap wiki, API v0.6,
 /// "Diff upload"). A delete that was applied has neither new id nor new version.
-#[derive(Clone, Copy, Debug)]
+#[derive(Clone, Copy, Debug, PartialEq, Eq)]
 pub struct DiffRow {
     pub kind: Kind,
     pub old_id: i64,

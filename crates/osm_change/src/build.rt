@@ -1,7 +1,8 @@
 ghost use Rattle.std.specs.Prelude.{◌≡◌, true, ◌+◌, ◌^◌, ◌<◌, length, [], None, Some, Ok, Err, OnOk, MatchOption, ⊤};
+ghost use Rattle.osm_base.specs.Outcome.{unless};
 ghost use Rattle.osm_base.specs.Place.{is_position};
 ghost use Rattle.placeholder_map.specs.Placeholders.{look_of, bound};
-ghost use Rattle.osm_change.specs.Outcome.{Gives, unless, each, GivesChange};
+ghost use Rattle.osm_change.specs.Outcome.{Gives, each, GivesChange};
 ghost use Rattle.osm_change.specs.Build.{IsRaw, IsRawOp, IsReference, IsPlaced, name_of, member_named, content_unless, local_cause, created, modified, deleted, op_of, noted, operations_after, other_name, other_changeset, change_of};
 
 use crate::causes::{Cause, ShapeFault};
