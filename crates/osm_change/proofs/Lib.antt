@@ -3,5 +3,9 @@ mod Steps
 mod Positions
 mod Looks
 mod Reading
+mod Built
+mod NamesBefore
+mod OwnParts
+mod Placeholders
 pub mod WellFormed
 mod Naming

@@ -1,7 +1,7 @@
 -- The names that the operations of a change give.
 use Rattle.std.proofs.Common.{◌≡◌, ℕ, List, ◌∷◌, Option, Some, None, refl, sym, subst, slice_get}
 use Rattle.std.specs.Prelude.{MatchOption, IsSome, All}
-use Rattle.std.proofs.lemmas.List.Elements.{All-head}
+use Rattle.std.proofs.lemmas.List.Elements.{All-head, All-weaker}
 use Rattle.osm_base.specs.declared.keys.Kind.{Kind}
 use Rattle.osm_change.specs.Change.{named, names_given, created_kind, IsNamedBefore, IsWellFormed}
 use Rattle.osm_change.specs.Said.{IsSaid}
@@ -23,3 +23,6 @@ pub said-first : (ops : List Op) (n : ℕ) (o : Op) (kind : Kind) (name : Name) 
 said-first ops n o kind name more well at first =
     let all : All (IsNamedBefore ops n) (named kind name ∷ more) = subst (λ (given : List Named). All (IsNamedBefore ops n) given) first (well.named n o at) in
     said-before ops n kind name (All-head (IsNamedBefore ops n) (named kind name) more all)
+
+pub all-said : (ops : List Op) (n : ℕ) (given : List Named) → All (IsNamedBefore ops n) given → All (λ given. IsSaid ops given.name) given
+all-said ops n given all = All-weaker (IsNamedBefore ops n) (λ given. IsSaid ops given.name) (λ given is. said-before ops n given.kind given.name is) given all

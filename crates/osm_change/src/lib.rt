@@ -5,6 +5,7 @@ mod answers;
 mod build;
 mod causes;
 mod changes;
+mod law;
 mod listed;
 mod operations;
 mod raw;
@@ -18,6 +19,7 @@ pub use answers::{
 };
 pub use causes::{Cause, ShapeFault};
 pub use changes::Change;
+pub use law::names_are_said;
 pub use listed::{kind_of, names_listed};
 pub use operations::{FirstIds, Name, Named, Op, OpDone, OpDones};
 pub use raw::{Action, RawOp};
