@@ -1,0 +1,91 @@
+-- Changesets: when they are open, their box, and their record after work (wiki, "Changesets").
+use Rattle.std.specs.Prelude.{ℕ, ◌+◌, min, Bool, nat_lt, if◌then◌else◌, List, [], ◌∷◌, ◌++◌, length, ◌==◌, fold, filter_map, Option, Some, None, option_to_list, option_and_then}
+use Rattle.std.specs.Int.{int_min, int_max}
+use Rattle.std.specs.Option.{option_map_or}
+use Rattle.osm_base.specs.Place.{Position, Area, at_position, area_with}
+use Rattle.osm_base.specs.declared.keys.Key.{Key}
+use Rattle.osm_base.specs.declared.limits.TheConstants.{CHANGE_LIMIT}
+use Rattle.osm_base.specs.declared.people.Owner.{Owner}
+use Rattle.osm_element.specs.Elements.{position, position_in, refs_in, refs_of}
+use Rattle.osm_element.specs.Tags.{Tag}
+use Rattle.osm_element.specs.declared.contents.Content.{Content}
+use Rattle.osm_element.specs.declared.elements.Elements.{Elements}
+use Rattle.changeset_core.specs.declared.records.ChangesetRecord.{ChangesetRecord}
+use Rattle.changeset_core.specs.declared.records.Work.{Work}
+
+-- an hour after the last activity and a day after the creation at the latest, unless it was closed
+abbrev pub closes_by : ℕ → ℕ → Option ℕ → ℕ
+closes_by created activity ended = option_map_or (λ t. t) ended (min (activity + 3600) (created + 86400))
+
+abbrev pub closes : ChangesetRecord → ℕ
+closes r = closes_by r.created r.activity r.ended
+
+abbrev pub is_open : ChangesetRecord → ℕ → Bool
+is_open r t = nat_lt t (closes r)
+
+-- when it closed, where it isn't open
+abbrev pub closed_at : ChangesetRecord → ℕ → Option ℕ
+closed_at r t = if is_open r t then None else Some (closes r)
+
+-- the record of a changeset that its owner opens at a stamp
+abbrev pub first_record : Owner → List Tag → ℕ → ChangesetRecord
+first_record owner tags t = record {
+  owner = owner;
+  tags = tags;
+  created = t;
+  activity = t;
+  ended = None;
+  touched = None;
+  did = [];
+}
+
+-- the most changes that it may make
+abbrev pub limit_of : ChangesetRecord → ℕ
+limit_of r = CHANGE_LIMIT
+
+-- other tags, which is activity
+abbrev pub retagged : ChangesetRecord → List Tag → ℕ → ChangesetRecord
+retagged r tags t = record r { tags = tags; activity = t }
+
+abbrev pub ended_at : ChangesetRecord → ℕ → ChangesetRecord
+ended_at r t = record r { ended = Some t }
+
+abbrev pub new_position : Option (Content ℕ) → Option Position
+new_position new = option_and_then position_in new
+
+-- the positions that a new content of an element touches: the old and the new one of a node, and
+-- those of the nodes that the old and the new content list
+abbrev pub touched_positions : Elements → Key → Option (Content ℕ) → List Position
+touched_positions E k new =
+    filter_map (position E) (k ∷ (refs_of E k ++ refs_in new)) ++ option_to_list (new_position new)
+
+abbrev pub widen : Option Area → Position → Option Area
+widen area p = Some (option_map_or (λ a. area_with a p) area (at_position p))
+
+abbrev pub widen_all : Option Area → List Position → Option Area
+widen_all area ps = fold widen area ps
+
+-- the least box of what a new content of an element touches, if that is anything
+abbrev pub touched_area : Elements → Key → Option (Content ℕ) → Option Area
+touched_area E k new = widen_all None (touched_positions E k new)
+
+-- the least area with both
+abbrev pub area_join : Area → Area → Area
+area_join a b = record {
+  left = int_min a.left b.left;
+  bottom = int_min a.bottom b.bottom;
+  right = int_max a.right b.right;
+  top = int_max a.top b.top;
+}
+
+abbrev pub join_areas : Option Area → Option Area → Option Area
+join_areas area more = option_map_or (λ b. Some (option_map_or (λ a. area_join a b) area b)) more area
+
+-- the record after an upload at a stamp that made these versions, none where nothing was applied,
+-- and touched this area: what was applied is activity
+abbrev pub worked_by : ChangesetRecord → List Work → Option Area → ℕ → ChangesetRecord
+worked_by r works area t = record r {
+  activity = if length works == 0 then r.activity else t;
+  touched = join_areas r.touched area;
+  did = r.did ++ works;
+}

@@ -1,0 +1,2 @@
+pub mod Changeset
+pub mod Timely

@@ -1,0 +1,105 @@
+use crate::lives::{closed_at, closes};
+use osm_base::{Box7, CHANGE_LIMIT, Items, Key, Memory, Owner, Stamp, TryCopy};
+use osm_element::Tags;
+use std::alloc::Global;
+
+/// A version that a changeset made.
+#[derive(Clone, Copy, Debug)]
+pub struct Work {
+    pub key: Key,
+    pub version: u64,
+}
+
+/// What is known of a changeset (OpenStreetMap wiki, "Changesets"). It has made the versions of
+/// `did`, in that order, and `touched` is the least box of what they touched.
+#[derive(Debug, Drop)]
+pub struct ChangesetRecord {
+    pub owner: Owner,
+    pub tags: Tags,
+    pub created: Stamp,
+    pub activity: Stamp,
+    pub ended: Option<Stamp>,
+    pub touched: Option<Box7>,
+    pub did: Items<Work>,
+}
+
+impl ChangesetRecord {
+    ghost use Rattle.std.specs.Prelude.{◌≡◌, ◌≤◌, ◌+◌, length};
+    ghost use Rattle.osm_base.specs.declared.limits.TheConstants.{MOMENT_LIMIT};
+    ghost use Rattle.changeset_core.specs.Changeset.{closes, closed_at, first_record, is_open, limit_of};
+    ghost use Rattle.changeset_core.specs.Timely.{IsTimelyRecord};
+
+    /// The record of a changeset that is opened at a stamp.
+    pub fn new(alloc: Global, owner: Owner, tags: Tags, at: Stamp) -> ChangesetRecord
+        ensures { result ≡ first_record owner tags at }
+    {
+        ChangesetRecord {
+            owner,
+            tags,
+            created: at,
+            activity: at,
+            ended: None,
+            touched: None,
+            did: Items::none(alloc),
+        }
+    }
+
+    /// When it was closed, or else closes if nothing more is done with it.
+    pub fn closes(&self) -> Stamp
+        requires timely { IsTimelyRecord self.now }
+        ensures value { result ≡ closes self.now }
+        ensures bound { result ≤ MOMENT_LIMIT + 86400 }
+    {
+        closes(self.created, self.activity, self.ended)
+    }
+
+    pub fn is_open(&self, at: Stamp) -> bool
+        ensures { result ≡ is_open self.now at }
+    {
+        self.closed_at(at).is_none()
+    }
+
+    /// When it closed, `None` where it is open at the stamp.
+    pub fn closed_at(&self, at: Stamp) -> Option<Stamp>
+        ensures { result ≡ closed_at self.now at }
+    {
+        closed_at(self.created, self.activity, self.ended, at)
+    }
+
+    /// How many changes it has made.
+    pub fn count(&self) -> u64
+        ensures { result ≡ length self.now.did }
+    {
+        self.did.len() as u64
+    }
+
+    /// How many changes it may make.
+    pub fn limit(&self) -> u64
+        ensures { result ≡ limit_of self.now }
+    {
+        CHANGE_LIMIT
+    }
+}
+
+impl TryCopy for Work {
+    fn copy(&self, _: Global) -> Result<Work, Memory> {
+        Ok(*self)
+    }
+}
+
+impl TryCopy for ChangesetRecord {
+    fn copy(&self, alloc: Global) -> Result<ChangesetRecord, Memory> {
+        let owner = self.owner.copy(alloc)?;
+        let tags = self.tags.copy(alloc)?;
+        let did = self.did.copy(alloc)?;
+        Ok(ChangesetRecord {
+            owner,
+            tags,
+            created: self.created,
+            activity: self.activity,
+            ended: self.ended,
+            touched: self.touched,
+            did,
+        })
+    }
+}
