@@ -101,6 +101,17 @@ impl<T: Drop> Items<T> {
     }
 }
 
+impl<T: Copy> Items<T> {
+    /// Adds copies of some items at the end, all of them or none.
+    pub fn extend(&mut self, more: &[T]) -> Result<(), Memory>
+        ensures ok { OnOk result (self.new ≡ self.old ++ more.now) }
+        ensures err { OnErr result (self.new ≡ self.old) }
+    {
+        self.items.extend_from_slice(more)?;
+        Ok(())
+    }
+}
+
 /// Ids, in the order of their use.
 pub type Ids = Items<u64>;
 
