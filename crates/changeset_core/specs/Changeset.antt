@@ -1,8 +1,7 @@
 -- Changesets: when they are open, their box, and their record after work (wiki, "Changesets").
 use Rattle.std.specs.Prelude.{ℕ, ◌+◌, min, Bool, nat_lt, if◌then◌else◌, List, [], ◌∷◌, ◌++◌, length, ◌==◌, fold, filter_map, Option, Some, None, option_to_list, option_and_then}
-use Rattle.std.specs.Int.{int_min, int_max}
 use Rattle.std.specs.Option.{option_map_or}
-use Rattle.osm_base.specs.Place.{Position, Area, at_position, area_with}
+use Rattle.osm_base.specs.Place.{Position, Area, at_position, area_with, area_join}
 use Rattle.osm_base.specs.declared.keys.Key.{Key}
 use Rattle.osm_base.specs.declared.limits.TheConstants.{CHANGE_LIMIT}
 use Rattle.osm_base.specs.declared.people.Owner.{Owner}
@@ -69,17 +68,11 @@ widen_all area ps = fold widen area ps
 abbrev pub touched_area : Elements → Key → Option (Content ℕ) → Option Area
 touched_area E k new = widen_all None (touched_positions E k new)
 
--- the least area with both
-abbrev pub area_join : Area → Area → Area
-area_join a b = record {
-  left = int_min a.left b.left;
-  bottom = int_min a.bottom b.bottom;
-  right = int_max a.right b.right;
-  top = int_max a.top b.top;
-}
-
+-- the least area with both, where there is any
 abbrev pub join_areas : Option Area → Option Area → Option Area
-join_areas area more = option_map_or (λ b. Some (option_map_or (λ a. area_join a b) area b)) more area
+join_areas None more = more
+join_areas (Some a) None = Some a
+join_areas (Some a) (Some b) = Some (area_join a b)
 
 -- the record after an upload at a stamp that made these versions, none where nothing was applied,
 -- and touched this area: what was applied is activity

@@ -1,2 +1,3 @@
 pub mod Changeset
 pub mod Timely
+pub mod Kept

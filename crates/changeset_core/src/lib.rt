@@ -2,7 +2,11 @@
 //! when it is open.
 #![tactic(auto)]
 
+mod areas;
+mod changesets;
 mod lives;
 mod records;
 
+pub use areas::joined;
+pub use changesets::Changeset;
 pub use records::{ChangesetRecord, Work};

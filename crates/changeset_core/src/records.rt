@@ -1,3 +1,4 @@
+use crate::areas::joined;
 use crate::lives::{closed_at, closes};
 use osm_base::{Box7, CHANGE_LIMIT, Items, Key, Memory, Owner, Stamp, TryCopy};
 use osm_element::Tags;
@@ -24,9 +25,9 @@ pub struct ChangesetRecord {
 }
 
 impl ChangesetRecord {
-    ghost use Rattle.std.specs.Prelude.{◌≡◌, ◌≤◌, ◌+◌, length};
+    ghost use Rattle.std.specs.Prelude.{◌≡◌, ◌≤◌, ◌+◌, length, OnOk, OnErr};
     ghost use Rattle.osm_base.specs.declared.limits.TheConstants.{MOMENT_LIMIT};
-    ghost use Rattle.changeset_core.specs.Changeset.{closes, closed_at, first_record, is_open, limit_of};
+    ghost use Rattle.changeset_core.specs.Changeset.{closes, closed_at, first_record, is_open, limit_of, worked_by};
     ghost use Rattle.changeset_core.specs.Timely.{IsTimelyRecord};
 
     /// The record of a changeset that is opened at a stamp.
@@ -71,6 +72,20 @@ impl ChangesetRecord {
         ensures { result ≡ length self.now.did }
     {
         self.did.len() as u64
+    }
+
+    /// Enters the versions that an upload made at a stamp, and the box of what it touched. Work is
+    /// activity, an upload that made no version is none.
+    pub fn work(&mut self, works: &[Work], area: Option<Box7>, at: Stamp) -> Result<(), Memory>
+        ensures ok { OnOk result (self.new ≡ worked_by self.old works.now area at) }
+        ensures err { OnErr result (self.new ≡ self.old) }
+    {
+        self.did.extend(works)?;
+        if !works.is_empty() {
+            self.activity = at;
+        }
+        self.touched = joined(self.touched, area);
+        Ok(())
     }
 
     /// How many changes it may make.
