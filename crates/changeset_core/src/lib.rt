@@ -4,9 +4,11 @@
 
 mod areas;
 mod changesets;
+mod law;
 mod lives;
 mod records;
 
 pub use areas::joined;
 pub use changesets::Changeset;
+pub use law::{boxes_are_joined, ends_are_bounded, records_stay_timely};
 pub use records::{ChangesetRecord, Work};
