@@ -1,7 +1,7 @@
 -- Boxes of positions, joined.
 use Rattle.std.proofs.Common.{◌≡◌, List, [], ◌∷◌, refl, ap, sym, ◌∙◌}
 use Rattle.std.specs.Prelude.{Option, Some, None}
-use Rattle.osm_base.specs.Place.{Area, Position, at_position, area_with, area_join}
+use Rattle.osm_base.specs.Place.{Area, Position, at_position}
 use Rattle.osm_base.proofs.Areas.{area_join-assoc}
 use Rattle.changeset_core.specs.Changeset.{join_areas, widen, widen_all}
 

@@ -64,6 +64,10 @@ widen area p = Some (option_map_or (λ a. area_with a p) area (at_position p))
 abbrev pub widen_all : Option Area → List Position → Option Area
 widen_all area ps = fold widen area ps
 
+-- the area with the places of those of these elements that are visible nodes
+abbrev pub widen_by : Elements → Option Area → List Key → Option Area
+widen_by E area ks = widen_all area (filter_map (position E) ks)
+
 -- the least box of what a new content of an element touches, if that is anything
 abbrev pub touched_area : Elements → Key → Option (Content ℕ) → Option Area
 touched_area E k new = widen_all None (touched_positions E k new)

@@ -14,7 +14,7 @@ pub(crate) fn widened(area: Option<Box7>, at: Coord) -> Option<Box7>
 }
 
 /// The least box that holds both, where there is any.
-pub fn joined(area: Option<Box7>, more: Option<Box7>) -> Option<Box7>
+pub fn join_boxes(area: Option<Box7>, more: Option<Box7>) -> Option<Box7>
     ensures { result ≡ join_areas area more }
 {
     match (area, more) {

@@ -55,24 +55,28 @@ impl Changeset {
         }
     }
 
+    /// Changeset 1 is the first.
     pub fn id(&self) -> u64
         ensures { result ≡ self.now.id }
     {
         self.id
     }
 
+    /// The user who opened it, and alone may work on it.
     pub fn owner(&self) -> &Owner
         ensures { result.now ≡ self.now.kept.owner }
     {
         &self.owner
     }
 
+    /// The tags that it was given last.
     pub fn tags(&self) -> &Tags
         ensures { result.now ≡ self.now.kept.tags }
     {
         &self.tags
     }
 
+    /// When it was opened.
     pub fn created(&self) -> Stamp
         ensures { result ≡ self.now.kept.created }
     {
@@ -123,7 +127,7 @@ impl Changeset {
         ensures { self.new ≡ record self.old { kept = retagged self.old.kept tags at } }
     {
         self.tags = tags;
-        self.activity = at;
+        self.active(at);
     }
 
     /// Closes it. It takes no memory.

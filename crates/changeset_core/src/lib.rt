@@ -1,5 +1,6 @@
 //! One changeset (OpenStreetMap wiki, "Changesets"): its record, the box of what it touched, and
-//! when it is open.
+//! when it is open. `ChangesetRecord` is the plain record, `Changeset` one that takes memory ahead
+//! of its work.
 #![tactic(auto)]
 
 mod areas;
@@ -7,8 +8,10 @@ mod changesets;
 mod law;
 mod lives;
 mod records;
+mod touched;
 
-pub use areas::joined;
+pub use areas::join_boxes;
 pub use changesets::Changeset;
 pub use law::{boxes_are_joined, ends_are_bounded, records_stay_timely};
 pub use records::{ChangesetRecord, Work};
+pub use touched::touched_area;

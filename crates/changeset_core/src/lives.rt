@@ -6,10 +6,10 @@ ghost use Rattle.changeset_core.specs.Timely.{IsTimelyMoment};
 
 use osm_base::Stamp;
 
-/// A changeset closes so many seconds after its last activity,
+/// The seconds after its last activity in which a changeset closes: an hour.
 const IDLE: u64 = 3_600;
 
-/// and so many after its creation at the latest.
+/// The seconds after its creation in which it closes at the latest: a day.
 const LIFE: u64 = 86_400;
 
 /// When a changeset with these moments was closed, or else closes.
@@ -30,7 +30,7 @@ pub(crate) fn closes(created: Stamp, activity: Stamp, ended: Option<Stamp>) -> S
     }
 }
 
-/// The same where it isn't open at the stamp, whatever the moments are.
+/// The same, or `None` while it is open. The moments may be any.
 pub(crate) fn closed_at(
     created: Stamp,
     activity: Stamp,

@@ -1,4 +1,4 @@
-use crate::areas::joined;
+use crate::areas::join_boxes;
 use crate::lives::{closed_at, closes};
 use osm_base::{Box7, CHANGE_LIMIT, Items, Key, Memory, Owner, Stamp, TryCopy};
 use osm_element::Tags;
@@ -30,7 +30,7 @@ impl ChangesetRecord {
     ghost use Rattle.changeset_core.specs.Changeset.{closes, closed_at, first_record, is_open, limit_of, worked_by};
     ghost use Rattle.changeset_core.specs.Timely.{IsTimelyRecord};
 
-    /// The record of a changeset that is opened at a stamp.
+    /// The record of a changeset that is opened at a stamp. It takes no memory.
     pub fn new(alloc: Global, owner: Owner, tags: Tags, at: Stamp) -> ChangesetRecord
         ensures { result ≡ first_record owner tags at }
     {
@@ -54,6 +54,7 @@ impl ChangesetRecord {
         closes(self.created, self.activity, self.ended)
     }
 
+    /// Whether it is open at a stamp. It isn't any more when it closes.
     pub fn is_open(&self, at: Stamp) -> bool
         ensures { result ≡ is_open self.now at }
     {
@@ -74,6 +75,13 @@ impl ChangesetRecord {
         self.did.len() as u64
     }
 
+    /// How many changes it may make.
+    pub fn limit(&self) -> u64
+        ensures { result ≡ limit_of self.now }
+    {
+        CHANGE_LIMIT
+    }
+
     /// Enters the versions that an upload made at a stamp, and the box of what it touched. Work is
     /// activity, an upload that made no version is none.
     pub fn work(&mut self, works: &[Work], area: Option<Box7>, at: Stamp) -> Result<(), Memory>
@@ -84,15 +92,8 @@ impl ChangesetRecord {
         if !works.is_empty() {
             self.activity = at;
         }
-        self.touched = joined(self.touched, area);
+        self.touched = join_boxes(self.touched, area);
         Ok(())
-    }
-
-    /// How many changes it may make.
-    pub fn limit(&self) -> u64
-        ensures { result ≡ limit_of self.now }
-    {
-        CHANGE_LIMIT
     }
 }
 

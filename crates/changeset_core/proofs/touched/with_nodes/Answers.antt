@@ -1,0 +1,8 @@
+use Rattle.std.proofs.Common.{refl, rules}
+use Rattle.osm_base.specs.declared.keys.Kind.TheVariants.{Node}
+use Rattle.osm_element.specs.Elements.{key}
+use Rattle.changeset_core.proofs.WidenBy.{widen_by-more}
+use Rattle.changeset_core.proofs.touched.with_nodes.Goals as goal
+
+pub loop-id-preserved : goal.loop-id-preserved
+loop-id-preserved c = widen_by-more c.args.elements.now c.args.area _ _ (key Node) c.args.nodes.now c.loop-id.id-index _ 0 (search rules) refl c.loop-id.invariant c.with_element-area.ensures
