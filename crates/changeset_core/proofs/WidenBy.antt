@@ -16,14 +16,14 @@ widen_by-append E a ks ls =
     ap (widen_all a) (filter_map-append (position E) ks ls)
     ∙ fold-append widen a (filter_map (position E) ks) (filter_map (position E) ls)
 
--- a step of a loop over what a content lists
-pub widen_by-more : {X : Type 0} (E : Elements) (a b c : Option Area) (f : X → Key) (xs : List X) (i : ℕ) (x d : X) → i < length xs → x ≡ get_or xs i d → b ≡ widen_by E a (map f (take i xs)) → c ≡ widen_by E b (f x ∷ []) → c ≡ widen_by E a (map f (take (i + 1) xs))
-widen_by-more {X} E a b c f xs i x d within item before after =
+-- a step of a loop over what a content lists, at the element l
+pub widen_by-more : {X : Type 0} (E : Elements) (a b c : Option Area) (f : X → Key) (xs : List X) (i : ℕ) (d : X) (l : Key) → i < length xs → l ≡ f (get_or xs i d) → b ≡ widen_by E a (map f (take i xs)) → c ≡ widen_by E b (l ∷ []) → c ≡ widen_by E a (map f (take (i + 1) xs))
+widen_by-more E a b c f xs i d l within item before after =
     let parts : map f (take (i + 1) xs) ≡ map f (take i xs) ++ (f (get_or xs i d) ∷ []) = ap (map f) (take_more xs i d within) ∙ map-append f (take i xs) (get_or xs i d ∷ []) in
     let whole : widen_by E a (map f (take (i + 1) xs)) ≡ widen_by E (widen_by E a (map f (take i xs))) (f (get_or xs i d) ∷ []) = ap (widen_by E a) parts ∙ widen_by-append E a (map f (take i xs)) (f (get_or xs i d) ∷ []) in
     after
-    ∙ ap (λ (y : Option Area). widen_by E y (f x ∷ [])) before
-    ∙ ap (λ (y : X). widen_by E (widen_by E a (map f (take i xs))) (f y ∷ [])) item
+    ∙ ap (λ (y : Option Area). widen_by E y (l ∷ [])) before
+    ∙ ap (λ (y : Key). widen_by E (widen_by E a (map f (take i xs))) (y ∷ [])) item
     ∙ sym whole
 
 -- the element, what it lists, what the new content lists, and the new place

@@ -70,11 +70,7 @@ fn with_members(
     ensures { result ≡ widen_by elements.now area (map key_of_member members.now) }
 {
     for member in members {
-        let listed = Key {
-            kind: member.kind,
-            id: member.name,
-        };
-        area = with_element(elements, area, listed);
+        area = with_element(elements, area, member.key());
     }
     area
 }
