@@ -1,5 +1,5 @@
 //! Values that commands are made of.
-use super::journal::change_of;
+use super::bodies::change_of;
 use osm_base::{Memory, Text, TryCopy};
 use osm_change::OneOp;
 use osm_element::Tags;
@@ -27,14 +27,22 @@ fn keys_of_tags_rise(rt: HostRuntime) -> Result<(), Fail> {
     Ok(())
 }
 
-/// An upload of a node.
-const NODE: &str = r#"{"osmChange":[{"create":[{"type":"node","id":-1,"lat7":5,"lon7":6}]}]}"#;
+/// An upload of a node, and the operation that it is.
+const NODE: &str =
+    r#"{"osmChange":[{"create":[{"type":"node","id":-1,"lat7":5,"lon7":6,"tags":{"a":"b"}}]}]}"#;
 
+/// A copy says what the change says.
 #[test]
 fn a_single_change_and_its_copy(rt: HostRuntime) -> Result<(), Fail> {
     let alloc = rt.alloc();
-    let one = OneOp::of(change_of(alloc, NODE)??)?;
+    let one = OneOp::of(change_of(alloc, NODE)?)?;
     let copy = one.copy(alloc)?;
-    assert_eq!(rt; copy.change().len(), 1);
+    let (change, copied) = (one.change(), copy.change());
+    let wanted = format!(in alloc; "{change:?}")?;
+    let came = format!(in alloc; "{copied:?}")?;
+    assert_eq!(rt; came.as_str(), wanted.as_str());
+    for part in ["Create", "Node", "placeholder: -1", "lat7: 5, lon7: 6", "\"a\"", "\"b\""] {
+        assert!(rt; came.as_str().contains(part), "{part} in {came}");
+    }
     Ok(())
 }
