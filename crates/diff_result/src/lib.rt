@@ -3,9 +3,8 @@
 #![tactic(auto)]
 
 mod diff_rows;
-mod ids;
+mod keys;
+mod law;
 
 pub use diff_rows::rows;
-
-#[cfg(test)]
-mod tests;
+pub use law::keys_are_counted;

@@ -1,7 +1,7 @@
 use Rattle.std.proofs.Common.{◌∷◌, ◌++◌, [], arith}
 use Rattle.std.proofs.lemmas.List.Elements.{All-same, All-push}
 use Rattle.osm_change.specs.Build.{IsRawOp}
-use Rattle.diff_result.proofs.tests.raws.Goals as goal
+use Rattle.change_rows.proofs.tests.raws.Goals as goal
 
 pub loop-operation-preserved : goal.loop-operation-preserved
 loop-operation-preserved c =

@@ -1,9 +1,9 @@
 ghost use Rattle.std.specs.Prelude.{IfOk};
 ghost use Rattle.osm_change.specs.Build.{HasContent, IsRawOp, IsRaw};
 
-use crate::rows;
+use diff_result::rows;
 use osm_base::{Items, Kind};
-use osm_change::{Action, Change, DiffRows, FirstIds, OpDone, RawOp};
+use osm_change::{Action, Change, DiffRows, FirstIds, OneOp, OpDone, RawOp};
 use osm_element::{RawContent, Tags};
 use std::alloc::Global;
 use std::test::Fail;
@@ -93,5 +93,22 @@ fn a_row_for_each_operation(rt: HostRuntime) -> Result<(), Fail> {
         let told = (row.old_id, row.new_id, row.new_version);
         assert_eq!(rt; told, wanted[place], "{place}");
     }
+    Ok(())
+}
+
+#[test]
+fn one_operation_is_told_from_six(rt: HostRuntime) -> Result<(), Fail> {
+    let alloc = rt.alloc();
+    let six = Change::build(alloc, 1, raws(alloc)?)?;
+    let Err(six) = OneOp::of(six) else {
+        return Err("six are one".into());
+    };
+    assert_eq!(rt; six.len(), 6);
+    assert_eq!(rt; six.into_operations().len(), 6);
+    let raw = vec![in alloc; node(alloc, Action::Create, -7, 1)?]?;
+    let Ok(one) = OneOp::of(Change::build(alloc, 1, raw)?) else {
+        return Err("one isn't one".into());
+    };
+    assert_eq!(rt; one.into_change().len(), 1);
     Ok(())
 }
