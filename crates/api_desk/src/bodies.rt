@@ -5,7 +5,7 @@ ghost use Rattle.api_desk.specs.Bodies.{tags_in, upload_in, change_in, command_o
 ghost use Rattle.api_desk.specs.Routes.{HasPathNumber};
 ghost use Rattle.api_desk.specs.Gives.{Gives, HasShownFault};
 
-use crate::faults::RequestFault;
+use crate::faults::{RequestFault, tags_fault};
 use crate::routes::Edit;
 use osm_base::{Kind, Memory};
 use osm_change::{Action, Change, OneOp, RawOp};
@@ -24,7 +24,7 @@ fn tags_in(alloc: Global, body: &[u8], needed: bool) -> Result<Tags, RequestFaul
     ensures shown { IfErr result HasShownFault }
 {
     let tags = read_tags(alloc, body, needed)?;
-    tags.check()?;
+    tags.check().map_err(tags_fault)?;
     Ok(tags)
 }
 

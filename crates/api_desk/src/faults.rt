@@ -1,3 +1,6 @@
+ghost use Rattle.std.specs.Prelude.{◌≡◌};
+ghost use Rattle.api_desk.specs.Faults.{of_tags};
+
 use osm_base::Memory;
 use osm_change::{Cause, Refusal, ShapeFault};
 use osm_element::LocalFault;
@@ -68,13 +71,8 @@ impl From<ShapeFault> for RequestFault {
 }
 
 /// A changeset's tags are beyond a limit. They count as operation 0.
-impl From<LocalFault> for RequestFault {
-    ghost use Rattle.std.specs.Prelude.{◌≡◌};
-    ghost use Rattle.api_desk.specs.Faults.{of_tags};
-
-    ghost from_gives = { λ fault made. made ≡ of_tags fault };
-
-    fn from(fault: LocalFault) -> Self {
-        RequestFault::Refused(Refusal::Local { fault, op: Some(0) })
-    }
+pub(crate) fn tags_fault(fault: LocalFault) -> RequestFault
+    ensures { result ≡ of_tags fault }
+{
+    RequestFault::Refused(Refusal::Local { fault, op: Some(0) })
 }
