@@ -12,28 +12,41 @@ use Rattle.osm_json.specs.Shown.{Field, field, field_if, record_of, natural, kin
 -- ---- the status (RFC 9110, section 15)
 
 unfoldable pub refusal_status : Refusal → ℕ
-refusal_status refusals.NoUser = 401
-refusal_status refusals.Role = 403
-refusal_status (refusals.Redacted id redaction k version) = 403
+refusal_status refusals.BadHead = 400
+refusal_status refusals.HeadLong = 431
+refusal_status refusals.Coded = 501
+refusal_status refusals.BadLength = 400
+refusal_status refusals.BodyLong = 413
 refusal_status refusals.NoPath = 404
-refusal_status (refusals.NoChangeset id) = 404
-refusal_status (refusals.NoElement id op k) = 404
-refusal_status (refusals.NoSuchVersion id k version) = 404
-refusal_status (refusals.NoRedaction id) = 404
 refusal_status refusals.WrongMethod = 405
+refusal_status refusals.Xml = 415
+refusal_status refusals.NoUser = 401
+refusal_status refusals.BadNumber = 400
+refusal_status (refusals.BadParameter name) = 400
+refusal_status refusals.Role = 403
+refusal_status refusals.NotJson = 400
+refusal_status (refusals.Shape op) = 400
+refusal_status (refusals.NotNegative op) = 400
+refusal_status (refusals.DoublePlaceholder op) = 400
+refusal_status (refusals.UnknownPlaceholder op) = 400
+refusal_status (refusals.NoVersion op) = 400
+refusal_status (refusals.Local fault op) = 400
 refusal_status (refusals.OtherChangeset named op) = 409
+refusal_status (refusals.NoChangeset id) = 404
 refusal_status (refusals.NotOwner changeset owner) = 409
 refusal_status (refusals.Closed changeset closed_at) = 409
 refusal_status (refusals.Full applied changeset count limit) = 409
+refusal_status (refusals.NoElement id op k) = 404
+refusal_status (refusals.NoSuchVersion id k version) = 404
 refusal_status (refusals.WrongVersion found id op provided k) = 409
 refusal_status (refusals.Gone id op k version) = 410
 refusal_status (refusals.Missing id op k version) = 412
 refusal_status (refusals.Used id op k user_id user_kind user_version) = 412
-refusal_status refusals.BodyLong = 413
-refusal_status refusals.Xml = 415
-refusal_status refusals.HeadLong = 431
-refusal_status refusals.Coded = 501
-refusal_status _ = 400
+refusal_status (refusals.Redacted id redaction k version) = 403
+refusal_status (refusals.NoRedaction id) = 404
+refusal_status (refusals.RedactCurrent id k version) = 400
+refusal_status (refusals.MapArea area limit) = 400
+refusal_status (refusals.MapNodes limit nodes) = 400
 
 -- ---- the name of the error
 

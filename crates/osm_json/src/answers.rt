@@ -1,6 +1,7 @@
 //! The body of an answer.
 ghost use Rattle.std.specs.Prelude.{◌≡◌, IfOk};
-ghost use Rattle.osm_json.specs.Answered.{answer as answer_data, body_of, HasShownMoments};
+ghost use Rattle.osm_change.specs.Moments.{HasShownMoments};
+ghost use Rattle.osm_json.specs.Answered.{answer as answer_data, body_of};
 ghost use Rattle.osm_json.specs.Sent.{Sends, tokens_of};
 
 use crate::changesets::{changeset, changesets};

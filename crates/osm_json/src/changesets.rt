@@ -1,7 +1,7 @@
 //! Changesets, as a client is told of them.
 ghost use Rattle.std.specs.Prelude.{All, flat_map};
 ghost use Rattle.osm_json.specs.Rows.{life_fields, touched_fields, open_fields, owner_fields, changeset_row as row_data, changeset as changeset_data, changesets as changesets_data};
-ghost use Rattle.osm_json.specs.Answered.{HasShownLife};
+ghost use Rattle.osm_change.specs.Moments.{HasShownLife};
 ghost use Rattle.osm_json.specs.Sent.{Sends, SendsFields, tokens_of};
 
 use crate::contents::{edges, tags};

@@ -2,7 +2,7 @@
 ghost use Rattle.std.specs.Prelude.{◌≡◌, [], ◌∷◌, All, codes, flat_map};
 ghost use Rattle.osm_json.specs.Shown.{field_if};
 ghost use Rattle.osm_json.specs.Rows.{number_fields, redaction_fields, origin_fields, action_name as name_of_action, element as element_data, bounds as bounds_data, elements as elements_data, block as block_data, download as download_data};
-ghost use Rattle.osm_json.specs.Answered.{HasShownStamp};
+ghost use Rattle.osm_change.specs.Moments.{HasShownStamp};
 ghost use Rattle.osm_json.specs.Sent.{Sends, SendsFields, tokens_of};
 
 use crate::contents::{edges, visible, visible_tags};

@@ -1,5 +1,6 @@
 ghost use Rattle.std.specs.Prelude.{◌≡◌, IfOk, string_bytes};
-ghost use Rattle.osm_json.specs.Moment.{stamp_text as text_of, IsShownMoment};
+ghost use Rattle.osm_change.specs.Moments.{IsShownMoment};
+ghost use Rattle.osm_json.specs.Moment.{stamp_text as text_of};
 
 use jiff::Timestamp;
 use jiff::tz::Offset;

@@ -2,8 +2,7 @@
 ghost use Rattle.std.specs.Prelude.{◌≡◌, [], ◌∷◌, codes};
 ghost use Rattle.osm_json.specs.Shown.{field, natural, moment};
 ghost use Rattle.osm_json.specs.Refused.{local_name as name_of_local, error_name as name_of_error, before_error as fields_before, of_request as fields_of_request, of_changeset as fields_of_changeset, of_element as fields_of_element, op_field, element_fields, current_fields, version_fields, conflict_fields, user_fields, redacted_fields, refusal as refusal_data};
-ghost use Rattle.osm_json.specs.Moment.{IsShownMoment};
-ghost use Rattle.osm_json.specs.Answered.{RefusalHasShownEnd};
+ghost use Rattle.osm_change.specs.Moments.{IsShownMoment, RefusalHasShownEnd};
 ghost use Rattle.osm_json.specs.Sent.{Sends, SendsFields, tokens_of};
 
 use crate::send::{Shown, members, moment, name_of, natural, operation, said, text};

@@ -5,7 +5,7 @@ ghost use Rattle.std.specs.Prelude.{◌≡◌, [], ◌∷◌};
 ghost use Rattle.std.specs.Option.{ForSome};
 ghost use Rattle.serde_json.specs.Data.{boolean, string};
 ghost use Rattle.osm_json.specs.Shown.{field, field_if, natural, integer, kind_name, named, moment, version_field, record_of};
-ghost use Rattle.osm_json.specs.Moment.{IsShownMoment};
+ghost use Rattle.osm_change.specs.Moments.{IsShownMoment};
 ghost use Rattle.osm_json.specs.Sent.{Sends, SendsFields, tokens_of, field_tokens};
 ghost use Rattle.osm_json.specs.Fields.{shown_field, shown_fields, IsMember};
 

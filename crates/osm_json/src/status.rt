@@ -12,6 +12,20 @@ fn refusal_status(fault: &Refusal) -> u16
     ensures listed { IsStatus result }
 {
     match fault {
+        Refusal::BadHead
+        | Refusal::BadLength
+        | Refusal::BadNumber
+        | Refusal::BadParameter { .. }
+        | Refusal::NotJson
+        | Refusal::Shape { .. }
+        | Refusal::NotNegative { .. }
+        | Refusal::DoublePlaceholder { .. }
+        | Refusal::UnknownPlaceholder { .. }
+        | Refusal::NoVersion { .. }
+        | Refusal::Local { .. }
+        | Refusal::RedactCurrent { .. }
+        | Refusal::MapArea { .. }
+        | Refusal::MapNodes { .. } => 400,
         Refusal::NoUser => 401,
         Refusal::Role | Refusal::Redacted { .. } => 403,
         Refusal::NoPath
@@ -31,7 +45,6 @@ fn refusal_status(fault: &Refusal) -> u16
         Refusal::Xml => 415,
         Refusal::HeadLong => 431,
         Refusal::Coded => 501,
-        _ => 400,
     }
 }
 
@@ -43,6 +56,12 @@ pub fn answer_status(answer: &Answer) -> u16
 {
     match answer {
         Answer::Refused(fault) => refusal_status(fault),
-        _ => 200,
+        Answer::Number(_)
+        | Answer::Nothing
+        | Answer::Diff(_)
+        | Answer::Elements { .. }
+        | Answer::Change(_)
+        | Answer::Changeset(_)
+        | Answer::Changesets(_) => 200,
     }
 }

@@ -1,7 +1,6 @@
 ghost use Rattle.std.specs.Prelude.{IfOk};
 ghost use Rattle.std.specs.Option.{ForSome};
-ghost use Rattle.osm_json.specs.Moment.{IsShownMoment};
-ghost use Rattle.osm_json.specs.Answered.{HasShownStamp, HasShownLife, HasShownMoments};
+ghost use Rattle.osm_change.specs.Moments.{IsShownMoment, HasShownStamp, HasShownLife, HasShownMoments};
 
 use crate::{answer_body, answer_status, stamp_text};
 use osm_base::{Box7, Coord, Items, Key, Kind, Memory, Owner, Stamp, Text};

@@ -1,4 +1,4 @@
-ghost use Rattle.osm_json.specs.Answered.{RefusalHasShownEnd};
+ghost use Rattle.osm_change.specs.Moments.{RefusalHasShownEnd};
 
 use crate::{answer_body, answer_status};
 use osm_base::{Kind, Stamp, Text};
