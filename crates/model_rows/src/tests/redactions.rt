@@ -45,12 +45,7 @@ fn redacted(
 }
 
 /// What taking the mark off a version of an element is told.
-fn shown(
-    alloc: Global,
-    journal: &mut Journal,
-    key: Key,
-    version: u64,
-) -> Result<String, Memory> {
+fn shown(alloc: Global, journal: &mut Journal, key: Key, version: u64) -> Result<String, Memory> {
     let answer = acted(alloc, journal, Command::Unredact { key, version })?;
     told(alloc, &answer)
 }
@@ -64,7 +59,10 @@ fn mark(journal: &Journal, version: u64) -> Option<u64> {
 fn an_old_version_is_redacted(rt: HostRuntime) -> Result<(), Fail> {
     let alloc = rt.alloc();
     let mut journal = changed(alloc)?;
-    assert_eq!(rt; redacted(alloc, &mut journal, FIRST, 1, 1)?.as_str(), "Nothing");
+    assert_eq!(rt;
+        redacted(alloc, &mut journal, FIRST, 1, 1)?.as_str(),
+        "Nothing"
+    );
     assert_eq!(rt; mark(&journal, 1), Some(1));
     assert_eq!(rt; mark(&journal, 2), None);
     assert_eq!(rt; shown(alloc, &mut journal, FIRST, 1)?.as_str(), "Nothing");
@@ -85,7 +83,10 @@ fn marks_that_are_not_there(rt: HostRuntime) -> Result<(), Fail> {
     let title = Text::of(alloc, "more")?;
     acted(alloc, &mut journal, Command::MakeRedaction { title })?;
     redacted(alloc, &mut journal, FIRST, 1, 1)?;
-    assert_eq!(rt; redacted(alloc, &mut journal, FIRST, 1, 2)?.as_str(), "Nothing");
+    assert_eq!(rt;
+        redacted(alloc, &mut journal, FIRST, 1, 2)?.as_str(),
+        "Nothing"
+    );
     assert_eq!(rt; mark(&journal, 1), Some(2));
     assert_eq!(rt; journal.entries().len(), 9);
     Ok(())

@@ -41,7 +41,14 @@ fn a_single_change_and_its_copy(rt: HostRuntime) -> Result<(), Fail> {
     let wanted = format!(in alloc; "{change:?}")?;
     let came = format!(in alloc; "{copied:?}")?;
     assert_eq!(rt; came.as_str(), wanted.as_str());
-    for part in ["Create", "Node", "placeholder: -1", "lat7: 5, lon7: 6", "\"a\"", "\"b\""] {
+    for part in [
+        "Create",
+        "Node",
+        "placeholder: -1",
+        "lat7: 5, lon7: 6",
+        "\"a\"",
+        "\"b\"",
+    ] {
         assert!(rt; came.as_str().contains(part), "{part} in {came}");
     }
     Ok(())
