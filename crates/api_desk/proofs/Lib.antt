@@ -1,7 +1,6 @@
 pub mod Rows
 pub mod Replies
 pub mod Sessions
-pub mod Moments
 pub mod Cuts
 pub mod Words
 pub mod Worked

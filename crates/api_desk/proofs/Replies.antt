@@ -7,8 +7,7 @@ use Rattle.osm_change.specs.declared.answers.Answer.TheVariants.{Refused}
 use Rattle.osm_change.specs.declared.refusals.Refusal.{Refusal}
 use Rattle.osm_model.specs.declared.commands.Command.{Command}
 use Rattle.osm_model.specs.declared.commands.Entry.{Entry}
-use Rattle.osm_model.specs.declared.commands.Accepted.{Accepted}
-use Rattle.osm_model.specs.Act.{act, judge}
+use Rattle.osm_model.specs.Act.{Effect, act, judge}
 use Rattle.osm_model.specs.Journal.{replay, calls_of, appended, journal_after, next_entry}
 use Rattle.osm_model.specs.Ask.{ask}
 use Rattle.osm_model.specs.Answered.{Request, refused, does, reads, Place, all_of, stamp_on, IsRow}
@@ -40,7 +39,7 @@ grows_by_nothing_own : (s : ℕ) (es : List Entry) → calls_of s es ≡ calls_o
 grows_by_nothing_own s es = omega arith
 
 appended_grows :
-    (es : List Entry) (e : Entry) (j : Result Accepted Refusal)
+    (es : List Entry) (e : Entry) (j : Result Effect Refusal)
     → Grows e.session es (appended es e j)
 appended_grows es e (Ok done) = record { more = e ∷ []; grown = refl; own = calls_of-next es e }
 appended_grows es e (Err r) = grows_by_nothing e.session es

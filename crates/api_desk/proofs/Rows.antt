@@ -11,9 +11,8 @@ use Rattle.osm_change.specs.declared.answers.Answer.{Answer}
 use Rattle.osm_change.specs.declared.refusals.Refusal.{Refusal}
 use Rattle.osm_model.specs.declared.commands.Command.{Command}
 use Rattle.osm_model.specs.declared.commands.Entry.{Entry}
-use Rattle.osm_model.specs.declared.commands.Accepted.{Accepted}
-use Rattle.map_state.specs.declared.states.State.{State}
-use Rattle.osm_model.specs.Act.{act, judge, settle}
+use Rattle.osm_model.specs.declared.states.State.{State}
+use Rattle.osm_model.specs.Act.{Effect, act, judge, settle}
 use Rattle.osm_model.specs.Journal.{replay, calls_of, appended, next_entry, journal_after}
 use Rattle.osm_model.specs.Ask.{ask}
 use Rattle.osm_model.specs.Answered.{Request, refused, does, reads, Place, all_of, map_at, stamp_on, RefusesCommand, AcceptsCommand, AnswersQuery, IsRow}
@@ -69,7 +68,7 @@ all_of-next es e =
 
 -- what a command comes to on all of a journal is a row, whatever it comes to
 row_of_judged :
-    (es : List Entry) (s : ℕ) (user : User) (m : ℕ) (c : Command) (j : Result Accepted Refusal)
+    (es : List Entry) (s : ℕ) (user : User) (m : ℕ) (c : Command) (j : Result Effect Refusal)
     → judge (replay es) user (stamp_on (replay es) m) c ≡ j
     → IsRow
     (appended es (next_entry es s user m c) j)

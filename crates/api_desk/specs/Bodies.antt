@@ -1,5 +1,6 @@
 -- The command that a call and its body ask for.
 use Rattle.std.specs.Prelude.{ℕ, ℤ, pos, negsuc, Bool, true, false, List, [], ◌∷◌, Result, Ok, Err}
+use Rattle.osm_base.specs.Outcome.{◌>>=◌}
 use Rattle.osm_base.specs.declared.keys.Kind.{Kind}
 use Rattle.osm_change.specs.Build.{change_of as built}
 use Rattle.osm_change.specs.declared.operations.Op.{Op}
@@ -12,7 +13,6 @@ use Rattle.osm_element.specs.Tags.{Tag}
 use Rattle.osm_json.specs.Reading.{changeset_tags, change_of, single_in}
 use Rattle.osm_model.specs.declared.commands.Command.{Command}
 use Rattle.osm_model.specs.declared.commands.Command.TheVariants as command
-use Rattle.map_state.specs.Outcome.{◌>>=◌}
 use Rattle.api_desk.specs.declared.faults.RequestFault.{RequestFault}
 use Rattle.api_desk.specs.declared.faults.RequestFault.TheVariants.{Memory, Refused}
 use Rattle.api_desk.specs.declared.routes.Edit.{Edit}

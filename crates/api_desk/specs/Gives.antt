@@ -1,8 +1,8 @@
 -- A reading of a message gives what the definitions say, unless memory ran out.
 use Rattle.std.specs.Prelude.{◌≡◌, Result, Ok, Err, ⊤}
+use Rattle.osm_change.specs.Moments.{RefusalHasShownEnd}
 use Rattle.osm_change.specs.declared.refusals.Refusal.{Refusal}
 use Rattle.osm_model.specs.Answered.{Request, refused, does, reads}
-use Rattle.osm_json.specs.Answered.{RefusalHasShownEnd}
 use Rattle.api_desk.specs.declared.faults.RequestFault.{RequestFault}
 use Rattle.api_desk.specs.declared.faults.RequestFault.TheVariants as fault
 use Rattle.api_desk.specs.declared.requests.Request.{Request as Made}

@@ -1,11 +1,11 @@
 -- What a message asks, by the users of the server.
 use Rattle.std.specs.Prelude.{ℕ, List, map, slice_get, Result, Ok, Err}
 use Rattle.std.specs.Option.{option_map_or}
+use Rattle.osm_base.specs.Outcome.{◌>>=◌, refuse_if}
 use Rattle.osm_base.specs.declared.people.User.{User}
 use Rattle.osm_change.specs.declared.refusals.Refusal.{Refusal}
 use Rattle.osm_change.specs.declared.refusals.Refusal.TheVariants.{NoPath, NoUser, Xml}
 use Rattle.osm_model.specs.Answered.{Request, refused, does, reads}
-use Rattle.map_state.specs.Outcome.{◌>>=◌, refuse_if}
 use Rattle.http_wire.specs.declared.message.Message.{Message}
 use Rattle.user_table.specs.declared.tables.Who.{Who}
 use Rattle.user_table.specs.declared.tables.Who.TheVariants.{Anonymous, Known, Unknown}

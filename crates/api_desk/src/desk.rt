@@ -1,6 +1,6 @@
 //! A desk for one thread, over a journal.
 ghost use Rattle.std.specs.Prelude.{◌≡◌, Some, IfOk, OnOk, OnErr};
-ghost use Rattle.osm_json.specs.Answered.{HasShownMoments};
+ghost use Rattle.osm_change.specs.Moments.{HasShownMoments};
 ghost use Rattle.osm_model.specs.Act.{act};
 ghost use Rattle.osm_model.specs.Ask.{ask};
 ghost use Rattle.osm_model.specs.Journal.{IsLegal, replay, journal_after};
@@ -49,9 +49,9 @@ fn change(
     ensures status { IfOk result (λ reply. IsStatus reply.status) }
 {
     let Asked { user, command } = asked;
-    let judged = journal.judge(alloc, session, &user, moment, command)?;
+    let judged = journal.judge(alloc, session, user, moment, command)?;
     let reply = reply_to(alloc, judged.answer())?;
-    journal.keep(alloc, judged)?;
+    journal.keep(judged)?;
     Ok(reply)
 }
 

@@ -15,6 +15,3 @@ pub use desk::OneDesk;
 pub use faults::RequestFault;
 pub use law::desk_answers;
 pub use requests::{Asked, Request, request_of};
-
-#[cfg(test)]
-mod tests;

@@ -9,7 +9,7 @@ use osm_base::{Key, Kind};
 use osm_model::Query;
 
 /// What a request line asks for (OpenStreetMap wiki, API v0.6, "Changesets" and "Elements").
-#[derive(Clone, Copy, Debug)]
+#[derive(Debug, Drop)]
 pub enum Call {
     /// Anybody may read who isn't taken for somebody whom the server doesn't know.
     Read(Query),

@@ -1,7 +1,13 @@
-pub mod Stepped
-pub mod Kept
+pub mod Steps
+pub mod References
+pub mod Versions
+pub mod Underway
+pub mod Made
+pub mod Works
+pub mod Advances
+pub mod Told
+pub mod Replayed
 pub mod JournalLemmas
 pub mod Calls
+mod Opened
 mod Rows
-pub mod Points
-pub mod Timely

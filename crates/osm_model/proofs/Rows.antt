@@ -1,6 +1,8 @@
 -- Worked rows: small runs of the rules, computed.
-use Rattle.std.specs.Prelude.{◌≡◌, refl, ℕ, true, false, List, [], ◌∷◌, fold, Option, Some, None, pos, negsuc}
+use Rattle.std.specs.Prelude.{◌≡◌, refl, ℕ, true, false, List, [], ◌∷◌, fold, map, replicate, Option, Some, None, option_and_then, pos, negsuc}
+use Rattle.osm_base.specs.Place.{Area}
 use Rattle.osm_base.specs.declared.keys.Kind.TheVariants as kind
+use Rattle.osm_base.specs.declared.keys.Key.{Key}
 use Rattle.osm_base.specs.declared.people.User.{User}
 use Rattle.osm_element.specs.declared.contents.Content.{Content}
 use Rattle.osm_element.specs.declared.contents.Member.{Member}
@@ -16,8 +18,9 @@ use Rattle.osm_change.specs.declared.refusals.Refusal.TheVariants as refused
 use Rattle.osm_change.specs.declared.refusals.Said.TheVariants.{Id, Placeholder}
 use Rattle.osm_model.specs.declared.commands.Command.{Command}
 use Rattle.osm_model.specs.declared.commands.Command.TheVariants as command
-use Rattle.map_state.specs.declared.states.State.{State}
-use Rattle.map_state.specs.State.{empty}
+use Rattle.osm_model.specs.declared.states.State.{State}
+use Rattle.changeset_core.specs.declared.records.ChangesetRecord.{ChangesetRecord}
+use Rattle.osm_model.specs.State.{empty, changeset}
 use Rattle.osm_model.specs.Act.{act}
 
 abbrev alice : User
@@ -179,3 +182,86 @@ redact_without_a_redaction :
     last_answer empty (made ∷ one_node ∷ []) (command.Redact (record { kind = kind.Node; id = 1 }) 1 1)
     ≡ answer.Refused (refused.NoRedaction 1)
 redact_without_a_redaction = refl
+
+abbrev node_1 : Key
+node_1 = record { kind = kind.Node; id = 1 }
+
+redact_what_never_was :
+    last_answer empty (made ∷ command.MakeRedaction [] ∷ []) (command.Redact node_1 1 1)
+    ≡ answer.Refused (refused.NoElement (Id 1) None kind.Node)
+redact_what_never_was = refl
+
+-- taking off a mark that isn't there is accepted
+unredact_without_a_mark : last_answer empty (made ∷ one_node ∷ []) (command.Unredact node_1 1) ≡ answer.Nothing
+unredact_without_a_mark = refl
+
+-- ---- ids
+
+-- the id of what was created and deleted isn't given again
+created_after_a_delete :
+    last_answer empty (made ∷ [])
+    (up (Create (negsuc 2) (node 1 2) [] ∷ Delete kind.Node (New 0) 1 false ∷ Create (negsuc 3) (node 1 2) [] ∷ []))
+    ≡ answer.Diff (
+    record { kind = kind.Node; old_id = negsuc 2; new_id = Some 1; new_version = Some 1 }
+    ∷ record { kind = kind.Node; old_id = negsuc 2; new_id = None; new_version = None }
+    ∷ record { kind = kind.Node; old_id = negsuc 3; new_id = Some 2; new_version = Some 1 }
+    ∷ [])
+created_after_a_delete = refl
+
+-- ---- boxes
+
+abbrev box_of : State → ℕ → Option Area
+box_of P c = option_and_then (λ r. r.touched) (changeset P c)
+
+abbrev two_nodes : Command
+two_nodes = up (Create (negsuc 0) (node 1 1) [] ∷ Create (negsuc 1) (node 9 9) [] ∷ [])
+
+abbrev way_of : List Name → Content Name
+way_of names = content.Way names
+
+-- the nodes that a way listed before are in the box
+box_of_a_modified_way :
+    box_of
+    (run empty
+    (made
+    ∷ two_nodes
+    ∷ up (Create (negsuc 0) (way_of (Old 1 ∷ Old 2 ∷ [])) [] ∷ [])
+    ∷ made
+    ∷ command.Upload 2 (Modify (Old 1) 1 (way_of (Old 2 ∷ [])) [] ∷ [])
+    ∷ []))
+    2
+    ≡ Some (record { left = pos 1; bottom = pos 1; right = pos 9; top = pos 9 })
+box_of_a_modified_way = refl
+
+-- a node of a relation is in the box, a way isn't
+abbrev members : List (Member Name) → Command
+members ms = command.Upload 2 (Create (negsuc 0) (content.Relation ms) [] ∷ [])
+
+box_of_a_relation :
+    box_of (run empty (made ∷ two_nodes ∷ made ∷ members (member_of (Old 2) ∷ []) ∷ [])) 2
+    ≡ Some (record { left = pos 9; bottom = pos 9; right = pos 9; top = pos 9 })
+box_of_a_relation = refl
+
+no_box_of_a_relation_of_a_way :
+    box_of (run empty (made ∷ with_way ∷ made ∷ members (record { kind = kind.Way; name = Old 1; role = [] } ∷ []) ∷ [])) 2
+    ≡ None
+no_box_of_a_relation_of_a_way = refl
+
+-- ---- a full changeset
+
+abbrev full_record : ChangesetRecord → ChangesetRecord
+full_record r = record r { did = replicate 10000 (record { key = node_1; version = 1 }) }
+
+abbrev full : State → State
+full P = record P { changesets = map full_record P.changesets }
+
+-- a skipped delete is no change
+skipped_in_a_full_changeset :
+    (act (full (run empty (made ∷ with_way ∷ []))) alice 1700000000 (up (Delete kind.Node (Old 1) 1 true ∷ []))).1
+    ≡ answer.Diff (row_of (Some 1) (Some 1) ∷ [])
+skipped_in_a_full_changeset = refl
+
+one_more_in_a_full_changeset :
+    (act (full (run empty (made ∷ with_way ∷ []))) alice 1700000000 (up (Create (negsuc 0) (node 1 1) [] ∷ []))).1
+    ≡ answer.Refused (refused.Full 1 1 10000 10000)
+one_more_in_a_full_changeset = refl

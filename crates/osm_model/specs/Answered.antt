@@ -7,9 +7,8 @@ use Rattle.osm_change.specs.declared.answers.Answer.TheVariants as answer
 use Rattle.osm_change.specs.declared.refusals.Refusal.{Refusal}
 use Rattle.osm_model.specs.declared.commands.Command.{Command}
 use Rattle.osm_model.specs.declared.commands.Entry.{Entry}
-use Rattle.osm_model.specs.declared.commands.Accepted.{Accepted}
-use Rattle.map_state.specs.declared.states.State.{State}
-use Rattle.osm_model.specs.Act.{judge}
+use Rattle.osm_model.specs.declared.states.State.{State}
+use Rattle.osm_model.specs.Act.{Effect, judge}
 use Rattle.osm_model.specs.Ask.{ask}
 use Rattle.osm_model.specs.declared.queries.Query.{Query}
 use Rattle.osm_model.specs.Journal.{replay, calls_of}
@@ -58,7 +57,7 @@ pub record RefusesCommand (F : List Entry) (before : Place) (user : User) (c : C
 -- The map accepts the command at a point that isn't before the last one, and there the journal has it, once and whole.
 pub record AcceptsCommand (F : List Entry) (session : ℕ) (before : Place) (user : User) (c : Command) (moment : ℕ) (reply : Option Answer) (after : Place) : Type 0 where
   pub at : ℕ
-  pub done : Accepted
+  pub done : Effect
   pub later : before.point ≤ at
   pub judged : judge (map_at F at) user (stamp_on (map_at F at) moment) c ≡ Ok done
   pub told : reply ≡ Some done.answer

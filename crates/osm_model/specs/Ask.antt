@@ -5,11 +5,11 @@ use Rattle.osm_base.specs.Stamp.{stamp_after}
 use Rattle.osm_change.specs.declared.answers.Answer.{Answer}
 use Rattle.osm_change.specs.declared.answers.Answer.TheVariants as answer
 use Rattle.osm_change.specs.declared.refusals.Refusal.TheVariants as refused
-use Rattle.map_state.specs.declared.states.State.{State}
-use Rattle.map_state.specs.Changeset.{changeset_row}
-use Rattle.map_state.specs.State.{changeset}
 use Rattle.osm_model.specs.declared.queries.Query.{Query}
 use Rattle.osm_model.specs.declared.queries.Query.TheVariants as query
+use Rattle.osm_model.specs.declared.states.State.{State}
+use Rattle.osm_model.specs.Changeset.{changeset_row}
+use Rattle.osm_model.specs.State.{changeset}
 
 -- a changeset as it is at a stamp
 abbrev pub ask_changeset : State → ℕ → ℕ → Answer

@@ -1,16 +1,15 @@
 -- The journal: the list of accepted commands.
-use Rattle.std.specs.Prelude.{◌≡◌, ℕ, ◌+◌, ◌==◌, List, [], ◌∷◌, ◌++◌, take, fold, count_by, slice_get, Some, Result, Ok, Err, IsOk}
+use Rattle.std.specs.Prelude.{◌≡◌, ℕ, ◌+◌, Bool, true, ◌&&◌, ◌==◌, is_ok, List, [], ◌∷◌, ◌++◌, fold, count_by, Result, Ok, Err}
 use Rattle.osm_base.specs.Stamp.{stamp_after}
 use Rattle.osm_base.specs.declared.people.User.{User}
 use Rattle.osm_change.specs.declared.refusals.Refusal.{Refusal}
+use Rattle.osm_element.specs.Elements.{IsConsistent}
+use Rattle.osm_element.specs.Later.{IsBegun}
 use Rattle.osm_model.specs.declared.commands.Command.{Command}
 use Rattle.osm_model.specs.declared.commands.Entry.{Entry}
-use Rattle.osm_model.specs.declared.commands.Accepted.{Accepted}
-use Rattle.map_state.specs.declared.states.State.{State}
-use Rattle.map_state.specs.State.{empty}
-use Rattle.osm_element.specs.Elements.{IsConsistent}
-use Rattle.map_state.specs.Later.{IsBegun}
-use Rattle.osm_model.specs.Act.{act, judge}
+use Rattle.osm_model.specs.declared.states.State.{State}
+use Rattle.osm_model.specs.State.{empty}
+use Rattle.osm_model.specs.Act.{Effect, act, judge}
 
 -- the state after an entry
 abbrev pub after : State → Entry → State
@@ -22,27 +21,46 @@ replay entries = fold after empty entries
 abbrev pub calls_of : ℕ → List Entry → ℕ
 calls_of session entries = count_by (λ e. e.session == session) entries
 
--- the entry may follow these entries
-pub record Follows (entries : List Entry) (e : Entry) : Type 0 where
-  pub accepted : IsOk (judge (replay entries) e.user e.stamp e.command)
-  pub stamped : stamp_after (replay entries).last e.stamp ≡ e.stamp
-  pub numbered : e.call ≡ calls_of e.session entries + 1
+-- the state accepts the entry's command at the entry's stamp, which is no earlier than its last one
+abbrev pub takes : State → Entry → Bool
+takes P e = is_ok (judge P e.user e.stamp e.command) && (stamp_after P.last e.stamp == e.stamp)
+
+-- each entry is taken where it stands
+abbrev pub is_legal_from : State → List Entry → Bool
+is_legal_from P [] = true
+is_legal_from P (e ∷ es) = takes P e && is_legal_from (after P e) es
+
+-- the calls of each session are numbered 1, 2, 3 and so on, in order, those of before among them
+abbrev pub is_numbered : List Entry → List Entry → Bool
+is_numbered before [] = true
+is_numbered before (e ∷ es) = (e.call == calls_of e.session before + 1) && is_numbered (before ++ e ∷ []) es
 
 -- each entry may follow those before it
 pub record IsLegal (entries : List Entry) : Type 0 where
-  pub each : (n : ℕ) (e : Entry) → slice_get entries n ≡ Some e → Follows (take n entries) e
+  pub taken : is_legal_from empty entries ≡ true
+  pub numbered : is_numbered [] entries ≡ true
 
--- the journal after a command, and the answer to it
-abbrev pub next_entry : List Entry → ℕ → User → ℕ → Command → Entry
-next_entry entries session user moment c = record {
+-- T is S after entries, each of them taken where it stands
+pub record Later (S T : State) : Type 0 where
+  pub since : List Entry
+  pub taken : is_legal_from S since ≡ true
+  pub comes_to : T ≡ fold after S since
+
+-- the entry of a command that is accepted at a moment
+abbrev pub entry_of : State → ℕ → ℕ → User → ℕ → Command → Entry
+entry_of P session call user moment c = record {
   session = session;
-  call = calls_of session entries + 1;
+  call = call;
   user = user;
-  stamp = stamp_after (replay entries).last moment;
+  stamp = stamp_after P.last moment;
   command = c;
 }
 
-abbrev pub appended : List Entry → Entry → Result Accepted Refusal → List Entry
+-- the entry that follows the others of its session
+abbrev pub next_entry : List Entry → ℕ → User → ℕ → Command → Entry
+next_entry entries session user moment c = entry_of (replay entries) session (calls_of session entries + 1) user moment c
+
+abbrev pub appended : List Entry → Entry → Result Effect Refusal → List Entry
 appended entries e (Ok done) = entries ++ e ∷ []
 appended entries e (Err r) = entries
 

@@ -1,7 +1,15 @@
+pub mod Outcome
+pub mod Changeset
+pub mod State
+pub mod Upload
+pub mod Names
+pub mod Operation
+pub mod Fold
 pub mod Act
-pub mod Step
+pub mod Edit
 pub mod Journal
-pub mod Judged
+pub mod Judgement
 pub mod Ask
 pub mod Answered
 pub mod Timely
+pub mod Attributed

@@ -1,11 +1,12 @@
 ghost use Rattle.std.specs.Prelude.{◌≡◌, IfOk};
-ghost use Rattle.map_state.specs.Later.{Keeps};
+ghost use Rattle.osm_element.specs.Later.{Keeps};
 ghost use Rattle.osm_model.specs.Act.{act};
 
 use crate::commands::Command;
+use crate::edits::take_edit;
+use crate::faults::Fault;
 use crate::judgements::judge;
-use crate::steps::take_step;
-use map_state::{Fault, State};
+use crate::states::State;
 use osm_base::{Memory, Stamp, User};
 use osm_change::Answer;
 use std::alloc::Global;
@@ -23,8 +24,8 @@ pub fn plain_act(
 {
     let at = Stamp::after(state.last, moment);
     match judge(alloc, &state, user, at, command) {
-        Ok((step, answer)) => {
-            take_step(alloc, &mut state, step)?;
+        Ok((edit, answer)) => {
+            take_edit(&mut state, edit)?;
             state.last = at;
             Ok((state, answer))
         }

@@ -1,6 +1,5 @@
-use map_state::State;
 use osm_base::{Key, Memory, Stamp, Text, TryCopy, User};
-use osm_change::{Answer, Change, OneOp};
+use osm_change::{Change, OneOp};
 use osm_element::Tags;
 use std::alloc::Global;
 
@@ -102,11 +101,4 @@ impl TryCopy for Entry {
             command,
         })
     }
-}
-
-/// What an accepted command leaves and answers.
-#[derive(Debug, Drop)]
-pub struct Accepted {
-    pub state: State,
-    pub answer: Answer,
 }

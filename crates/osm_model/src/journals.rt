@@ -1,14 +1,17 @@
 ghost use Rattle.std.specs.Prelude.{◌≡◌, ◌<◌, ◌^◌, [], ◌∷◌, ◌++◌, IfOk, OnOk, OnErr};
 ghost use Rattle.osm_element.specs.Elements.{IsConsistent};
-ghost use Rattle.map_state.specs.Later.{IsBegun};
+ghost use Rattle.osm_element.specs.Later.{IsBegun};
+ghost use Rattle.osm_change.specs.Moments.{HasShownMoments};
 ghost use Rattle.osm_model.specs.Act.{act};
 ghost use Rattle.osm_model.specs.Journal.{IsLegal, replay, journal_after, calls_of};
-ghost use Rattle.osm_model.specs.Judged.{IsJudgedOn, IsKeptOn, answer_of, kept_after};
+ghost use Rattle.osm_model.specs.Judgement.{IsJudgedOn, IsKeptOn, answer_of, kept_after};
+ghost use Rattle.osm_model.specs.Timely.{IsTimely};
 
 use crate::commands::{Command, Entry};
+use crate::edits::{Edit, take_edit};
+use crate::faults::Fault;
 use crate::judgements::judge;
-use crate::steps::{Step, take_step};
-use map_state::{Fault, State};
+use crate::states::State;
 use osm_base::{Memory, Stamp, TryCopy, User};
 use osm_change::Answer;
 use std::alloc::Global;
@@ -39,17 +42,17 @@ impl Model for Journal {
 #[derive(Debug, Drop)]
 pub struct Kept {
     entry: Entry,
-    step: Step,
+    edit: Edit,
 }
 
 /// What a command comes to on a journal, before it is kept there. A refused one is never kept.
 #[derive(Debug, Drop)]
-pub struct Judged {
+pub struct Judgement {
     kept: Option<Kept>,
     answer: Answer,
 }
 
-impl Judged {
+impl Judgement {
     /// What the command is answered.
     pub fn answer(&self) -> &Answer
         ensures { result.now ≡ answer_of self.now }
@@ -82,6 +85,7 @@ impl Journal {
         ensures replayed { result.now ≡ replay self.now }
         ensures consistent { IsConsistent result.now.elements }
         ensures begun { IsBegun result.now.elements }
+        ensures timely { IsTimely result.now }
     {
         &self.state
     }
@@ -91,31 +95,32 @@ impl Journal {
         &self,
         alloc: Global,
         session: u32,
-        user: &User,
+        user: User,
         moment: u64,
         command: Command,
-    ) -> Result<Judged, Memory>
-        ensures answer { IfOk result (λ judged. answer_of judged ≡ (act (replay self.now) user.now moment command).1) }
+    ) -> Result<Judgement, Memory>
+        ensures answer { IfOk result (λ judged. answer_of judged ≡ (act (replay self.now) user moment command).1) }
+        ensures shown { IfOk result (λ judged. HasShownMoments (answer_of judged)) }
         ensures judged { IfOk result (IsJudgedOn self.now) }
         ensures after { IfOk result (λ judged. kept_after self.now judged
-            ≡ journal_after self.now session user.now moment command) }
+            ≡ journal_after self.now session user moment command) }
     {
         let at = Stamp::after(self.state.last, moment);
-        match judge(alloc, &self.state, user, at, &command) {
-            Ok((step, answer)) => {
+        match judge(alloc, &self.state, &user, at, &command) {
+            Ok((edit, answer)) => {
                 let entry = Entry {
                     session,
                     call: calls_of(self.entries(), session) + 1,
-                    user: user.copy(alloc)?,
+                    user,
                     stamp: at,
                     command,
                 };
-                Ok(Judged {
-                    kept: Some(Kept { entry, step }),
+                Ok(Judgement {
+                    kept: Some(Kept { entry, edit }),
                     answer,
                 })
             }
-            Err(Fault::Refused(refusal)) => Ok(Judged {
+            Err(Fault::Refused(refusal)) => Ok(Judgement {
                 kept: None,
                 answer: Answer::Refused(refusal),
             }),
@@ -125,7 +130,7 @@ impl Journal {
 
     /// Keeps what was judged on this journal, and gives its answer back.
     #[tactic(auto, using(crate::proofs::JournalLemmas::replay_consistent))]
-    pub fn keep(&mut self, alloc: Global, judged: Judged) -> Result<Answer, Memory>
+    pub fn keep(&mut self, judged: Judgement) -> Result<Answer, Memory>
         requires { IsJudgedOn self.old judged }
         ensures answer { IfOk result (λ answer. answer ≡ answer_of judged) }
         ensures ok { OnOk result (self.new ≡ kept_after self.old judged) }
@@ -134,26 +139,26 @@ impl Journal {
         ensures memory { OnErr result (self.new ≡ self.old) }
     {
         let _ = &self.entries;
-        let Judged { kept, answer } = judged;
+        let Judgement { kept, answer } = judged;
         match kept {
             Some(kept) => {
-                self.keep_entry(alloc, kept)?;
+                self.keep_entry(kept)?;
                 Ok(answer)
             }
             None => Ok(answer),
         }
     }
 
-    fn keep_entry(&mut self, alloc: Global, kept: Kept) -> Result<(), Memory>
+    fn keep_entry(&mut self, kept: Kept) -> Result<(), Memory>
         requires { IsKeptOn self.old kept }
         ensures ok { OnOk result (self.new ≡ self.old ++ kept.entry ∷ []) }
         ensures legal { OnOk result (IsLegal self.new) }
         ensures consistent { OnOk result (IsConsistent (replay self.new).elements) }
         ensures memory { OnErr result (self.new ≡ self.old) }
     {
-        let Kept { entry, step } = kept;
+        let Kept { entry, edit } = kept;
         self.entries.reserve(1)?;
-        take_step(alloc, &mut self.state, step)?;
+        take_edit(&mut self.state, edit)?;
         self.state.last = entry.stamp;
         self.entries.push_reserved(entry);
         Ok(())
@@ -174,8 +179,9 @@ impl Journal {
         ensures consistent { OnOk result (IsConsistent (replay self.new).elements) }
         ensures memory { OnErr result (self.new ≡ self.old) }
     {
+        let user = user.copy(alloc)?;
         let judged = self.judge(alloc, session, user, moment, command)?;
-        self.keep(alloc, judged)
+        self.keep(judged)
     }
 }
 

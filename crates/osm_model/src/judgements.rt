@@ -1,18 +1,22 @@
-ghost use Rattle.std.specs.Prelude.{◌≡◌, Ok, Err, ◌<◌, ◌≤◌, OnOk};
+ghost use Rattle.std.specs.Prelude.{◌≡◌, Ok, Err, ◌<◌, ◌≤◌, OnOk, IfOk};
 ghost use Rattle.osm_element.specs.Elements.{count};
+ghost use Rattle.osm_model.specs.declared.edits.Edit.TheVariants.{EnterWork};
 ghost use Rattle.osm_model.specs.Act.{judge, retag, close_changeset, upload_change, number_of, single_number, single_change, known_version, known_redaction, old_version, redact, unredact};
-ghost use Rattle.osm_model.specs.Step.{Steps};
+ghost use Rattle.osm_model.specs.Edit.{StepsTo};
+ghost use Rattle.osm_model.specs.Fold.{works};
 
+use crate::changesets::{new_changeset, retagged_row};
 use crate::commands::Command;
-use crate::steps::Step;
-use map_state::{Fault, State, count, new_changeset, own_changeset, row_with, version};
-use map_upload::{Progress, diff, done_version, upload};
-use osm_base::{Key, Stamp, TryCopy, User};
+use crate::edits::Edit;
+use crate::faults::Fault;
+use crate::fold::upload;
+use crate::states::State;
+use crate::uploads::Progress;
+use osm_base::{Key, Memory, Stamp, TryCopy, User};
 use osm_change::{Answer, Change, Op, OpDone, Refusal, Said};
 use osm_element::Tags;
 use std::alloc::Global;
 
-#[tactic(auto, using(crate::proofs::Stepped::retag_step))]
 fn retag(
     alloc: Global,
     state: &State,
@@ -20,26 +24,40 @@ fn retag(
     at: Stamp,
     id: u64,
     tags: &Tags,
-) -> Result<(Step, Answer), Fault>
-    ensures { Steps state.now (retag state.now user.now at id tags.now) result }
+) -> Result<(Edit, Answer), Fault>
+    ensures { StepsTo state.now (retag state.now user.now at id tags.now) result }
 {
-    let kept = own_changeset(state, user, at, id)?;
-    let told = row_with(alloc, id, kept, tags, at, at)?;
+    let kept = state.own_changeset(user, at, id)?;
+    let told = retagged_row(alloc, id, kept, tags, at)?;
     let tags = tags.copy(alloc)?;
-    let step = Step::SetTags {
+    let edit = Edit::SetTags {
         changeset: id,
         tags,
         at,
     };
-    Ok((step, Answer::Changeset(told)))
+    Ok((edit, Answer::Changeset(told)))
 }
 
-#[tactic(auto, using(crate::proofs::Stepped::close_step))]
-fn close_changeset(state: &State, user: &User, at: Stamp, id: u64) -> Result<(Step, Answer), Fault>
-    ensures { Steps state.now (close_changeset state.now user.now at id) result }
+fn close_changeset(state: &State, user: &User, at: Stamp, id: u64) -> Result<(Edit, Answer), Fault>
+    ensures { StepsTo state.now (close_changeset state.now user.now at id) result }
 {
-    own_changeset(state, user, at, id)?;
-    Ok((Step::SetEnd { changeset: id, at }, Answer::Nothing))
+    state.own_changeset(user, at, id)?;
+    Ok((Edit::SetEnd { changeset: id, at }, Answer::Nothing))
+}
+
+/// What an upload leaves, as an edit.
+fn work_of(alloc: Global, id: u64, at: Stamp, progress: Progress) -> Result<Edit, Memory>
+    ensures { IfOk result (λ edit. edit
+        ≡ EnterWork id at progress.elements (works progress.keys progress.done) progress.touched) }
+{
+    let works = progress.works(alloc)?;
+    Ok(Edit::EnterWork {
+        changeset: id,
+        at,
+        elements: progress.elements,
+        works,
+        touched: progress.touched,
+    })
 }
 
 fn upload_change(
@@ -49,12 +67,13 @@ fn upload_change(
     at: Stamp,
     id: u64,
     change: &Change,
-) -> Result<(Step, Answer), Fault>
-    ensures { Steps state.now (upload_change state.now user.now at id change.now) result }
+) -> Result<(Edit, Answer), Fault>
+    ensures { StepsTo state.now (upload_change state.now user.now at id change.now) result }
 {
     let progress = upload(alloc, state, user, at, id, change)?;
-    let rows = diff(alloc, change, &progress)?;
-    Ok((Step::Replace(progress.state), Answer::Diff(rows)))
+    let rows = change.rows(alloc, progress.keys.items(), progress.done.items())?;
+    let edit = work_of(alloc, id, at, progress)?;
+    Ok((edit, Answer::Diff(rows)))
 }
 
 fn number_of(operation: &Op, key: Key, done: OpDone) -> u64
@@ -62,10 +81,11 @@ fn number_of(operation: &Op, key: Key, done: OpDone) -> u64
 {
     match operation {
         Op::Create { .. } => key.id,
-        _ => done_version(done),
+        Op::Modify { .. } | Op::Delete { .. } => done.version(),
     }
 }
 
+/// The number that a change with one operation answers. It has a key and an outcome.
 fn single_number(operations: &[Op], keys: &[Key], done: &[OpDone]) -> u64
     ensures { result ≡ single_number operations.now keys.now done.now }
 {
@@ -82,16 +102,17 @@ fn single_change(
     at: Stamp,
     id: u64,
     change: &Change,
-) -> Result<(Step, Answer), Fault>
-    ensures { Steps state.now (single_change state.now user.now at id change.now) result }
+) -> Result<(Edit, Answer), Fault>
+    ensures { StepsTo state.now (single_change state.now user.now at id change.now) result }
 {
-    let Progress {
-        state: made,
-        keys,
-        done,
-    } = upload(alloc, state, user, at, id, change)?;
-    let number = single_number(change.operations(), keys.items(), done.items());
-    Ok((Step::Replace(made), Answer::Number(number)))
+    let progress = upload(alloc, state, user, at, id, change)?;
+    let number = single_number(
+        change.operations(),
+        progress.keys.items(),
+        progress.done.items(),
+    );
+    let edit = work_of(alloc, id, at, progress)?;
+    Ok((edit, Answer::Number(number)))
 }
 
 /// The version exists.
@@ -99,14 +120,14 @@ fn known_version(state: &State, key: Key, number: u64) -> Result<(), Refusal>
     ensures value { result ≡ known_version state.now key number }
     ensures there { OnOk result ((0 < number) × (number ≤ count state.now.elements key)) }
 {
-    if count(&state.elements, key) == 0 {
+    if state.elements.count(key) == 0 {
         return Err(Refusal::NoElement {
             id: Said::Id(key.id),
             op: None,
             kind: key.kind,
         });
     }
-    if version(&state.elements, key, number).is_none() {
+    if state.elements.version(key, number).is_none() {
         return Err(Refusal::NoSuchVersion {
             id: Said::Id(key.id),
             kind: key.kind,
@@ -131,7 +152,7 @@ fn known_redaction(state: &State, redaction: u64) -> Result<(), Refusal>
 fn old_version(state: &State, key: Key, number: u64) -> Result<(), Refusal>
     ensures { result ≡ old_version state.now key number }
 {
-    if number == count(&state.elements, key) {
+    if number == state.elements.count(key) {
         Err(Refusal::RedactCurrent {
             id: Said::Id(key.id),
             kind: key.kind,
@@ -142,30 +163,30 @@ fn old_version(state: &State, key: Key, number: u64) -> Result<(), Refusal>
     }
 }
 
-fn redact(state: &State, key: Key, number: u64, redaction: u64) -> Result<(Step, Answer), Fault>
-    ensures { Steps state.now (redact state.now key number redaction) result }
+fn redact(state: &State, key: Key, number: u64, redaction: u64) -> Result<(Edit, Answer), Fault>
+    ensures { StepsTo state.now (redact state.now key number redaction) result }
 {
     known_version(state, key, number)?;
     known_redaction(state, redaction)?;
     old_version(state, key, number)?;
-    let step = Step::Mark {
+    let edit = Edit::Mark {
         key,
         version: number,
         redaction: Some(redaction),
     };
-    Ok((step, Answer::Nothing))
+    Ok((edit, Answer::Nothing))
 }
 
-fn unredact(state: &State, key: Key, number: u64) -> Result<(Step, Answer), Fault>
-    ensures { Steps state.now (unredact state.now key number) result }
+fn unredact(state: &State, key: Key, number: u64) -> Result<(Edit, Answer), Fault>
+    ensures { StepsTo state.now (unredact state.now key number) result }
 {
     known_version(state, key, number)?;
-    let step = Step::Mark {
+    let edit = Edit::Mark {
         key,
         version: number,
         redaction: None,
     };
-    Ok((step, Answer::Nothing))
+    Ok((edit, Answer::Nothing))
 }
 
 /// What a command changes and answers at a stamp. The state stays as it is.
@@ -175,14 +196,14 @@ pub fn judge(
     user: &User,
     at: Stamp,
     command: &Command,
-) -> Result<(Step, Answer), Fault>
-    ensures { Steps state.now (judge state.now user.now at command.now) result }
+) -> Result<(Edit, Answer), Fault>
+    ensures { StepsTo state.now (judge state.now user.now at command.now) result }
 {
     match command {
         Command::CreateChangeset { tags } => {
             let made = new_changeset(alloc, user, at, tags)?;
             let id = state.changesets.items().len() as u64 + 1;
-            Ok((Step::AddChangeset(made), Answer::Number(id)))
+            Ok((Edit::AddChangeset(made), Answer::Number(id)))
         }
         Command::Retag { changeset, tags } => retag(alloc, state, user, at, *changeset, tags),
         Command::CloseChangeset { changeset } => close_changeset(state, user, at, *changeset),
@@ -194,7 +215,7 @@ pub fn judge(
         }
         Command::MakeRedaction { title } => {
             let id = state.redactions.items().len() as u64 + 1;
-            Ok((Step::AddRedaction(title.copy(alloc)?), Answer::Number(id)))
+            Ok((Edit::AddRedaction(title.copy(alloc)?), Answer::Number(id)))
         }
         Command::Redact {
             key,

@@ -1,9 +1,19 @@
-//! Laws on whole journals.
-ghost use Rattle.std.specs.Prelude.{ℕ, List};
+//! Laws on whole journals, and on the maps that their entries make.
+ghost use Rattle.std.specs.Prelude.{◌≡◌, ℕ, true, List, Ok};
+ghost use Rattle.osm_base.specs.Stamp.{stamp_after};
+ghost use Rattle.osm_base.specs.declared.people.User.{User};
 ghost use Rattle.osm_element.specs.Elements.{IsConsistent};
+ghost use Rattle.osm_element.specs.Later.{Keeps};
+ghost use Rattle.osm_change.specs.declared.operations.Op.{Op};
+ghost use Rattle.osm_model.specs.declared.commands.Command.{Command};
 ghost use Rattle.osm_model.specs.declared.commands.Entry.{Entry};
+ghost use Rattle.osm_model.specs.declared.states.State.{State};
+ghost use Rattle.osm_model.specs.declared.uploads.Progress.{Progress};
+ghost use Rattle.osm_model.specs.Act.{Effect, judge};
 ghost use Rattle.osm_model.specs.Answered.{map_at};
-ghost use Rattle.osm_model.specs.Journal.{IsLegal, replay};
+ghost use Rattle.osm_model.specs.Attributed.{IsAttributed};
+ghost use Rattle.osm_model.specs.Fold.{upload, made, all_pushed};
+ghost use Rattle.osm_model.specs.Journal.{IsLegal, Later, replay, takes, entry_of};
 ghost use Rattle.osm_model.specs.Timely.{IsTimely};
 
 /// At every point of a legal journal, visible ways and relations name only visible elements.
@@ -14,4 +24,31 @@ pub fn points_are_consistent()
 /// No map that entries make, legal or not, keeps a moment past `MOMENT_LIMIT`.
 pub fn moments_are_bounded()
     ensures { (entries : List Entry) → IsTimely (replay entries) }
+{}
+
+/// In every map that entries make, legal or not, the changeset of each version is there, and so is
+/// each version that a changeset made.
+pub fn versions_are_attributed()
+    ensures { (entries : List Entry) → IsAttributed (replay entries) }
+{}
+
+/// Later entries take no id back, keep what versions hold, and leave consistent elements consistent.
+pub fn later_maps_keep()
+    ensures { (earlier later : State) → Later earlier later → Keeps earlier.elements later.elements }
+{}
+
+/// What a map accepts at a moment makes an entry that this map takes, whatever session and call
+/// number it bears.
+pub fn accepted_entries_are_taken()
+    ensures { (map : State) (session call : ℕ) (user : User) (moment : ℕ) (command : Command) (done : Effect)
+        → judge map user (stamp_after map.last moment) command ≡ Ok done
+        → takes map (entry_of map session call user moment command) ≡ true }
+{}
+
+/// The elements that an upload leaves are those of before with the versions that it made, in their
+/// order.
+pub fn uploads_push_what_they_made()
+    ensures { (map : State) (user : User) (stamp id : ℕ) (operations : List Op) (done : Progress)
+        → upload map user stamp id operations ≡ Ok done
+        → done.elements ≡ all_pushed map.elements (made done) }
 {}

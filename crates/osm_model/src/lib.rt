@@ -3,21 +3,32 @@
 
 mod acts;
 mod asks;
+mod changesets;
 mod commands;
+mod edits;
+mod effects;
+mod faults;
+mod fold;
 mod journals;
 mod judgements;
 mod law;
+mod names;
+mod operations;
+mod preconditions;
 mod queries;
-mod steps;
+mod states;
+mod uploads;
 
 pub use acts::plain_act;
 pub use asks::plain_ask;
-pub use commands::{Accepted, Command, Entry};
-pub use journals::{Journal, Judged};
-pub use law::{moments_are_bounded, points_are_consistent};
-pub use map_state::{Changeset, State, Work};
+pub use commands::{Command, Entry};
+pub use faults::Fault;
+pub use fold::upload;
+pub use journals::{Journal, Judgement};
+pub use law::{
+    accepted_entries_are_taken, later_maps_keep, moments_are_bounded, points_are_consistent,
+    uploads_push_what_they_made, versions_are_attributed,
+};
 pub use queries::Query;
-pub use steps::Step;
-
-#[cfg(test)]
-mod tests;
+pub use states::State;
+pub use uploads::Progress;

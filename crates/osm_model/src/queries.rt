@@ -1,5 +1,5 @@
 /// What a caller asks to see.
-#[derive(Clone, Copy, Debug)]
+#[derive(Debug, Drop)]
 pub enum Query {
     Changeset { id: u64 },
 }

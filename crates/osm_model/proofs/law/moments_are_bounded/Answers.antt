@@ -1,4 +1,4 @@
-use Rattle.osm_model.proofs.Timely.{replay_timely}
+use Rattle.osm_model.proofs.Replayed.{replay_timely}
 use Rattle.osm_model.proofs.law.moments_are_bounded.Goals as goal
 
 pub returns : goal.returns

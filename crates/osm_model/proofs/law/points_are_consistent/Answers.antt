@@ -1,5 +1,5 @@
-use Rattle.osm_model.proofs.Points.{point_consistent}
+use Rattle.osm_model.proofs.Replayed.{point_consistent}
 use Rattle.osm_model.proofs.law.points_are_consistent.Goals as goal
 
 pub returns : goal.returns
-returns c = point_consistent
+returns c = λ es legal n. point_consistent es n

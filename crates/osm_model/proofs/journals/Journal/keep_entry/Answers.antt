@@ -1,6 +1,6 @@
 use Rattle.std.proofs.Common.{[], ◌∷◌, ◌++◌}
 use Rattle.osm_model.proofs.JournalLemmas.{keeps, replay_consistent, IsLegal-push}
-use Rattle.osm_model.specs.Judged.{IsKeptOn}
+use Rattle.osm_model.specs.Judgement.{IsKeptOn}
 use Rattle.osm_model.proofs.journals.Journal.keep_entry.Goals as goal
 
 pub invariant_of-self-2 : goal.invariant_of-self-2
@@ -11,18 +11,18 @@ invariant_of-self-2 c =
     (keeps
     c.self.inside.entries.items
     c.self.inside.state
-    c.take_step.new.state
+    c.take_edit.new.state
     c.args.kept
     (record { legal = c.self.invariant.legal; replayed = c.self.invariant.replayed; consistent = c.self.invariant.consistent; begun = c.self.invariant.begun })
     on
-    c.in_ok-take_step.ensures.ok)
+    c.in_ok-take_edit.ensures.ok)
 
 pub returns-clause-legal : goal.returns-clause-legal
 returns-clause-legal c =
     let on : IsKeptOn c.self.inside.entries.items c.args.kept = rw c.self.view_is c.requires in
     rw
     (c.push_reserved.ensures.items, c.reserve.ensures.items)
-    (IsLegal-push c.self.inside.entries.items c.args.kept.entry c.self.invariant.legal on.follows)
+    (IsLegal-push c.self.inside.entries.items c.args.kept.entry c.self.invariant.legal on.taken on.numbered)
 
 pub returns-clause-consistent : goal.returns-clause-consistent
 returns-clause-consistent c =
@@ -30,12 +30,12 @@ returns-clause-consistent c =
     let kept = keeps
     c.self.inside.entries.items
     c.self.inside.state
-    c.take_step.new.state
+    c.take_edit.new.state
     c.args.kept
     (record { legal = c.self.invariant.legal; replayed = c.self.invariant.replayed; consistent = c.self.invariant.consistent; begun = c.self.invariant.begun })
     on
-    c.in_ok-take_step.ensures.ok
+    c.in_ok-take_edit.ensures.ok
     in
     rw
     (c.push_reserved.ensures.items, c.reserve.ensures.items)
-    (replay_consistent (c.self.inside.entries.items ++ c.args.kept.entry ∷ []) (record c.take_step.new.state { last = c.args.kept.entry.stamp }) kept.replayed kept.consistent)
+    (replay_consistent (c.self.inside.entries.items ++ c.args.kept.entry ∷ []) (record c.take_edit.new.state { last = c.args.kept.entry.stamp }) kept.replayed kept.consistent)

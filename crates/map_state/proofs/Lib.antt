@@ -1,4 +1,0 @@
-pub mod Listed
-pub mod Replaced
-pub mod UserSteps
-pub mod Later

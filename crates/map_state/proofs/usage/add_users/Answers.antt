@@ -1,6 +1,0 @@
-use Rattle.std.proofs.Common.{◌+◌, rules, add-one}
-use Rattle.map_state.proofs.UserSteps.{users_step}
-use Rattle.map_state.proofs.usage.add_users.Goals as goal
-
-pub loop-place-preserved : goal.loop-place-preserved
-loop-place-preserved c = users_step c.args.elements.now c.args.kind c.args.used c.args.found.now.items c.loop-place.found.items c.add_user.new.found.items c.loop-place.place (c.loop-place.place + 1) (add-one c.loop-place.place) c.loop-place.invariant (search rules)

@@ -1,4 +1,0 @@
-pub mod Outcome
-pub mod Changeset
-pub mod State
-pub mod Later

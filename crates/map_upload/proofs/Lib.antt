@@ -1,5 +1,0 @@
-pub mod Steps
-pub mod References
-pub mod Kept
-pub mod Zipped
-pub mod Named
