@@ -7,7 +7,7 @@ use Rattle.osm_base.specs.declared.limits.TheConstants.{HEAD_LIMIT}
 use Rattle.http_wire.specs.declared.end.WireEnd.{WireEnd}
 use Rattle.http_wire.specs.declared.end.WireEnd.TheVariants.{Truncated, ReadFault, Memory}
 use Rattle.http_wire.specs.declared.head.Head.{Head}
-use Rattle.http_wire.specs.Received.{Taken, Fills, GaveSome, AgreesWithInput}
+use Rattle.http_wire.specs.Received.{Taken, Fills, HaveBytes, AgreesWithInput}
 use Rattle.http_wire.specs.Block.{IsBlockAt, IsSearched}
 use Rattle.http_wire.specs.Body.{AreShort, Delivers, LacksBody, BodyStops}
 use Rattle.http_wire.specs.Head.{ReadsHead}
@@ -16,7 +16,7 @@ use Rattle.http_wire.specs.Message.{BeginsWith, message_of}
 use Rattle.http_wire.specs.Wire.{AreNeeded, Gathers, Reads, end_limit}
 use Rattle.http_wire.proofs.ListLemmas.{slice_range-append, slice_range-front}
 use Rattle.http_wire.proofs.BlockLemmas.{IsBlockAt-take, IsBlockAt-append, HasNoBlock-from_search}
-use Rattle.http_wire.proofs.ReceivedLemmas.{concat-append, concat-push, Taken-trans, GaveSome-append, GaveAll-push, AgreesWithInput-behind, AreNeeded-append, AreNeeded-push, AreShort-push, nothing}
+use Rattle.http_wire.proofs.ReceivedLemmas.{concat-append, concat-push, Taken-trans, HaveBytes-append, GaveAll-push, AgreesWithInput-behind, AreNeeded-append, AreNeeded-push, AreShort-push, nothing}
 
 -- ---- where no head block is whole
 
@@ -40,7 +40,7 @@ at_none now None searched short = ((searched, short), omega arith)
 at_none now (Some begin) searched short =
     (inl (record { begin = begin; begins = searched.0; no_end = searched.1 }, short), omega arith)
 
-agrees_at_none : (begin : Option ℕ) (b c : Told) (pieces : List (List ℕ)) (now after : List ℕ) → GaveSome pieces
+agrees_at_none : (begin : Option ℕ) (b c : Told) (pieces : List (List ℕ)) (now after : List ℕ) → HaveBytes pieces
     → (f : Fills b c now after 0) → AgreesWithInput (input_ended begin) (pieces ++ f.piece ∷ []) c.left
 agrees_at_none None b c pieces now after some f = GaveAll-push pieces f.piece c.left some f.size (f.at_end refl)
 agrees_at_none (Some begin) b c pieces now after some f = GaveAll-push pieces f.piece c.left some f.size (f.at_end refl)
@@ -192,7 +192,7 @@ Reads-from_body a b c before now body after begin end kept g block limit head d 
   pieces = g.pieces ++ d.pieces;
   taken = Taken-trans a b c g.pieces d.pieces g.taken d.taken;
   needed = all_needed a b before now begin end kept d.pieces g block limit head d.short;
-  stops = GaveSome-append g.pieces d.pieces g.some d.some;
+  stops = HaveBytes-append g.pieces d.pieces g.some d.some;
   limit = few;
   gives = rw (joined_with a b before now d.pieces g) at
       (BeginsWith-from_parts now (concat d.pieces) body after begin end kept block limit head d.joined size);

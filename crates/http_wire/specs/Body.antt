@@ -5,7 +5,7 @@ use Rattle.osm_base.specs.declared.limits.TheConstants.{HEAD_LIMIT}
 use Rattle.osm_outside.specs.Told.{Told}
 use Rattle.http_wire.specs.declared.end.WireEnd.{WireEnd}
 use Rattle.http_wire.specs.declared.end.WireEnd.TheVariants.{Truncated, ReadFault, Memory}
-use Rattle.http_wire.specs.Received.{Taken, GaveSome, AgreesWithInput}
+use Rattle.http_wire.specs.Received.{Taken, HaveBytes, AgreesWithInput}
 
 -- Each piece was read where all before it, joined, are fewer bytes than a body of that size.
 abbrev pub AreShort : List ℕ → ℕ → List (List ℕ) → Type 0
@@ -17,7 +17,7 @@ pub record Delivers (old new : Told) (before : List ℕ) (size : ℕ) (part afte
   pub pieces : List (List ℕ)
   pub taken : Taken old new pieces
   pub short : AreShort before size pieces
-  pub some : GaveSome pieces
+  pub some : HaveBytes pieces
   pub joined : before ++ concat pieces ≡ part ++ after
 
 -- What stands there in place of a body: too few bytes, or at most a head's limit more where there was no memory.

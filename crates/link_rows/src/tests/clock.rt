@@ -1,8 +1,8 @@
 //! When the clock is read.
-use crate::{Desk, LinkEnd, Reply, serve_desk};
-use http_wire::Message;
+use super::desks::MomentDesk;
+use http_link::{LinkEnd, serve_desk};
 use osm_base::{Bytes, Memory};
-use osm_outside::{Clock, Failed, Link, MemLink, Outside, Sink, Source};
+use osm_outside::{Clock, Failed, Link, MemLink, Outside, Sink, Source, Trace};
 use std::alloc::Global;
 use std::test::Fail;
 
@@ -12,34 +12,37 @@ struct CountedLink {
     link: MemLink,
     reads: u64,
     fixed: Option<u64>,
+    trace: Trace,
 }
 
 impl Outside for CountedLink {
-    ghost use Rattle.std.specs.Prelude.{None};
     ghost use Rattle.osm_outside.specs.Memory.{told_of};
 
-    ghost told = { λ l. record (told_of l.link) { moments = None; fixed = l.fixed } };
+    ghost told = { λ l. record (told_of l.link) { trace = l.trace.events; fixed = l.fixed } };
 }
 
 impl Source for CountedLink {
     fn read(&mut self, into: &mut [u8]) -> Result<usize, Failed> {
         self.reads = self.reads.saturating_add(1);
-        self.link.read(into)
+        let count = self.link.read(into)?;
+        self.trace = self.trace.gave(into, count);
+        Ok(count)
     }
 }
 
 impl Sink for CountedLink {
     fn write(&mut self, piece: &[u8]) -> Result<usize, Failed> {
-        self.link.write(piece)
+        let count = self.link.write(piece)?;
+        self.trace = self.trace.took(piece, count);
+        Ok(count)
     }
 }
 
 impl Clock for CountedLink {
     fn now(&mut self) -> u64 {
-        match self.fixed {
-            Some(seconds) => seconds,
-            None => self.reads,
-        }
+        let moment = self.fixed.unwrap_or(self.reads);
+        self.trace = self.trace.answered(moment);
+        moment
     }
 
     fn fix(&mut self, seconds: u64) {
@@ -48,24 +51,6 @@ impl Clock for CountedLink {
 }
 
 impl Link for CountedLink {}
-
-/// Answers the moment.
-#[derive(Drop)]
-struct MomentDesk;
-
-impl Desk for MomentDesk {
-    ghost use Rattle.std.specs.Prelude.{⊤};
-
-    ghost allows = { λ _ _ _ _ _. ⊤ };
-
-    fn answer(&mut self, alloc: Global, _message: Message, moment: u64) -> Result<Reply, Memory> {
-        let digit = [b'0' + (moment % 10) as u8];
-        Ok(Reply {
-            status: 200,
-            body: Bytes::of(alloc, &digit)?,
-        })
-    }
-}
 
 /// A link with this input, in pieces of that size, and ample room.
 fn counted(alloc: Global, input: &[u8], cut: usize) -> Result<CountedLink, Memory> {
@@ -84,6 +69,7 @@ fn counted(alloc: Global, input: &[u8], cut: usize) -> Result<CountedLink, Memor
         link,
         reads: 0,
         fixed: None,
+        trace: Trace::new(),
     })
 }
 

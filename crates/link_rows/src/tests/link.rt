@@ -1,27 +1,11 @@
-use crate::{Desk, LinkEnd, Reply, serve_desk};
-use http_wire::{Message, WireEnd};
+//! Links in memory, served to their ends.
+use super::desks::LengthDesk;
+use http_link::{LinkEnd, serve_desk};
+use http_wire::WireEnd;
 use osm_base::{Bytes, Memory};
 use osm_outside::MemLink;
 use std::alloc::Global;
 use std::test::Fail;
-
-/// Answers the length of the body.
-#[derive(Drop)]
-struct LengthDesk;
-
-impl Desk for LengthDesk {
-    ghost use Rattle.std.specs.Prelude.{⊤};
-
-    ghost allows = { λ _ _ _ _ _. ⊤ };
-
-    fn answer(&mut self, alloc: Global, message: Message, _moment: u64) -> Result<Reply, Memory> {
-        let digit = [b'0' + (message.body.as_slice().len() % 10) as u8];
-        Ok(Reply {
-            status: 200,
-            body: Bytes::of(alloc, &digit)?,
-        })
-    }
-}
 
 /// How a link with this input in pieces of that size ends, and the link.
 fn served(alloc: Global, input: &[u8], cut: usize) -> Result<(LinkEnd, MemLink), Memory> {
