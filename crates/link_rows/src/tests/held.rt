@@ -54,7 +54,7 @@ impl Clock for HeldLink {
 
 impl Link for HeldLink {}
 
-/// A client with this input, one request of that length after another, which waits for replies of 70 bytes.
+/// A client with this input, one request of that length after another, which waits for replies of 71 bytes.
 fn held(alloc: Global, input: &[u8], request: usize) -> Result<HeldLink, Memory> {
     let cuts = Vec::from_elem(alloc, request, input.len())?;
     let input = Bytes::of(alloc, input)?;
@@ -69,7 +69,7 @@ fn held(alloc: Global, input: &[u8], request: usize) -> Result<HeldLink, Memory>
     )?;
     Ok(HeldLink {
         link,
-        reply: 70,
+        reply: 71,
         reads: 0,
         faults: 0,
     })
@@ -81,6 +81,6 @@ fn each_reply_comes_before_the_next_request(rt: HostRuntime) -> Result<(), Fail>
     let mut link = held(rt.alloc(), input, 19)?;
     let end = serve_desk(rt.alloc(), &mut LengthDesk, &mut link);
     assert_eq!(rt; end, LinkEnd::Ended);
-    assert_eq!(rt; link.link.written().len(), 210);
+    assert_eq!(rt; link.link.written().len(), 213);
     Ok(())
 }

@@ -9,7 +9,7 @@ use std::alloc::Global;
 use std::test::Fail;
 
 /// Why nothing was observed.
-#[derive(Debug)]
+#[derive(Drop)]
 enum Unseen {
     Failed,
     Memory,
