@@ -1,75 +1,77 @@
--- One exchange more.
-use Rattle.std.proofs.Common.{◌≡◌, ℕ, ◌+◌, ◌≤◌, List, [], ◌∷◌, ◌++◌, length, Option, Some, None, IfSome, Result, IsFalse, refl, sym, ap, ◌∙◌, append_assoc, append-nil, arith}
-use Rattle.std.specs.List.{AllByRecursion}
-use Rattle.std.specs.Io.KnownBytes.{Appends}
-use Rattle.std.proofs.KnownBytes.{Consumes-trans, Appends-trans}
-use Rattle.std.proofs.lemmas.List.{map-append, length-append}
+-- One turn more.
+use Rattle.std.proofs.Common.{◌≡◌, ℕ, ◌+◌, List, [], ◌∷◌, ◌++◌, length, map, Option, Some, None, IfSome, Result, IsFalse, refl, sym, ap, subst, ◌∙◌, append_assoc, append-nil, arith}
+use Rattle.std.specs.List.{AllByRecursion, concat}
+use Rattle.std.proofs.KnownBytes.{Consumes-trans}
+use Rattle.std.proofs.lemmas.List.{map-append}
+use Rattle.osm_outside.specs.Event.{Gave, Took}
 use Rattle.osm_outside.specs.Told.{Told}
-use Rattle.http_wire.specs.declared.message.Message.{Message}
-use Rattle.http_wire.specs.Message.{BeginsWith, HasMessages}
-use Rattle.http_link.specs.declared.desk.Reply.{Reply}
-use Rattle.http_link.specs.Exchange.{Exchange, Chain, messages_of, text_of, texts_from}
 use Rattle.osm_outside.specs.declared.outside.Failed.{Failed}
+use Rattle.http_wire.specs.declared.message.Message.{Message}
 use Rattle.http_wire.specs.declared.end.WireEnd.{WireEnd}
 use Rattle.http_wire.specs.Written.{Written}
-use Rattle.http_wire.proofs.EndLemmas.{BeginsWith-shorter}
+use Rattle.http_link.specs.declared.desk.Reply.{Reply}
+use Rattle.http_link.specs.Exchange.{Exchange, Chain, text_of}
+use Rattle.http_link.specs.Turns.{Turn, Ending, no_ending, events_of, events_of_turn, exchanges_of, bytes_of, AreRead, AreWritten, ReadsTurn}
 use Rattle.http_link.specs.Turn.{Step, Stop}
-use Rattle.http_link.specs.Link.{Served, NoneCloses, moments_of}
+use Rattle.http_link.specs.Link.{Served, NoneCloses}
 
-pub HasMessages-more : (bytes more kept : List ℕ) (messages : List Message) → HasMessages bytes messages kept
-    → HasMessages (bytes ++ more) messages (kept ++ more)
-HasMessages-more bytes more kept [] h = ap (λ l. l ++ more) h
-HasMessages-more bytes more kept (m ∷ messages) h = (
-  h.0 ++ more,
-  (h.1.0, h.1.1, ap (λ l. l ++ more) h.1.2 ∙ append_assoc h.1.0 h.0 more),
-  HasMessages-more h.0 more kept messages h.2,
-)
+-- ---- lists of turns
 
-pub HasMessages-push : (bytes kept left : List ℕ) (messages : List Message) (m : Message) → HasMessages bytes messages kept
-    → BeginsWith kept m left → HasMessages bytes (messages ++ m ∷ []) left
-HasMessages-push bytes kept left [] m h b = (left, (b.0, b.1, h ∙ b.2), refl)
-HasMessages-push bytes kept left (n ∷ messages) m h b = (h.0, h.1, HasMessages-push h.0 kept left messages m h.2 b)
+events_of-push : (turns : List Turn) (turn : Turn) → events_of (turns ++ turn ∷ []) no_ending ≡ events_of turns no_ending ++ events_of_turn turn
+events_of-push [] turn = append-nil (events_of_turn turn)
+events_of-push (t ∷ turns) turn =
+    ap (λ l. events_of_turn t ++ l) (events_of-push turns turn)
+    ∙ sym (append_assoc (events_of_turn t) (events_of turns no_ending) (events_of_turn turn))
 
-pub Chain-push : {D : Type 0} (allows : D → Message → ℕ → Reply → D → Type 0) (start old new : D) (exchanges : List Exchange)
+events_of-end : (turns : List Turn) (ending : Ending)
+    → events_of turns ending ≡ events_of turns no_ending ++ (map Gave ending.reads ++ map Took ending.writes)
+events_of-end [] ending = refl
+events_of-end (t ∷ turns) ending =
+    ap (λ l. events_of_turn t ++ l) (events_of-end turns ending)
+    ∙ sym (append_assoc (events_of_turn t) (events_of turns no_ending) (map Gave ending.reads ++ map Took ending.writes))
+
+bytes_of-push : (turns : List Turn) (turn : Turn) → bytes_of (turns ++ turn ∷ []) no_ending ≡ bytes_of turns no_ending ++ concat turn.reads
+bytes_of-push [] turn = append-nil (concat turn.reads)
+bytes_of-push (t ∷ turns) turn =
+    ap (λ l. concat t.reads ++ l) (bytes_of-push turns turn)
+    ∙ sym (append_assoc (concat t.reads) (bytes_of turns no_ending) (concat turn.reads))
+
+bytes_of-end : (turns : List Turn) (ending : Ending) → bytes_of turns ending ≡ bytes_of turns no_ending ++ concat ending.reads
+bytes_of-end [] ending = refl
+bytes_of-end (t ∷ turns) ending =
+    ap (λ l. concat t.reads ++ l) (bytes_of-end turns ending)
+    ∙ sym (append_assoc (concat t.reads) (bytes_of turns no_ending) (concat ending.reads))
+
+pub exchanges_of-push : (turns : List Turn) (turn : Turn) → exchanges_of (turns ++ turn ∷ []) ≡ exchanges_of turns ++ turn.exchange ∷ []
+exchanges_of-push turns turn = map-append (λ t. t.exchange) turns (turn ∷ [])
+
+AreRead-push : (kept left next : List ℕ) (turns : List Turn) (turn : Turn) → AreRead kept turns left → ReadsTurn left turn next
+    → AreRead kept (turns ++ turn ∷ []) next
+AreRead-push kept left next [] turn same r = (next, subst (λ (l : List ℕ). ReadsTurn l turn next) same r, refl)
+AreRead-push kept left next (t ∷ turns) turn (behind, first, more) r =
+    (behind, first, AreRead-push behind left next turns turn more r)
+
+pub AreWritten-push : (count : ℕ) (turns : List Turn) (turn : Turn) → AreWritten count turns
+    → concat turn.writes ≡ text_of (count + length turns) turn.exchange → AreWritten count (turns ++ turn ∷ [])
+AreWritten-push count [] turn before whole =
+    let place : count + 0 ≡ count = omega arith in
+    (whole ∙ ap (λ (k : ℕ). text_of k turn.exchange) place, tt)
+AreWritten-push count (t ∷ turns) turn before whole =
+    let place : count + length (t ∷ turns) ≡ count + 1 + length turns = omega arith in
+    (before.0, AreWritten-push (count + 1) turns turn before.1 (whole ∙ ap (λ (k : ℕ). text_of k turn.exchange) place))
+
+-- ---- lists of exchanges
+
+Chain-push : {D : Type 0} (allows : D → Message → ℕ → Reply → D → Type 0) (start old new : D) (exchanges : List Exchange)
     (e : Exchange) → Chain allows start exchanges old → allows old e.message e.moment e.answer new
     → Chain allows start (exchanges ++ e ∷ []) new
 Chain-push allows start old new [] e c a = (new, rw c at a, refl)
 Chain-push allows start old new (f ∷ exchanges) e c a = (c.0, c.1, Chain-push allows c.0 old new exchanges e c.2 a)
 
-pub texts_from-push : (count : ℕ) (exchanges : List Exchange) (e : Exchange)
-    → texts_from count (exchanges ++ e ∷ []) ≡ texts_from count exchanges ++ text_of (count + length exchanges) e
-texts_from-push count [] e =
-    append-nil (text_of count e) ∙ ap (λ (k : ℕ). text_of k e) (omega arith)
-texts_from-push count (f ∷ exchanges) e =
-    let rest = texts_from (count + 1) exchanges in
-    let place : count + 1 + length exchanges ≡ count + length (f ∷ exchanges) = omega arith in
-    ap (λ l. text_of count f ++ l)
-    (texts_from-push (count + 1) exchanges e ∙ ap (λ (k : ℕ). rest ++ text_of k e) place)
-    ∙ sym (append_assoc (text_of count f) rest (text_of (count + length (f ∷ exchanges)) e))
-
 pub NoneCloses-push : (exchanges : List Exchange) (e : Exchange) → NoneCloses exchanges → IsFalse e.message.close
     → NoneCloses (exchanges ++ e ∷ [])
 NoneCloses-push [] e n c = (c, tt)
 NoneCloses-push (f ∷ exchanges) e n c = (n.0, NoneCloses-push exchanges e n.1 c)
-
--- each message takes a byte at least
-taken-push : (bytes more kept left : List ℕ) (exchanges : List Exchange) (e : Exchange) (m : Message)
-    → length exchanges + length kept ≤ length bytes → BeginsWith (kept ++ more) m left
-    → length (exchanges ++ e ∷ []) + length left ≤ length (bytes ++ more)
-taken-push bytes more kept left exchanges e m before begins =
-    omega (
-      arith,
-      before,
-      BeginsWith-shorter (kept ++ more) left m begins,
-      length-append kept more,
-      length-append bytes more,
-      length-append exchanges (e ∷ []),
-    )
-
-taken-more : (bytes more kept : List ℕ) (exchanges : List Exchange) → length exchanges + length kept ≤ length bytes
-    → length exchanges + length (kept ++ more) ≤ length (bytes ++ more)
-taken-more bytes more kept exchanges before =
-    omega (arith, before, length-append kept more, length-append bytes more)
 
 All_at-push : (at : ℕ) (exchanges : List Exchange) (e : Exchange) → AllByRecursion (λ e. e.moment ≡ at) exchanges
     → e.moment ≡ at → AllByRecursion (λ e. e.moment ≡ at) (exchanges ++ e ∷ [])
@@ -85,57 +87,51 @@ fixed-push (Some at) read exchanges e same before now = All_at-push at exchanges
 
 -- ---- a message was answered
 
-abbrev pub exchange_of : {D : Type 0} {allows : D → Message → ℕ → Reply → D → Type 0} {old new : D} {before after : Told}
-    {kept left : List ℕ} {count : ℕ} {result : Result (Unit {0}) Failed}
-    → Step allows old new before after kept left count result → Exchange
-exchange_of s = record { message = s.message; moment = s.replies.moment; answer = s.replies.answer }
-
 pub Served-step : {D : Type 0} (allows : D → Message → ℕ → Reply → D → Type 0) (start old new : D) (a b c : Told)
-    (kept left : List ℕ) (count : ℕ) (result : Result (Unit {0}) Failed) (exchanges : List Exchange) (written added : List ℕ)
-    → Served allows start old a b kept exchanges written → (s : Step allows old new b c kept left count result)
-    → Appends s.read.written c.written added
-    → Served allows start new a c left (exchanges ++ exchange_of s ∷ []) (written ++ added)
-Served-step allows start old new a b c kept left count result exchanges written added before s output =
-    let e = exchange_of s in
-    let quiet = s.taken.others in
-    let input = rw (← s.replies.input) at s.taken.input in
-    let messages = HasMessages-push _ _ left (messages_of exchanges) s.message
-    (HasMessages-more before.bytes s.bytes kept (messages_of exchanges) before.messages) s.begins in
+    (kept left : List ℕ) (count : ℕ) (result : Result (Unit {0}) Failed) (turns : List Turn)
+    → Served allows start old a b kept turns no_ending → (s : Step allows old new b c kept left count result)
+    → Served allows start new a c left (turns ++ s.turn ∷ []) no_ending
+Served-step allows start old new a b c kept left count result turns before s =
+    let exchanges = exchanges_of turns in
     record {
-      bytes = before.bytes ++ s.bytes;
-      input = Consumes-trans a.left b.left c.left before.bytes s.bytes before.input input;
-      messages = rw map-append messages;
-      taken = taken-push before.bytes s.bytes kept left exchanges e s.message before.taken s.begins;
-      answered = Chain-push allows start old new exchanges e before.answered s.replies.allowed;
-      moments = rw map-append
-          (Appends-trans a.moments b.moments c.moments (moments_of exchanges) (s.replies.moment ∷ []) before.moments
-          (rw quiet.moments at s.replies.told));
-      fixed = fixed-push a.fixed s.read.fixed exchanges e (quiet.fixed ∙ before.stays) before.fixed s.replies.fixed;
-      stays = s.replies.stays ∙ quiet.fixed ∙ before.stays;
-      output = Appends-trans a.written b.written c.written written added before.output (rw quiet.written at output);
-      read_faults = omega (arith, before.read_faults, quiet.read_faults, s.replies.read_faults);
-      write_faults = omega (arith, before.write_faults, quiet.write_faults, s.replies.write_faults);
+      trace =
+          s.trace ∙ ap (λ l. l ++ events_of_turn s.turn) before.trace
+          ∙ append_assoc a.trace (events_of turns no_ending) (events_of_turn s.turn)
+          ∙ ap (λ l. a.trace ++ l) (sym (events_of-push turns s.turn));
+      read = AreRead-push [] kept left turns s.turn before.read s.reads;
+      input = rw (bytes_of-push turns s.turn)
+          (Consumes-trans a.left b.left c.left (bytes_of turns no_ending) (concat s.turn.reads) before.input s.input);
+      answered = rw (exchanges_of-push turns s.turn)
+          (Chain-push allows start old new exchanges s.turn.exchange before.answered s.allowed);
+      fixed = rw (exchanges_of-push turns s.turn)
+          (fixed-push a.fixed b.fixed exchanges s.turn.exchange before.stays before.fixed s.fixed);
+      stays = s.stays ∙ before.stays;
+      read_faults = omega (arith, before.read_faults, s.read_faults);
+      write_faults = omega (arith, before.write_faults, s.write_faults);
     }
 
--- ---- an end came, and a part of its reply was written
+-- ---- an end came, and its reply was written, whole or in part
 
 pub Served-stop : {D : Type 0} (allows : D → Message → ℕ → Reply → D → Type 0) (start old new : D) (a b read c : Told)
-    (kept : List ℕ) (why : WireEnd) (exchanges : List Exchange) (written added : List ℕ)
-    → Served allows start old a b kept exchanges written → (s : Stop old new b read kept why) → Written read c added
-    → Served allows start new a c (kept ++ s.bytes) exchanges (written ++ added)
-Served-stop allows start old new a b read c kept why exchanges written added before s sent =
+    (kept : List ℕ) (why : WireEnd) (turns : List Turn) (writes : List (List ℕ))
+    → Served allows start old a b kept turns no_ending → (s : Stop old new b read kept why) → Written read c writes
+    → Served allows start new a c kept turns (record { reads = s.pieces; writes = writes })
+Served-stop allows start old new a b read c kept why turns writes before s sent =
     let quiet = s.taken.others in
+    let ending : Ending = record { reads = s.pieces; writes = writes } in
     let input = rw (← sent.others.left) at s.taken.input in
     record {
-      bytes = before.bytes ++ s.bytes;
-      input = Consumes-trans a.left b.left c.left before.bytes s.bytes before.input input;
-      messages = HasMessages-more before.bytes s.bytes kept (messages_of exchanges) before.messages;
-      taken = taken-more before.bytes s.bytes kept exchanges before.taken;
+      trace =
+          sent.trace ∙ ap (λ l. l ++ map Took writes) (s.taken.trace ∙ ap (λ l. l ++ map Gave s.pieces) before.trace)
+          ∙ append_assoc (a.trace ++ events_of turns no_ending) (map Gave s.pieces) (map Took writes)
+          ∙ append_assoc a.trace (events_of turns no_ending) (map Gave s.pieces ++ map Took writes)
+          ∙ ap (λ l. a.trace ++ l) (sym (events_of-end turns ending));
+      read = before.read;
+      input = rw (bytes_of-end turns ending)
+          (Consumes-trans a.left b.left c.left (bytes_of turns no_ending) (concat s.pieces) before.input input);
       answered = rw s.unasked before.answered;
-      moments = rw (sent.others.moments, quiet.moments) before.moments;
       fixed = before.fixed;
       stays = sent.others.fixed ∙ quiet.fixed ∙ before.stays;
-      output = Appends-trans a.written b.written c.written written added before.output (rw quiet.written at sent.output);
       read_faults = omega (arith, before.read_faults, quiet.read_faults, sent.others.read_faults);
       write_faults = omega (arith, before.write_faults, quiet.write_faults, sent.others.write_faults);
     }

@@ -1,160 +1,181 @@
 -- How a link ends, by its last turn.
-use Rattle.std.proofs.Common.{◌≡◌, ℕ, ◌+◌, ◌<◌, ◌≤◌, Bool, true, false, List, [], ◌∷◌, ◌++◌, length, Option, Some, None, IfSome, Result, Ok, Err, IsTrue, IsFalse, if◌then◌else◌, refl, sym, ap, subst, ◌∙◌, append-nil, arith, inl, inr}
-use Rattle.std.proofs.KnownBytes.{Consumes-nil, Appends-nil}
-use Rattle.std.proofs.lemmas.List.{length-append}
-use Rattle.std.specs.List.{AllByRecursion}
+use Rattle.std.proofs.Common.{◌≡◌, ℕ, ◌+◌, ◌<◌, ◌≤◌, Bool, true, false, List, [], ◌∷◌, ◌++◌, length, Option, Some, None, IfSome, Result, Ok, Err, IsTrue, IsFalse, if◌then◌else◌, refl, sym, ap, ◌∙◌, append-nil, arith, inl, inr}
+use Rattle.std.specs.List.{AllByRecursion, concat}
+use Rattle.std.specs.Io.KnownBytes.{Consumes}
+use Rattle.std.proofs.KnownBytes.{Consumes-nil}
+use Rattle.std.proofs.lemmas.List.{length-append, length-map}
 use Rattle.osm_outside.specs.Told.{Told, Rose, OnlyWrites}
 use Rattle.osm_outside.specs.declared.outside.Failed.{Failed}
 use Rattle.http_wire.specs.declared.message.Message.{Message}
 use Rattle.http_wire.specs.declared.end.WireEnd.{WireEnd}
 use Rattle.http_wire.specs.declared.end.WireEnd.TheVariants as wire
-use Rattle.http_wire.specs.Written.{Written, WrittenInPart}
-use Rattle.http_wire.specs.End.{AgreesWithInput}
+use Rattle.http_wire.specs.Written.{WrittenWhole, WrittenInPart}
 use Rattle.http_link.specs.declared.desk.Reply.{Reply}
 use Rattle.osm_base.specs.declared.limits.TheConstants.{REQUEST_LIMIT}
 use Rattle.http_link.specs.declared.end.LinkEnd.{LinkEnd}
 use Rattle.http_link.specs.declared.end.LinkEnd.TheVariants as ends
-use Rattle.http_link.specs.declared.turn.Turn.TheVariants.{Answered, Over}
-use Rattle.http_link.specs.Exchange.{Exchange, text_of, texts_from}
-use Rattle.http_link.specs.Turn.{Step, Stop, TakesTurn, turn_after, refusal, end_of}
-use Rattle.http_link.specs.Link.{Served, Serves, LinkEnds, NoneCloses}
-use Rattle.http_link.proofs.InputLemmas.{EndsByInput-from_ends}
-use Rattle.http_link.proofs.LinkLemmas.{Served-step, Served-stop, exchange_of, texts_from-push, NoneCloses-push}
+use Rattle.http_link.specs.declared.turn.Next.TheVariants as next
+use Rattle.http_link.specs.Exchange.{Exchange, text_of}
+use Rattle.http_link.specs.Refusal.{refusal, end_of}
+use Rattle.http_link.specs.Turns.{Turn, Ending, no_ending, exchanges_of, bytes_of, AreRead, AreWritten, ReadsEnd}
+use Rattle.http_link.specs.Turn.{Step, Stop, TakesTurn, next_after}
+use Rattle.http_link.specs.Link.{Served, Serves, LinkEnds, NoneCloses, GoesOn, ComesTo, AgreesWithBytes}
+use Rattle.http_link.proofs.LinkLemmas.{Served-step, Served-stop, exchanges_of-push, AreWritten-push, NoneCloses-push}
+
+-- what the turns tell of the bytes, as the law of this crate says
+abbrev pub TellsEnd : Type 0
+TellsEnd =
+    (before after : Told) (turns : List Turn) (left : List ℕ) (ending : Ending) (end : LinkEnd)
+    → AreRead [] turns left → Consumes before.left after.left (bytes_of turns ending)
+    → LinkEnds before after turns left ending end
+    → AgreesWithBytes before (bytes_of turns ending) (left ++ concat ending.reads) (exchanges_of turns) end
 
 -- the turn goes on only where its reply was sent and its message didn't say close
-pub answered_from : (close : Bool) (result : Result (Unit {0}) Failed) (m : Message) → m.close ≡ close
-    → Answered ≡ turn_after m result → (result ≡ Ok tt) × (close ≡ false)
-answered_from true (Ok done) m c e = let f = rw c at e in absurd cc
-answered_from false (Ok done) m c e = (refl, refl)
-answered_from close (Err fault) m c e = absurd cc
+pub goes_on_from : (close : Bool) (result : Result (Unit {0}) Failed) (m : Message) → m.close ≡ close
+    → next.GoesOn ≡ next_after m result → (result ≡ Ok tt) × (close ≡ false)
+goes_on_from true (Ok done) m c e = let f = rw c at e in absurd cc
+goes_on_from false (Ok done) m c e = (refl, refl)
+goes_on_from close (Err fault) m c e = absurd cc
 
-over_from_ok : (close : Bool) (end : LinkEnd) → Over end ≡ (if close then Over ends.Closed else Answered)
+over_from_ok : (close : Bool) (end : LinkEnd) → next.Over end ≡ (if close then next.Over ends.Closed else next.GoesOn)
     → (end ≡ ends.Closed) × IsTrue close
 over_from_ok true end e = (cc, refl)
 over_from_ok false end e = absurd cc
 
-texts-push : (exchanges : List Exchange) (e : Exchange)
-    → texts_from 0 exchanges ++ text_of (length exchanges) e ≡ texts_from 0 (exchanges ++ e ∷ [])
-texts-push exchanges e =
-    let same : 0 + length exchanges ≡ length exchanges = omega arith in
-    sym (texts_from-push 0 exchanges e ∙ ap (λ (k : ℕ). texts_from 0 exchanges ++ text_of k e) same)
+place_of : (turns : List Turn) → 0 + length turns ≡ length turns
+place_of turns = omega arith
 
-Serves-of : {D : Type 0} (allows : D → Message → ℕ → Reply → D → Type 0) (start now : D) (before after : Told)
-    (exchanges : List Exchange) (rest written : List ℕ) (end : LinkEnd) → length exchanges ≤ REQUEST_LIMIT
-    → Served allows start now before after rest exchanges written
-    → LinkEnds before after exchanges rest written end → Serves allows start now before after end
-Serves-of allows start now before after exchanges rest written end few served facts = record {
-  exchanges = exchanges;
+Serves-of : {D : Type 0} (tells : TellsEnd) (allows : D → Message → ℕ → Reply → D → Type 0) (start now : D) (before after : Told)
+    (turns : List Turn) (left : List ℕ) (ending : Ending) (end : LinkEnd) → length turns ≤ REQUEST_LIMIT
+    → Served allows start now before after left turns ending
+    → LinkEnds before after turns left ending end → Serves allows start now before after end
+Serves-of tells allows start now before after turns left ending end few served facts = record {
+  turns = turns;
   few = few;
-  rest = rest;
-  written = written;
+  left = left;
+  ending = ending;
   served = served;
   ends = facts;
-  by_input =
-      EndsByInput-from_ends before after exchanges served.bytes rest written served.messages served.input end facts;
+  agrees = tells before after turns left ending end served.read served.input facts;
 }
 
-module _ {D : Type 0} (allows : D → Message → ℕ → Reply → D → Type 0) (start old new : D) (a b c : Told)
-    (kept left : List ℕ) (exchanges : List Exchange)
-    (before : Served allows start old a b kept exchanges (texts_from 0 exchanges)) (none : NoneCloses exchanges)
-    (room : length exchanges < REQUEST_LIMIT) where
-  -- a message was answered, and it didn't say close
-  pub goes_on : (s : Step allows old new b c kept left (length exchanges) (Ok tt)) → IsFalse s.message.close
-      → (all : List Exchange) × Served allows start new a c left all (texts_from 0 all)
-      × (length all ≡ length exchanges + 1) × NoneCloses all
-  goes_on s going_on =
-      let e = exchange_of s in
-      let served = Served-step allows start old new a b c kept left (length exchanges) (Ok tt) exchanges (texts_from 0 exchanges) _ before s s.replies.text in (
-        exchanges ++ e ∷ [],
-        subst (λ (t : List ℕ). Served allows start new a c left (exchanges ++ e ∷ []) t) (texts-push exchanges e) served,
-        length-append exchanges (e ∷ []),
-        NoneCloses-push exchanges e none going_on,
-      )
+module _ {D : Type 0} (tells : TellsEnd) (allows : D → Message → ℕ → Reply → D → Type 0) (start old new : D) (a b c : Told)
+    (kept left : List ℕ) (turns : List Turn)
+    (before : Served allows start old a b kept turns no_ending) (replies : AreWritten 0 turns) (none : NoneCloses (exchanges_of turns))
+    (room : length turns < REQUEST_LIMIT) where
+  going_on : GoesOn (exchanges_of turns)
+  going_on = (none, omega (arith, room, length-map turns (λ t. t.exchange)))
 
-  closed : (s : Step allows old new b c kept left (length exchanges) (Ok tt)) → IsTrue s.message.close
+  -- the reply of the last turn was written whole
+  replies_more : (turn : Turn) → concat turn.writes ≡ text_of (length turns) turn.exchange → AreWritten 0 (turns ++ turn ∷ [])
+  replies_more turn whole =
+      AreWritten-push 0 turns turn replies (whole ∙ ap (λ (k : ℕ). text_of k turn.exchange) (sym (place_of turns)))
+
+  -- a message was answered, and it didn't say close
+  pub goes_on : (s : Step allows old new b c kept left (length turns) (Ok tt)) → IsFalse s.turn.exchange.message.close
+      → (all : List Turn) × Served allows start new a c left all no_ending × AreWritten 0 all
+      × (length all ≡ length turns + 1) × NoneCloses (exchanges_of all)
+  goes_on s still = (
+    turns ++ s.turn ∷ [],
+    Served-step allows start old new a b c kept left (length turns) (Ok tt) turns before s,
+    replies_more s.turn s.sends,
+    length-append turns (s.turn ∷ []),
+    rw (exchanges_of-push turns s.turn) (NoneCloses-push (exchanges_of turns) s.turn.exchange none still),
+  )
+
+  closed : (s : Step allows old new b c kept left (length turns) (Ok tt)) → IsTrue s.turn.exchange.message.close
       → Serves allows start new a c ends.Closed
   closed s close =
-      let e = exchange_of s in
-      Serves-of allows start new a c (exchanges ++ e ∷ []) left _ ends.Closed (omega (arith, length-append exchanges (e ∷ [])))
-      (Served-step allows start old new a b c kept left (length exchanges) (Ok tt) exchanges (texts_from 0 exchanges) _ before s s.replies.text)
-      (exchanges, e, refl, (none, room), close, texts-push exchanges e)
+      Serves-of tells allows start new a c (turns ++ s.turn ∷ []) left no_ending ends.Closed
+      (omega (arith, length-append turns (s.turn ∷ []), room))
+      (Served-step allows start old new a b c kept left (length turns) (Ok tt) turns before s)
+      (record {
+        front = turns;
+        last = s.turn;
+        turns_are = refl;
+        going_on = going_on;
+        close = close;
+        replies = replies_more s.turn s.sends;
+        nothing_else = refl;
+      })
 
-  cut_reply : (fault : Failed) (s : Step allows old new b c kept left (length exchanges) (Err fault))
+  cut_reply : (fault : Failed) (s : Step allows old new b c kept left (length turns) (Err fault))
       → Rose b.write_faults c.write_faults → Serves allows start new a c ends.WriteFault
   cut_reply fault s rose =
-      let e = exchange_of s in
-      let texts = texts_from 0 exchanges in
-      let sent = s.replies.text in
-      Serves-of allows start new a c (exchanges ++ e ∷ []) left (texts ++ sent.part) ends.WriteFault
-      (omega (arith, length-append exchanges (e ∷ [])))
-      (Served-step allows start old new a b c kept left (length exchanges) (Err fault) exchanges texts sent.part before s sent.added) (
+      Serves-of tells allows start new a c (turns ++ s.turn ∷ []) left no_ending ends.WriteFault
+      (omega (arith, length-append turns (s.turn ∷ []), room))
+      (Served-step allows start old new a b c kept left (length turns) (Err fault) turns before s) (
         inl (record {
-          front = exchanges;
-          last = e;
-          exchanges_are = refl;
-          going_on = (none, room);
-          part = sent.part;
-          missing = sent.rest;
-          whole = sent.whole;
-          written_are = refl;
+          front = turns;
+          last = s.turn;
+          turns_are = refl;
+          going_on = going_on;
+          replies = replies;
+          missing = s.sends.0;
+          whole = s.sends.1;
+          nothing_else = refl;
         }),
         omega (arith, before.write_faults, rose),
       )
 
   module _ (read : Told) (why : WireEnd) (s : Stop old new b read kept why) where
     -- the input is as it was when the end came
-    agrees : OnlyWrites read c → AgreesWithInput why c.left
-    agrees others = rw (← others.left) at s.agrees
+    read_so : OnlyWrites read c → ReadsEnd kept s.pieces why c.left
+    read_so others = rw (← others.left) at s.reads
 
     cut_refusal : WrittenInPart read c (refusal why) → Rose read.write_faults c.write_faults
         → Serves allows start new a c ends.WriteFault
     cut_refusal sent rose =
-        let texts = texts_from 0 exchanges in
-        Serves-of allows start new a c exchanges (kept ++ s.bytes) (texts ++ sent.part) ends.WriteFault (omega arith)
-        (Served-stop allows start old new a b read c kept why exchanges texts sent.part before s sent.written) (
+        Serves-of tells allows start new a c turns kept (record { reads = s.pieces; writes = sent.pieces }) ends.WriteFault (omega (arith, room))
+        (Served-stop allows start old new a b read c kept why turns sent.pieces before s sent.written) (
           inr (record {
             why = why;
-            ends = s.ends;
-            agrees = agrees sent.written.others;
-            going_on = (none, room);
-            part = sent.part;
-            missing = sent.rest;
-            whole = sent.whole;
-            written_are = refl;
+            going_on = going_on;
+            replies = replies;
+            reads = read_so sent.written.others;
+            missing = sent.missing;
+            whole = sent.joined;
           }),
           omega (arith, before.write_faults, s.taken.others.write_faults, rose),
         )
 
-    stopped : (end : LinkEnd) → (sent : Written read c (refusal why))
-        → LinkEnds a c exchanges (kept ++ s.bytes) (texts_from 0 exchanges ++ refusal why) end
-        → Serves allows start new a c end
+    comes_to : (sent : WrittenWhole read c (refusal why)) → ComesTo c turns kept (record { reads = s.pieces; writes = sent.pieces }) why
+    comes_to sent = record {
+      going_on = going_on;
+      replies = replies;
+      reads = read_so sent.written.others;
+      writes = sent.joined;
+      some = sent.some;
+    }
+
+    stopped : (end : LinkEnd) (sent : WrittenWhole read c (refusal why))
+        → LinkEnds a c turns kept (record { reads = s.pieces; writes = sent.pieces }) end → Serves allows start new a c end
     stopped end sent facts =
-        Serves-of allows start new a c exchanges (kept ++ s.bytes) (texts_from 0 exchanges ++ refusal why) end (omega arith)
-        (Served-stop allows start old new a b read c kept why exchanges (texts_from 0 exchanges) (refusal why) before s sent)
-        facts
+        Serves-of tells allows start new a c turns kept (record { reads = s.pieces; writes = sent.pieces }) end (omega (arith, room))
+        (Served-stop allows start old new a b read c kept why turns sent.pieces before s sent.written) facts
 
   -- an end came, and its reply was written
-  pub ended : (read : Told) (why : WireEnd) → Stop old new b read kept why → Written read c (refusal why)
+  ended : (read : Told) (why : WireEnd) → Stop old new b read kept why → WrittenWhole read c (refusal why)
       → Serves allows start new a c (end_of why)
-  ended read wire.End s sent =
-      stopped read wire.End s ends.Ended sent
-      (s.ends, agrees read wire.End s sent.others, (none, room), append-nil (texts_from 0 exchanges))
+  ended read wire.End s sent = stopped read wire.End s ends.Ended sent (comes_to read wire.End s sent)
   ended read wire.ReadFault s sent =
       stopped read wire.ReadFault s ends.ReadFault sent (
-        s.ends,
-        omega (arith, before.read_faults, s.fault refl, sent.others.read_faults),
-        (none, room),
-        append-nil (texts_from 0 exchanges),
+        comes_to read wire.ReadFault s sent,
+        omega (arith, before.read_faults, s.fault refl, sent.written.others.read_faults),
       )
-  ended read wire.Memory s sent = stopped read wire.Memory s ends.Memory sent (inr ((none, room), refl))
-  ended read why s sent =
-      stopped read why s (ends.Refused why) sent (tt, s.ends, agrees read why s sent.others, (none, room), refl)
+  ended read wire.Memory s sent = stopped read wire.Memory s ends.Memory sent (inr (comes_to read wire.Memory s sent))
+  ended read wire.Truncated s sent = stopped read wire.Truncated s (ends.Refused wire.Truncated) sent (tt, comes_to read wire.Truncated s sent)
+  ended read wire.BadHead s sent = stopped read wire.BadHead s (ends.Refused wire.BadHead) sent (tt, comes_to read wire.BadHead s sent)
+  ended read wire.HeadLong s sent = stopped read wire.HeadLong s (ends.Refused wire.HeadLong) sent (tt, comes_to read wire.HeadLong s sent)
+  ended read wire.BadLength s sent = stopped read wire.BadLength s (ends.Refused wire.BadLength) sent (tt, comes_to read wire.BadLength s sent)
+  ended read wire.BodyLong s sent = stopped read wire.BodyLong s (ends.Refused wire.BodyLong) sent (tt, comes_to read wire.BodyLong s sent)
+  ended read wire.Coded s sent = stopped read wire.Coded s (ends.Refused wire.Coded) sent (tt, comes_to read wire.Coded s sent)
 
   -- the link ends with this turn
-  pub over : (end : LinkEnd) → TakesTurn allows old new b c kept left (length exchanges) (Over end)
+  pub over : (end : LinkEnd) → TakesTurn allows old new b c kept left (length turns) (next.Over end)
       → Serves allows start new a c end
   over end (inl (Ok done, s, e, rose)) =
-      let known = over_from_ok s.message.close end e in
+      let known = over_from_ok s.turn.exchange.message.close end e in
       rw known.0 (closed s known.1)
   over end (inl (Err fault, s, e, rose)) =
       let same : end ≡ ends.WriteFault = cc in
@@ -167,10 +188,10 @@ module _ {D : Type 0} (allows : D → Message → ℕ → Reply → D → Type 0
       rw same (cut_refusal read why s x.1 x.2)
 
   -- the link goes on after this turn
-  pub answered : TakesTurn allows old new b c kept left (length exchanges) Answered
-      → (all : List Exchange) × Served allows start new a c left all (texts_from 0 all)
-      × (length all ≡ length exchanges + 1) × NoneCloses all
-  answered (inl (Ok done, s, e, rose)) = goes_on s (answered_from s.message.close (Ok done) s.message refl e).1
+  pub answered : TakesTurn allows old new b c kept left (length turns) next.GoesOn
+      → (all : List Turn) × Served allows start new a c left all no_ending × AreWritten 0 all
+      × (length all ≡ length turns + 1) × NoneCloses (exchanges_of all)
+  answered (inl (Ok done, s, e, rose)) = goes_on s (goes_on_from s.turn.exchange.message.close (Ok done) s.turn.exchange.message refl e).1
   answered (inl (Err fault, s, e, rose)) = absurd cc
   answered (inr (read, why, other, s, x, e)) = absurd cc
 
@@ -178,31 +199,30 @@ all_fixed : (a : Option ℕ) → IfSome a (λ at. AllByRecursion (λ (e : Exchan
 all_fixed None = tt
 all_fixed (Some at) = tt
 
--- nothing was read or written
-pub no_exchange : {D : Type 0} (allows : D → Message → ℕ → Reply → D → Type 0) (start : D) (a : Told)
-    → Served allows start start a a [] [] []
-no_exchange allows start a = record {
-  bytes = [];
+-- nothing happened
+pub no_turn : {D : Type 0} (allows : D → Message → ℕ → Reply → D → Type 0) (start : D) (a : Told)
+    → Served allows start start a a [] [] no_ending
+no_turn allows start a = record {
+  trace = sym (append-nil a.trace);
+  read = refl;
   input = Consumes-nil a.left;
-  messages = refl;
-  taken = omega arith;
   answered = refl;
-  moments = Appends-nil a.moments;
   fixed = all_fixed a.fixed;
   stays = refl;
-  output = Appends-nil a.written;
   read_faults = omega arith;
   write_faults = omega arith;
 }
 
-pub no_turn : {D : Type 0} (allows : D → Message → ℕ → Reply → D → Type 0) (start : D) (a : Told)
+pub unserved : {D : Type 0} (tells : TellsEnd) (allows : D → Message → ℕ → Reply → D → Type 0) (start : D) (a : Told)
     → Serves allows start start a a ends.Memory
-no_turn allows start a =
-    Serves-of allows start start a a [] [] [] ends.Memory (omega arith) (no_exchange allows start a) (inl (refl, refl, refl))
+unserved tells allows start a =
+    Serves-of tells allows start start a a [] [] no_ending ends.Memory (omega arith) (no_turn allows start a)
+    (inl (record { untouched = refl; no_turn = refl; nothing_else = refl }))
 
 -- as many requests were answered as may be
-pub no_more : {D : Type 0} (allows : D → Message → ℕ → Reply → D → Type 0) (start now : D) (a b : Told) (rest : List ℕ)
-    (exchanges : List Exchange) → Served allows start now a b rest exchanges (texts_from 0 exchanges)
-    → length exchanges ≡ REQUEST_LIMIT → NoneCloses exchanges → Serves allows start now a b ends.Budget
-no_more allows start now a b rest exchanges served full none =
-    Serves-of allows start now a b exchanges rest (texts_from 0 exchanges) ends.Budget (omega (arith, full)) served (none, full, refl)
+pub no_more : {D : Type 0} (tells : TellsEnd) (allows : D → Message → ℕ → Reply → D → Type 0) (start now : D) (a b : Told) (left : List ℕ)
+    (turns : List Turn) → Served allows start now a b left turns no_ending → AreWritten 0 turns
+    → length turns ≡ REQUEST_LIMIT → NoneCloses (exchanges_of turns) → Serves allows start now a b ends.Budget
+no_more tells allows start now a b left turns served replies full none =
+    Serves-of tells allows start now a b turns left no_ending ends.Budget (omega (arith, full)) served
+    (record { none = none; full = full; replies = replies; nothing_else = refl })

@@ -1,46 +1,99 @@
 -- The clock was read, the desk answered, and the reply was sent.
-use Rattle.std.proofs.Common.{◌≡◌, ℕ, List, [], ◌∷◌, Result, Ok, Err, IfSome, ◌∙◌, arith}
-use Rattle.std.specs.Io.KnownBytes.{Appends}
-use Rattle.osm_outside.specs.Told.{Told, OnlyTime, OnlyWrites}
+use Rattle.std.proofs.Common.{◌≡◌, ℕ, List, [], ◌∷◌, ◌++◌, map, Result, Ok, Err, IfSome, refl, sym, ap, ◌∙◌, append_assoc, append-nil, arith}
+use Rattle.osm_outside.specs.Event.{Gave, Took, Answered}
+use Rattle.osm_outside.specs.Told.{Told}
 use Rattle.osm_outside.specs.declared.outside.Failed.{Failed}
 use Rattle.http_wire.specs.declared.message.Message.{Message}
+use Rattle.http_wire.specs.declared.end.WireEnd.{WireEnd}
 use Rattle.http_wire.specs.Reply.{reply}
-use Rattle.http_wire.specs.Written.{Writes}
+use Rattle.http_wire.specs.Written.{Written, WrittenWhole, Writes}
+use Rattle.http_wire.specs.Wire.{Reads}
 use Rattle.http_link.specs.declared.desk.Reply.{Reply}
 use Rattle.http_link.specs.Exchange.{closes}
-use Rattle.http_link.specs.Turn.{Sends, Replies}
+use Rattle.http_link.specs.Turns.{ReadsEnd}
+use Rattle.http_link.specs.Turn.{Sends, Replies, Step}
 
-Writes-others : (b c : Told) (text : List ℕ) (result : Result (Unit {0}) Failed) → Writes b c text result → OnlyWrites b c
-Writes-others b c text (Ok done) w = w.others
-Writes-others b c text (Err fault) w = w.written.others
+pub record Sent (b c : Told) (text : List ℕ) (result : Result (Unit {0}) Failed) : Type 0 where
+  pub pieces : List (List ℕ)
+  pub written : Written b c pieces
+  pub sends : Sends pieces text result
 
-Sends-from_writes : (a b c : Told) (text : List ℕ) (result : Result (Unit {0}) Failed) → b.written ≡ a.written
-    → Writes b c text result → Sends a.written c.written text result
-Sends-from_writes a b c text (Ok done) same w = rw same at w.output
-Sends-from_writes a b c text (Err fault) same w = record {
-  part = w.part;
-  rest = w.rest;
-  whole = w.whole;
-  added = rw same at w.written.output;
-}
+abbrev sent : (b c : Told) (text : List ℕ) (result : Result (Unit {0}) Failed) → Writes b c text result → Sent b c text result
+sent b c text (Ok done) w = record { pieces = w.pieces; written = w.written; sends = w.joined }
+sent b c text (Err fault) w = record { pieces = w.pieces; written = w.written; sends = (w.missing, w.joined) }
 
 pub Replies-from_parts : {D : Type 0} (allows : D → Message → ℕ → Reply → D → Type 0) (old new : D) (a b c : Told)
     (count : ℕ) (message : Message) (moment : ℕ) (answer : Reply) (result : Result (Unit {0}) Failed)
-    → OnlyTime a b → Appends a.moments b.moments (moment ∷ []) → IfSome a.fixed (λ at. moment ≡ at)
-    → b.fixed ≡ a.fixed → allows old message moment answer new
+    → b ≡ record a { trace = a.trace ++ (Answered moment ∷ []) } → IfSome a.fixed (λ at. moment ≡ at)
+    → allows old message moment answer new
     → Writes b c (reply answer.status answer.body (closes count message)) result
     → Replies allows old new a c count message result
-Replies-from_parts allows old new a b c count message moment answer result time told fixed stays allowed writes =
-    let others = Writes-others b c _ result writes in
+Replies-from_parts allows old new a b c count message moment answer result told fixed allowed writes =
+    let w = sent b c (reply answer.status answer.body (closes count message)) result writes in
+    let others = w.written.others in
+    let trace : b.trace ≡ a.trace ++ (Answered moment ∷ []) = ap (λ (t : Told). t.trace) told in
+    let still : b.fixed ≡ a.fixed = ap (λ (t : Told). t.fixed) told in
+    let left : b.left ≡ a.left = ap (λ (t : Told). t.left) told in
+    let reads : b.read_faults ≡ a.read_faults = ap (λ (t : Told). t.read_faults) told in
+    let writes_before : b.write_faults ≡ a.write_faults = ap (λ (t : Told). t.write_faults) told in
     record {
       moment = moment;
       answer = answer;
+      pieces = w.pieces;
       allowed = allowed;
-      told = rw others.moments told;
+      trace =
+          w.written.trace ∙ ap (λ l. l ++ map Took w.pieces) trace
+          ∙ append_assoc a.trace (Answered moment ∷ []) (map Took w.pieces);
       fixed = fixed;
-      stays = others.fixed ∙ stays;
-      text = Sends-from_writes a b c _ result time.written writes;
-      input = others.left ∙ time.left;
-      read_faults = others.read_faults ∙ time.read_faults;
-      write_faults = omega (arith, others.write_faults, time.write_faults);
+      stays = others.fixed ∙ still;
+      sends = w.sends;
+      input = others.left ∙ left;
+      read_faults = others.read_faults ∙ reads;
+      write_faults = omega (arith, others.write_faults, writes_before);
     }
+
+-- a message was read, and then it was answered
+abbrev pub Step-from_parts : {D : Type 0} (allows : D → Message → ℕ → Reply → D → Type 0) (old new : D) (a b c : Told)
+    (kept left : List ℕ) (count : ℕ) (message : Message) (result : Result (Unit {0}) Failed) → Reads a b kept (Ok message) left
+    → Replies allows old new b c count message result → Step allows old new a c kept left count result
+Step-from_parts allows old new a b c kept left count message result r s =
+    let quiet = r.taken.others in
+    record {
+      turn = record {
+        reads = r.pieces;
+        exchange = record { message = message; moment = s.moment; answer = s.answer };
+        writes = s.pieces;
+      };
+      reads = record { needed = r.needed; some = r.stops; begins = r.gives; limit = r.limit };
+      trace =
+          s.trace ∙ ap (λ l. l ++ (Answered s.moment ∷ map Took s.pieces)) r.taken.trace
+          ∙ append_assoc a.trace (map Gave r.pieces) (Answered s.moment ∷ map Took s.pieces);
+      input = rw s.input r.taken.input;
+      allowed = s.allowed;
+      fixed = rw quiet.fixed at s.fixed;
+      stays = s.stays ∙ quiet.fixed;
+      sends = s.sends;
+      read_faults = omega (arith, quiet.read_faults, s.read_faults);
+      write_faults = omega (arith, quiet.write_faults, s.write_faults);
+    }
+
+abbrev pub ReadsEnd-from : (a b : Told) (kept after : List ℕ) (why : WireEnd) (r : Reads a b kept (Err why) after)
+    → ReadsEnd kept r.pieces why b.left
+ReadsEnd-from a b kept after why r = record {
+  needed = r.needed;
+  agrees = r.stops;
+  limit = r.limit;
+  ends = r.gives;
+}
+
+-- an end without a reply
+pub nothing_written : (a : Told) → WrittenWhole a a []
+nothing_written a = record {
+  pieces = [];
+  written = record {
+    trace = sym (append-nil a.trace);
+    others = record { left = refl; fixed = refl; read_faults = refl; write_faults = omega arith };
+  };
+  some = tt;
+  joined = refl;
+}

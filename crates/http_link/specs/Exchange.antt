@@ -15,6 +15,10 @@ pub record Exchange : Type 0 where
 abbrev pub messages_of : List Exchange → List Message
 messages_of exchanges = map (λ e. e.message) exchanges
 
+-- the moments at which their messages were whole, in order
+abbrev pub moments_of : List Exchange → List ℕ
+moments_of exchanges = map (λ e. e.moment) exchanges
+
 -- From old the desk comes to new by these exchanges, each allowed by its relation.
 abbrev pub Chain : {D : Type 0} → (D → Message → ℕ → Reply → D → Type 0) → D → List Exchange → D → Type 0
 Chain allows old [] new = new ≡ old

@@ -1,7 +1,6 @@
 -- How a link ends by the bytes of its input, where nothing fails.
-use Rattle.std.specs.Prelude.{◌≡◌, ℕ, ◌+◌, ◌==◌, List, [], ◌∷◌, if◌then◌else◌, IfSome, ⊤}
+use Rattle.std.specs.Prelude.{◌≡◌, ℕ, ◌+◌, ◌==◌, List, [], ◌∷◌, if◌then◌else◌, ⊤}
 use Rattle.osm_base.specs.declared.limits.TheConstants.{REQUEST_LIMIT}
-use Rattle.osm_outside.specs.Told.{Told}
 use Rattle.http_wire.specs.declared.message.Message.{Message}
 use Rattle.http_wire.specs.declared.end.WireEnd.{WireEnd}
 use Rattle.http_wire.specs.Message.{AreMessages}
@@ -9,7 +8,7 @@ use Rattle.http_wire.specs.End.{IsTold}
 use Rattle.http_link.specs.declared.end.LinkEnd.{LinkEnd}
 use Rattle.http_link.specs.declared.end.LinkEnd.TheVariants.{Closed, Budget, ReadFault, WriteFault, Memory}
 use Rattle.http_link.specs.Exchange.{Exchange, closes, messages_of}
-use Rattle.http_link.specs.Turn.{end_of}
+use Rattle.http_link.specs.Refusal.{end_of}
 
 -- the messages that are answered of these, before which so many were answered
 abbrev pub answered_from : ℕ → List Message → List Message
@@ -29,9 +28,9 @@ IsByInput WriteFault = ⊥
 IsByInput Memory = ⊥
 IsByInput other = ⊤
 
--- Where the source tells its input, these are the messages in it and its end. Unless reading, writing
--- or memory failed, the link answered all that it was to answer of them, and ended as it was to end.
-abbrev pub EndsByInput : Told → List Exchange → LinkEnd → Type 0
-EndsByInput before exchanges end =
-    IfSome before.left (λ input. (messages : List Message) × (why : WireEnd) × IsTold why × AreMessages input messages why
-    × (IsByInput end → (end ≡ end_from 0 messages why) × (messages_of exchanges ≡ answered_from 0 messages)))
+-- These are the messages in an input and its end. Unless reading, writing or memory failed, the link answered all that it was to
+-- answer of them, and ended as it was to end.
+abbrev pub EndsByInput : List ℕ → List Exchange → LinkEnd → Type 0
+EndsByInput input exchanges end =
+    (messages : List Message) × (why : WireEnd) × IsTold why × AreMessages input messages why
+    × (IsByInput end → (end ≡ end_from 0 messages why) × (messages_of exchanges ≡ answered_from 0 messages))

@@ -1,24 +1,22 @@
 -- What serving a link does.
-use Rattle.std.specs.Prelude.{◌≡◌, ℕ, ◌+◌, ◌<◌, ◌≤◌, ◌⊎◌, List, [], ◌∷◌, ◌++◌, length, map, IfSome, IsTrue, IsFalse, ⊤}
-use Rattle.std.specs.List.{AllByRecursion}
-use Rattle.std.specs.Io.KnownBytes.{Consumes, Appends}
-use Rattle.osm_base.specs.declared.limits.TheConstants.{REQUEST_LIMIT}
+use Rattle.std.specs.Prelude.{◌≡◌, ℕ, ◌+◌, ◌<◌, ◌≤◌, ◌⊎◌, List, [], ◌∷◌, ◌++◌, length, IfSome, IsTrue, IsFalse}
+use Rattle.std.specs.List.{AllByRecursion, concat}
+use Rattle.std.specs.Io.KnownBytes.{Consumes}
+use Rattle.osm_base.specs.declared.limits.TheConstants.{HEAD_LIMIT, REQUEST_LIMIT}
 use Rattle.osm_outside.specs.Told.{Told, Rose}
 use Rattle.http_wire.specs.declared.message.Message.{Message}
 use Rattle.http_wire.specs.declared.end.WireEnd.{WireEnd}
 use Rattle.http_wire.specs.declared.end.WireEnd.TheVariants as wire
 use Rattle.http_wire.specs.Message.{HasMessages}
-use Rattle.http_wire.specs.End.{EndsAs, AgreesWithInput}
+use Rattle.http_wire.specs.Received.{HaveBytes}
+use Rattle.http_wire.specs.Wire.{end_limit}
 use Rattle.http_link.specs.declared.desk.Reply.{Reply}
 use Rattle.http_link.specs.declared.end.LinkEnd.{LinkEnd}
 use Rattle.http_link.specs.declared.end.LinkEnd.TheVariants.{Ended, Closed, Budget, Refused, ReadFault, WriteFault, Memory}
-use Rattle.http_link.specs.Exchange.{Exchange, Chain, messages_of, text_of, texts_from}
+use Rattle.http_link.specs.Exchange.{Exchange, Chain, messages_of, text_of}
 use Rattle.http_link.specs.Input.{EndsByInput}
-use Rattle.http_link.specs.Turn.{refusal}
-
--- the moments at which their messages were whole, in order
-abbrev pub moments_of : List Exchange → List ℕ
-moments_of exchanges = map (λ e. e.moment) exchanges
+use Rattle.http_link.specs.Refusal.{refusal, IsRefusal}
+use Rattle.http_link.specs.Turns.{Turn, Ending, no_ending, events_of, exchanges_of, bytes_of, AreRead, AreWritten, ReadsEnd}
 
 -- no request said close
 abbrev pub NoneCloses : List Exchange → Type 0
@@ -28,87 +26,113 @@ NoneCloses exchanges = AllByRecursion (λ e. IsFalse e.message.close) exchanges
 abbrev pub GoesOn : List Exchange → Type 0
 GoesOn exchanges = NoneCloses exchanges × (length exchanges < REQUEST_LIMIT)
 
--- These exchanges were made: of the bytes that were taken some are left behind the messages.
+-- These turns were taken, and then came this ending: nothing else happened on the link.
 pub record Served {D : Type 0} (allows : D → Message → ℕ → Reply → D → Type 0)
-    (start now : D) (before after : Told) (left : List ℕ) (exchanges : List Exchange) (written : List ℕ) : Type 0 where
-  -- what was taken from the source
-  pub bytes : List ℕ
-  pub input : Consumes before.left after.left bytes
-  pub messages : HasMessages bytes (messages_of exchanges) left
-  -- each message took a byte at least
-  pub taken : length exchanges + length left ≤ length bytes
-  pub answered : Chain allows start exchanges now
-  -- the clock was read once for each message
-  pub moments : Appends before.moments after.moments (moments_of exchanges)
+    (start now : D) (before after : Told) (left : List ℕ) (turns : List Turn) (ending : Ending) : Type 0 where
+  pub trace : after.trace ≡ before.trace ++ events_of turns ending
+  -- each message was read in its own turn, and this is left behind the last
+  pub read : AreRead [] turns left
+  pub input : Consumes before.left after.left (bytes_of turns ending)
+  pub answered : Chain allows start (exchanges_of turns) now
   -- a clock that was fixed gave that moment each time
-  pub fixed : IfSome before.fixed (λ at. AllByRecursion (λ e. e.moment ≡ at) exchanges)
+  pub fixed : IfSome before.fixed (λ at. AllByRecursion (λ e. e.moment ≡ at) (exchanges_of turns))
   pub stays : after.fixed ≡ before.fixed
-  pub output : Appends before.written after.written written
   pub read_faults : before.read_faults ≤ after.read_faults
   pub write_faults : before.write_faults ≤ after.write_faults
 
--- The end is one that refuses what came in the place of a message.
-abbrev pub IsRefusal : WireEnd → Type 0
-IsRefusal wire.End = ⊥
-IsRefusal wire.ReadFault = ⊥
-IsRefusal wire.Memory = ⊥
-IsRefusal other = ⊤
+-- Each message was answered whole in its turn, and what came in the place of the next is that end, answered whole if it has an answer.
+pub record ComesTo (after : Told) (turns : List Turn) (left : List ℕ) (ending : Ending) (why : WireEnd) : Type 0 where
+  pub going_on : GoesOn (exchanges_of turns)
+  pub replies : AreWritten 0 turns
+  pub reads : ReadsEnd left ending.reads why after.left
+  pub writes : concat ending.writes ≡ refusal why
+  pub some : HaveBytes ending.writes
 
--- The last reply, to an exchange that is the last, was written in part.
-pub record LacksReply (exchanges : List Exchange) (written : List ℕ) : Type 0 where
-  pub front : List Exchange
-  pub last : Exchange
-  pub exchanges_are : exchanges ≡ front ++ last ∷ []
-  pub going_on : GoesOn front
-  pub part : List ℕ
+-- The last reply was written in part, and nothing was read or written behind it.
+pub record LacksReply (turns : List Turn) (ending : Ending) : Type 0 where
+  pub front : List Turn
+  pub last : Turn
+  pub turns_are : turns ≡ front ++ last ∷ []
+  pub going_on : GoesOn (exchanges_of front)
+  pub replies : AreWritten 0 front
   pub missing : List ℕ
-  pub whole : text_of (length front) last ≡ part ++ missing
-  pub written_are : written ≡ texts_from 0 front ++ part
+  pub whole : text_of (length front) last.exchange ≡ concat last.writes ++ missing
+  pub nothing_else : ending ≡ no_ending
 
--- All exchanges were answered whole, and the reply to an end was written in part.
-pub record LacksRefusal (after : Told) (exchanges : List Exchange) (rest written : List ℕ) : Type 0 where
+-- Each message was answered whole, and the reply to an end was written in part.
+pub record LacksRefusal (after : Told) (turns : List Turn) (left : List ℕ) (ending : Ending) : Type 0 where
   pub why : WireEnd
-  pub ends : EndsAs rest why
-  pub agrees : AgreesWithInput why after.left
-  pub going_on : GoesOn exchanges
-  pub part : List ℕ
+  pub going_on : GoesOn (exchanges_of turns)
+  pub replies : AreWritten 0 turns
+  pub reads : ReadsEnd left ending.reads why after.left
   pub missing : List ℕ
-  pub whole : refusal why ≡ part ++ missing
-  pub written_are : written ≡ texts_from 0 exchanges ++ part
+  pub whole : refusal why ≡ concat ending.writes ++ missing
 
--- How a link ends after these exchanges, with that rest of the bytes taken and that output.
-abbrev pub LinkEnds : Told → Told → List Exchange → List ℕ → List ℕ → LinkEnd → Type 0
-LinkEnds before after exchanges rest written Ended =
-    EndsAs rest wire.End × AgreesWithInput wire.End after.left × GoesOn exchanges × (written ≡ texts_from 0 exchanges)
-LinkEnds before after exchanges rest written Closed =
-    (front : List Exchange) × (last : Exchange) × (exchanges ≡ front ++ last ∷ []) × GoesOn front
-    × IsTrue last.message.close × (written ≡ texts_from 0 exchanges)
-LinkEnds before after exchanges rest written Budget =
-    NoneCloses exchanges × (length exchanges ≡ REQUEST_LIMIT) × (written ≡ texts_from 0 exchanges)
-LinkEnds before after exchanges rest written (Refused why) =
-    IsRefusal why × EndsAs rest why × AgreesWithInput why after.left × GoesOn exchanges
-    × (written ≡ texts_from 0 exchanges ++ refusal why)
+-- The last request said close, and nothing was read or written behind its reply.
+pub record IsClosed (turns : List Turn) (ending : Ending) : Type 0 where
+  pub front : List Turn
+  pub last : Turn
+  pub turns_are : turns ≡ front ++ last ∷ []
+  pub going_on : GoesOn (exchanges_of front)
+  pub close : IsTrue last.exchange.message.close
+  pub replies : AreWritten 0 turns
+  pub nothing_else : ending ≡ no_ending
+
+-- As many requests as may be were answered, none said close, and nothing was read or written behind the last reply.
+pub record IsFull (turns : List Turn) (ending : Ending) : Type 0 where
+  pub none : NoneCloses (exchanges_of turns)
+  pub full : length turns ≡ REQUEST_LIMIT
+  pub replies : AreWritten 0 turns
+  pub nothing_else : ending ≡ no_ending
+
+-- There was no memory for the wire, and nothing happened.
+pub record IsUnserved (before after : Told) (turns : List Turn) (ending : Ending) : Type 0 where
+  pub untouched : after ≡ before
+  pub no_turn : turns ≡ []
+  pub nothing_else : ending ≡ no_ending
+
+-- How a link ends after these turns, with that left behind the last message, and this ending.
+abbrev pub LinkEnds : Told → Told → List Turn → List ℕ → Ending → LinkEnd → Type 0
+LinkEnds before after turns left ending Ended = ComesTo after turns left ending wire.End
+LinkEnds before after turns left ending Closed = IsClosed turns ending
+LinkEnds before after turns left ending Budget = IsFull turns ending
+LinkEnds before after turns left ending (Refused why) = IsRefusal why × ComesTo after turns left ending why
 -- each whole message before the fault was answered
-LinkEnds before after exchanges rest written ReadFault =
-    EndsAs rest wire.ReadFault × Rose before.read_faults after.read_faults × GoesOn exchanges
-    × (written ≡ texts_from 0 exchanges)
-LinkEnds before after exchanges rest written WriteFault =
-    (LacksReply exchanges written ⊎ LacksRefusal after exchanges rest written)
-    × Rose before.write_faults after.write_faults
--- without a reply before the first message, or in the place of a message and answered
-LinkEnds before after exchanges rest written Memory =
-    (after ≡ before) × (exchanges ≡ []) × (written ≡ [])
-    ⊎ GoesOn exchanges × (written ≡ texts_from 0 exchanges ++ refusal wire.Memory)
+LinkEnds before after turns left ending ReadFault =
+    ComesTo after turns left ending wire.ReadFault × Rose before.read_faults after.read_faults
+LinkEnds before after turns left ending WriteFault =
+    (LacksReply turns ending ⊎ LacksRefusal after turns left ending) × Rose before.write_faults after.write_faults
+LinkEnds before after turns left ending Memory =
+    IsUnserved before after turns ending ⊎ ComesTo after turns left ending wire.Memory
+
+-- The most bytes that are read and are part of no answered message: those of a head, or, where a message was being read,
+-- those of a message and of a head.
+abbrev pub rest_limit : LinkEnd → ℕ
+rest_limit Ended = HEAD_LIMIT
+rest_limit Closed = HEAD_LIMIT
+rest_limit Budget = HEAD_LIMIT
+rest_limit (Refused why) = end_limit why
+rest_limit ReadFault = end_limit wire.ReadFault
+rest_limit WriteFault = end_limit wire.Memory
+rest_limit Memory = end_limit wire.Memory
+
+-- What the bytes that were read tell: the answered messages, the rest behind them, and that the link ended as they say.
+pub record AgreesWithBytes (before : Told) (bytes rest : List ℕ) (exchanges : List Exchange) (end : LinkEnd) : Type 0 where
+  pub messages : HasMessages bytes (messages_of exchanges) rest
+  -- each message took a byte at least
+  pub taken : length exchanges + length rest ≤ length bytes
+  pub limit : length rest ≤ rest_limit end
+  pub by_bytes : EndsByInput bytes exchanges end
+  -- the same of the whole input, where the source knows what is left
+  pub by_input : IfSome before.left (λ input. EndsByInput input exchanges end)
 
 -- What serving a link does, from its beginning to that end.
 pub record Serves {D : Type 0} (allows : D → Message → ℕ → Reply → D → Type 0)
     (start now : D) (before after : Told) (end : LinkEnd) : Type 0 where
-  pub exchanges : List Exchange
-  pub few : length exchanges ≤ REQUEST_LIMIT
-  -- what was taken and is part of no message
-  pub rest : List ℕ
-  pub written : List ℕ
-  pub served : Served allows start now before after rest exchanges written
-  pub ends : LinkEnds before after exchanges rest written end
-  -- the other way round: where nothing failed, the input's bytes tell the end
-  pub by_input : EndsByInput before exchanges end
+  pub turns : List Turn
+  pub few : length turns ≤ REQUEST_LIMIT
+  pub left : List ℕ
+  pub ending : Ending
+  pub served : Served allows start now before after left turns ending
+  pub ends : LinkEnds before after turns left ending end
+  pub agrees : AgreesWithBytes before (bytes_of turns ending) (left ++ concat ending.reads) (exchanges_of turns) end

@@ -1,47 +1,42 @@
 -- What one turn of a link does: a message and its reply, or an end.
-use Rattle.std.specs.Prelude.{◌≡◌, ℕ, ◌≤◌, ◌⊎◌, List, [], ◌∷◌, ◌++◌, true, Option, Result, Ok, Err, IsErr, IfSome, codes, if◌then◌else◌}
-use Rattle.std.specs.Io.KnownBytes.{Appends}
+use Rattle.std.specs.Prelude.{◌≡◌, ℕ, ◌≤◌, ◌⊎◌, List, ◌∷◌, ◌++◌, map, Result, Ok, Err, IsErr, IfSome, if◌then◌else◌}
+use Rattle.std.specs.List.{concat}
+use Rattle.std.specs.Io.KnownBytes.{Consumes}
+use Rattle.osm_outside.specs.Event.{Answered, Took}
 use Rattle.osm_outside.specs.Told.{Told, Rose}
+use Rattle.osm_outside.specs.declared.outside.Failed.{Failed}
 use Rattle.http_wire.specs.declared.message.Message.{Message}
 use Rattle.http_wire.specs.declared.end.WireEnd.{WireEnd}
-use Rattle.http_wire.specs.declared.end.WireEnd.TheVariants.{End, BadHead, HeadLong, BadLength, BodyLong, Coded, ReadFault, Memory}
-use Rattle.http_wire.specs.End.{EndsAs, AgreesWithInput}
-use Rattle.http_wire.specs.Message.{BeginsWith}
+use Rattle.http_wire.specs.declared.end.WireEnd.TheVariants.{ReadFault}
 use Rattle.http_wire.specs.Received.{Taken}
-use Rattle.http_wire.specs.Written.{Written, WrittenInPart}
+use Rattle.http_wire.specs.Reply.{reply}
+use Rattle.http_wire.specs.Written.{WrittenWhole, WrittenInPart}
 use Rattle.http_link.specs.declared.end.LinkEnd.{LinkEnd}
 use Rattle.http_link.specs.declared.end.LinkEnd.TheVariants as ends
-use Rattle.http_link.specs.declared.turn.Turn.{Turn}
-use Rattle.http_link.specs.declared.turn.Turn.TheVariants.{Answered, Over}
-use Rattle.http_link.specs.Desk.{memory_body}
+use Rattle.http_link.specs.declared.turn.Next.{Next}
+use Rattle.http_link.specs.declared.turn.Next.TheVariants.{GoesOn, Over}
 use Rattle.http_link.specs.declared.desk.Reply.{Reply}
-use Rattle.osm_outside.specs.declared.outside.Failed.{Failed}
-use Rattle.http_wire.specs.Reply.{reply}
-use Rattle.http_link.specs.Exchange.{closes}
+use Rattle.http_link.specs.Exchange.{closes, text_of}
+use Rattle.http_link.specs.Refusal.{refusal, end_of}
+use Rattle.http_link.specs.Turns.{Turn, events_of_turn, ReadsTurn, ReadsEnd}
 
--- a beginning of the text was added to the output
-pub record AppendsPart (old new : Option (List ℕ)) (text : List ℕ) : Type 0 where
-  pub part : List ℕ
-  pub rest : List ℕ
-  pub whole : text ≡ part ++ rest
-  pub added : Appends old new part
+-- The pieces are all of the text, or at a fault a beginning of it.
+abbrev pub Sends : List (List ℕ) → List ℕ → Result (Unit {0}) Failed → Type 0
+Sends pieces text (Ok done) = concat pieces ≡ text
+Sends pieces text (Err fault) = (missing : List ℕ) × (text ≡ concat pieces ++ missing)
 
--- All of the text was added to the output, or at a fault a beginning of it.
-abbrev pub Sends : Option (List ℕ) → Option (List ℕ) → List ℕ → Result (Unit {0}) Failed → Type 0
-Sends old new text (Ok done) = Appends old new text
-Sends old new text (Err fault) = AppendsPart old new text
-
--- The desk gave the message a reply, at a moment that the clock told, and it was sent.
+-- The clock answered a moment, the desk gave the message a reply, and it was sent.
 pub record Replies {D : Type 0} (allows : D → Message → ℕ → Reply → D → Type 0)
     (old new : D) (before after : Told) (count : ℕ) (message : Message) (result : Result (Unit {0}) Failed)
     : Type 0 where
   pub moment : ℕ
   pub answer : Reply
+  pub pieces : List (List ℕ)
   pub allowed : allows old message moment answer new
-  pub told : Appends before.moments after.moments (moment ∷ [])
+  pub trace : after.trace ≡ before.trace ++ (Answered moment ∷ map Took pieces)
   pub fixed : IfSome before.fixed (λ at. moment ≡ at)
   pub stays : after.fixed ≡ before.fixed
-  pub text : Sends before.written after.written (reply answer.status answer.body (closes count message)) result
+  pub sends : Sends pieces (reply answer.status answer.body (closes count message)) result
   pub input : after.left ≡ before.left
   pub read_faults : after.read_faults ≡ before.read_faults
   pub write_faults : before.write_faults ≤ after.write_faults
@@ -50,54 +45,40 @@ pub record Replies {D : Type 0} (allows : D → Message → ℕ → Reply → D 
 pub record Step {D : Type 0} (allows : D → Message → ℕ → Reply → D → Type 0)
     (old new : D) (before after : Told) (kept left : List ℕ) (count : ℕ) (result : Result (Unit {0}) Failed)
     : Type 0 where
-  pub message : Message
-  pub bytes : List ℕ
-  pub read : Told
-  pub taken : Taken before read bytes
-  pub begins : BeginsWith (kept ++ bytes) message left
-  pub replies : Replies allows old new read after count message result
+  pub turn : Turn
+  pub reads : ReadsTurn kept turn left
+  pub trace : after.trace ≡ before.trace ++ events_of_turn turn
+  pub input : Consumes before.left after.left (concat turn.reads)
+  pub allowed : allows old turn.exchange.message turn.exchange.moment turn.exchange.answer new
+  pub fixed : IfSome before.fixed (λ at. turn.exchange.moment ≡ at)
+  pub stays : after.fixed ≡ before.fixed
+  pub sends : Sends turn.writes (text_of count turn.exchange) result
+  pub read_faults : before.read_faults ≤ after.read_faults
+  pub write_faults : before.write_faults ≤ after.write_faults
 
 -- What came in the place of a message was an end, and the desk wasn't asked.
 pub record Stop {D : Type 0} (old new : D) (before read : Told) (kept : List ℕ) (why : WireEnd) : Type 0 where
-  pub bytes : List ℕ
-  pub taken : Taken before read bytes
-  pub ends : EndsAs (kept ++ bytes) why
-  pub agrees : AgreesWithInput why read.left
+  pub pieces : List (List ℕ)
+  pub taken : Taken before read pieces
+  pub reads : ReadsEnd kept pieces why read.left
   pub fault : why ≡ ReadFault → Rose before.read_faults read.read_faults
   pub unasked : new ≡ old
-
--- the bytes of the reply to an end
-abbrev pub refusal : WireEnd → List ℕ
-refusal BadHead = reply 400 (codes "{\"error\":\"bad_head\"}") true
-refusal HeadLong = reply 431 (codes "{\"error\":\"head_long\"}") true
-refusal Coded = reply 501 (codes "{\"error\":\"coded\"}") true
-refusal BadLength = reply 400 (codes "{\"error\":\"bad_length\"}") true
-refusal BodyLong = reply 413 (codes "{\"error\":\"body_long\"}") true
-refusal Memory = reply 503 memory_body true
-refusal other = []
-
--- how the link ends where its wire does
-abbrev pub end_of : WireEnd → LinkEnd
-end_of End = ends.Ended
-end_of ReadFault = ends.ReadFault
-end_of Memory = ends.Memory
-end_of why = ends.Refused why
 
 -- The reply to an end was written, or a fault came.
 abbrev pub Refuses : Told → Told → WireEnd → LinkEnd → Type 0
 Refuses read after why end =
-    (end ≡ end_of why) × Written read after (refusal why)
+    (end ≡ end_of why) × WrittenWhole read after (refusal why)
     ⊎ (end ≡ ends.WriteFault) × WrittenInPart read after (refusal why) × Rose read.write_faults after.write_faults
 
 -- what a turn leads to, where its message was answered
-abbrev pub turn_after : Message → Result (Unit {0}) Failed → Turn
-turn_after message (Ok done) = if message.close then Over ends.Closed else Answered
-turn_after message (Err fault) = Over ends.WriteFault
+abbrev pub next_after : Message → Result (Unit {0}) Failed → Next
+next_after message (Ok done) = if message.close then Over ends.Closed else GoesOn
+next_after message (Err fault) = Over ends.WriteFault
 
 -- What one turn does.
-abbrev pub TakesTurn : {D : Type 0} → (D → Message → ℕ → Reply → D → Type 0) → D → D → Told → Told → List ℕ → List ℕ → ℕ → Turn → Type 0
-TakesTurn allows old new before after kept left count turn =
+abbrev pub TakesTurn : {D : Type 0} → (D → Message → ℕ → Reply → D → Type 0) → D → D → Told → Told → List ℕ → List ℕ → ℕ → Next → Type 0
+TakesTurn allows old new before after kept left count next =
     ((result : Result (Unit {0}) Failed) × (s : Step allows old new before after kept left count result)
-    × (turn ≡ turn_after s.message result) × (IsErr result → Rose before.write_faults after.write_faults))
+    × (next ≡ next_after s.turn.exchange.message result) × (IsErr result → Rose before.write_faults after.write_faults))
     ⊎ ((read : Told) × (why : WireEnd) × (end : LinkEnd) × Stop old new before read kept why
-    × Refuses read after why end × (turn ≡ Over end))
+    × Refuses read after why end × (next ≡ Over end))

@@ -5,9 +5,10 @@ ghost use Rattle.osm_outside.specs.Told.{Rose};
 ghost use Rattle.http_wire.specs.Reply.{reply};
 ghost use Rattle.osm_base.specs.Status.{IsStatus};
 ghost use Rattle.http_wire.specs.Written.{Writes};
-ghost use Rattle.http_link.specs.Desk.{counted_reply};
+ghost use Rattle.http_link.specs.Desk.{counted_reply, memory_body};
 ghost use Rattle.http_link.specs.Exchange.{closes};
-ghost use Rattle.http_link.specs.Turn.{Replies, Refuses, TakesTurn, refusal, end_of};
+ghost use Rattle.http_link.specs.Refusal.{refusal, end_of};
+ghost use Rattle.http_link.specs.Turn.{Replies, Refuses, TakesTurn};
 
 use crate::desk::{Desk, Reply};
 use crate::end::LinkEnd;
@@ -18,10 +19,18 @@ use std::alloc::Global;
 
 /// What a turn leads to.
 #[derive(Clone, Copy, Debug, PartialEq, Eq)]
-pub enum Turn {
+pub enum Next {
     /// The link goes on.
-    Answered,
+    GoesOn,
     Over(LinkEnd),
+}
+
+/// Writes the reply to want of memory.
+fn send_memory<S: Sink>(sink: &mut S, close: bool) -> Result<(), Failed>
+    ensures writes { Writes (S.told sink.old) (S.told sink.new) (reply 503 memory_body close) result }
+    ensures failed { IsErr result → Rose (S.told sink.old).write_faults (S.told sink.new).write_faults }
+{
+    write_reply(sink, 503, b"{\"error\":\"memory\"}", close)
 }
 
 /// Writes the reply that an answer stands for.
@@ -33,11 +42,12 @@ fn send<S: Sink>(sink: &mut S, answer: &Result<Reply, Memory>, close: bool) -> R
 {
     match answer {
         Ok(reply) => write_reply(sink, reply.status, reply.body.as_slice(), close),
-        Err(_) => write_reply(sink, 503, b"{\"error\":\"memory\"}", close),
+        Err(_) => send_memory(sink, close),
     }
 }
 
-/// Whether the reply to the message ends the link, where so many were answered before it.
+/// Whether the reply to the message ends the link and says so: it does where the message asked for that, and at the last request
+/// that is answered. So many were answered before it.
 fn closes(message: &Message, count: usize) -> bool
     requires { count < REQUEST_LIMIT }
     ensures { result ≡ closes count message.now }
@@ -74,8 +84,8 @@ fn send_refusal<S: Sink>(sink: &mut S, why: WireEnd) -> Result<(), Failed>
         WireEnd::Coded => write_reply(sink, 501, b"{\"error\":\"coded\"}", true),
         WireEnd::BadLength => write_reply(sink, 400, b"{\"error\":\"bad_length\"}", true),
         WireEnd::BodyLong => write_reply(sink, 413, b"{\"error\":\"body_long\"}", true),
-        WireEnd::Memory => write_reply(sink, 503, b"{\"error\":\"memory\"}", true),
-        _ => Ok(()),
+        WireEnd::Memory => send_memory(sink, true),
+        WireEnd::End | WireEnd::Truncated | WireEnd::ReadFault => Ok(()),
     }
 }
 
@@ -97,7 +107,12 @@ fn end_of(why: WireEnd) -> LinkEnd
         WireEnd::End => LinkEnd::Ended,
         WireEnd::ReadFault => LinkEnd::ReadFault,
         WireEnd::Memory => LinkEnd::Memory,
-        other => LinkEnd::Refused(other),
+        WireEnd::Truncated
+        | WireEnd::BadHead
+        | WireEnd::HeadLong
+        | WireEnd::BadLength
+        | WireEnd::BodyLong
+        | WireEnd::Coded => LinkEnd::Refused(why),
     }
 }
 
@@ -108,22 +123,22 @@ pub fn take_turn<D: Desk, L: Link>(
     desk: &mut D,
     link: &mut L,
     count: usize,
-) -> Turn
+) -> Next
     requires few { count < REQUEST_LIMIT }
     requires going_on { IsFalse wire.old.ended }
     ensures turn { TakesTurn D.allows desk.old desk.new (L.told link.old) (L.told link.new)
         wire.old.kept wire.new.kept count result }
-    ensures going_on { result ≡ Turn.Answered → IsFalse wire.new.ended }
+    ensures going_on { result ≡ Next.GoesOn → IsFalse wire.new.ended }
 {
     match wire.read_message(alloc, link) {
         Ok(message) => {
             let close = message.close;
             match answer_message(alloc, desk, link, message, count) {
-                Err(_) => Turn::Over(LinkEnd::WriteFault),
-                Ok(()) if close => Turn::Over(LinkEnd::Closed),
-                Ok(()) => Turn::Answered,
+                Err(_) => Next::Over(LinkEnd::WriteFault),
+                Ok(()) if close => Next::Over(LinkEnd::Closed),
+                Ok(()) => Next::GoesOn,
             }
         }
-        Err(why) => Turn::Over(refuse(link, why)),
+        Err(why) => Next::Over(refuse(link, why)),
     }
 }

@@ -16,7 +16,7 @@ use Rattle.http_wire.specs.Block.{is_line_byte, IsBlockAt, IsBlank, IsOpenBlock,
 use Rattle.http_wire.specs.Fields.{first_value}
 use Rattle.http_wire.specs.Length.{body_length}
 use Rattle.http_wire.specs.Head.{IsHeadOf, HasNoHead, ReadsHead, RefusesHead, RefusesBlock, fields_of, IsPlain}
-use Rattle.http_wire.specs.End.{EndsAs, IsCut, IsOpenBody, IsTold, IsSettled}
+use Rattle.http_wire.specs.End.{EndsAs, IsCut, IsOpenBody, IsUnfinished, IsTold, IsSettled}
 use Rattle.http_wire.specs.Message.{BeginsWith, HasMessages, AreMessages}
 use Rattle.http_wire.proofs.BlockLemmas.{IsBlockAt-append, IsBlockAt-take}
 use Rattle.http_wire.proofs.ListLemmas.{slice_range-append}
@@ -249,6 +249,11 @@ pub no_end_at : (bytes rest : List ℕ) (m : Message) (e : WireEnd) → BeginsWi
 no_end_at bytes rest m e begins told ends =
     not_truncated bytes rest m begins
     (subst (λ (f : WireEnd). EndsAs bytes f) (told_is_truncated bytes rest m e begins told ends) ends)
+
+-- nothing more is needed where a message is whole
+pub not_unfinished : (bytes rest : List ℕ) (m : Message) → BeginsWith bytes m rest → ¬ (IsUnfinished bytes)
+not_unfinished bytes rest m begins (inl o) = no_block bytes o.0 (HasBlock-from_message bytes rest m begins)
+not_unfinished bytes rest m begins (inr o) = open_body_no_message bytes rest m begins o
 
 pub BeginsWith-shorter : (bytes rest : List ℕ) (m : Message) → BeginsWith bytes m rest → length rest < length bytes
 BeginsWith-shorter bytes rest m (text, message, joined) =

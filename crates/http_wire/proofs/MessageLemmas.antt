@@ -1,30 +1,123 @@
 -- What reading a message gives.
-use Rattle.std.proofs.Common.{◌≡◌, ℕ, ◌<◌, ◌≤◌, List, ◌++◌, take, drop, length, slice_range, Result, Err, inr, sym, ap, ◌∙◌, append_assoc, arith}
+use Rattle.std.proofs.Common.{◌≡◌, ℕ, ◌<◌, ◌≤◌, List, [], ◌∷◌, ◌++◌, take, drop, length, slice_range, Option, Some, None, Ok, Err, inl, inr, refl, sym, ap, ◌∙◌, append_assoc, append-nil, arith, length-append, length-drop}
+use Rattle.std.specs.List.{concat}
 use Rattle.std.proofs.lemmas.List.{take-append-drop, length-take-le, drop_at, drop-append-le}
 use Rattle.osm_outside.specs.Told.{Told}
 use Rattle.osm_base.specs.declared.limits.TheConstants.{HEAD_LIMIT}
 use Rattle.http_wire.specs.declared.end.WireEnd.{WireEnd}
 use Rattle.http_wire.specs.declared.end.WireEnd.TheVariants.{Truncated, ReadFault, Memory}
 use Rattle.http_wire.specs.declared.head.Head.{Head}
-use Rattle.http_wire.specs.declared.message.Message.{Message}
-use Rattle.http_wire.specs.Received.{Taken, Receives}
-use Rattle.http_wire.specs.Block.{IsBlockAt}
-use Rattle.http_wire.specs.Body.{BodyStops}
+use Rattle.http_wire.specs.Received.{Taken, Fills, HaveBytes, AgreesWithInput}
+use Rattle.http_wire.specs.Block.{IsBlockAt, IsSearched}
+use Rattle.http_wire.specs.Body.{AreShort, Delivers, LacksBody, BodyStops}
 use Rattle.http_wire.specs.Head.{ReadsHead}
-use Rattle.http_wire.specs.End.{EndsAs, IsOpenBody, AgreesWithInput}
-use Rattle.http_wire.specs.Message.{BeginsWith, Gives, message_of}
-use Rattle.http_wire.specs.Wire.{Reads}
+use Rattle.http_wire.specs.End.{EndsAs, IsOpenBody, IsUnfinished, input_ended}
+use Rattle.http_wire.specs.Message.{BeginsWith, message_of}
+use Rattle.http_wire.specs.Wire.{AreNeeded, Gathers, Reads, end_limit}
 use Rattle.http_wire.proofs.ListLemmas.{slice_range-append, slice_range-front}
-use Rattle.http_wire.proofs.BlockLemmas.{IsBlockAt-take, IsBlockAt-append}
-use Rattle.http_wire.proofs.ReceivedLemmas.{Taken-trans}
+use Rattle.http_wire.proofs.BlockLemmas.{IsBlockAt-take, IsBlockAt-append, HasNoBlock-from_search}
+use Rattle.http_wire.proofs.ReceivedLemmas.{concat-append, concat-push, Taken-trans, HaveBytes-append, GaveAll-push, AgreesWithInput-behind, AreNeeded-append, AreNeeded-push, AreShort-push, nothing}
 
-pub Reads-from_end : (old new : Told) (before now after : List ℕ) (end : WireEnd) → Receives old new before now
-    → EndsAs now end → Reads old new before (Err end) after
-Reads-from_end old new before now after end received ends = record {
-  bytes = received.bytes;
-  taken = received.taken;
-  gives = rw received.joined at ends;
+-- ---- where no head block is whole
+
+pub Reads-from_end : (a b : Told) (before now after : List ℕ) (end : WireEnd) → (g : Gathers a b before now)
+    → AgreesWithInput end g.pieces b.left → length now ≤ end_limit end → EndsAs now end → Reads a b before (Err end) after
+Reads-from_end a b before now after end g agrees limit ends = record {
+  pieces = g.pieces;
+  taken = g.taken;
+  needed = g.needed;
+  stops = agrees;
+  limit = rw g.joined at limit;
+  gives = rw g.joined at ends;
 }
+
+unfinished : (now : List ℕ) (begin : Option ℕ) → IsSearched now begin (length now) → length now < HEAD_LIMIT → IsUnfinished now
+unfinished now begin searched short = inl (HasNoBlock-from_search now begin searched, short)
+
+at_none : (now : List ℕ) (begin : Option ℕ) → IsSearched now begin (length now) → length now < HEAD_LIMIT
+    → EndsAs now (input_ended begin) × (length now ≤ end_limit (input_ended begin))
+at_none now None searched short = ((searched, short), omega arith)
+at_none now (Some begin) searched short =
+    (inl (record { begin = begin; begins = searched.0; no_end = searched.1 }, short), omega arith)
+
+agrees_at_none : (begin : Option ℕ) (b c : Told) (pieces : List (List ℕ)) (now after : List ℕ) → HaveBytes pieces
+    → (f : Fills b c now after 0) → AgreesWithInput (input_ended begin) (pieces ++ f.piece ∷ []) c.left
+agrees_at_none None b c pieces now after some f = GaveAll-push pieces f.piece c.left some f.size (f.at_end refl)
+agrees_at_none (Some begin) b c pieces now after some f = GaveAll-push pieces f.piece c.left some f.size (f.at_end refl)
+
+-- the input ended
+pub Reads-from_none : (a b c : Told) (before now next after : List ℕ) (begin : Option ℕ) → Gathers a b before now
+    → IsSearched now begin (length now) → length now < HEAD_LIMIT → Fills b c now next 0 → Reads a c before (Err (input_ended begin)) after
+Reads-from_none a b c before now next after begin g searched short f =
+    let pieces = g.pieces ++ f.piece ∷ [] in
+    let same : before ++ concat pieces ≡ now =
+    ap (λ l. before ++ l) (concat-push g.pieces f.piece) ∙ sym (append_assoc before (concat g.pieces) f.piece)
+    ∙ ap (λ l. l ++ f.piece) (sym g.joined) ∙ ap (λ l. now ++ l) (nothing f.piece f.size) ∙ append-nil now in
+    let told = at_none now begin searched short in
+    record {
+      pieces = pieces;
+      taken = Taken-trans a b c g.pieces (f.piece ∷ []) g.taken f.taken;
+      needed = AreNeeded-push before g.pieces f.piece g.needed (rw g.joined at (unfinished now begin searched short));
+      stops = agrees_at_none begin b c g.pieces now next g.some f;
+      limit = rw same told.1;
+      gives = rw same told.0;
+    }
+
+-- reading failed
+Gathers-still : (a b c : Told) (before now : List ℕ) → Gathers a b before now → Taken b c [] → Gathers a c before now
+Gathers-still a b c before now g taken = record {
+  pieces = g.pieces;
+  taken = rw (append-nil g.pieces) at (Taken-trans a b c g.pieces [] g.taken taken);
+  needed = g.needed;
+  some = g.some;
+  joined = g.joined;
+}
+
+pub Reads-from_fault : (a b c : Told) (before now after : List ℕ) (begin : Option ℕ) → Gathers a b before now
+    → IsSearched now begin (length now) → length now < HEAD_LIMIT → Taken b c [] → Reads a c before (Err ReadFault) after
+unfolding Gathers-still
+Reads-from_fault a b c before now after begin g searched short taken =
+    let still = Gathers-still a b c before now g taken in
+    Reads-from_end a c before now after ReadFault still g.some (omega arith) (unfinished now begin searched short)
+
+-- ---- where the body stops
+
+pub BodyStops-no_memory : (a b : Told) (before : List ℕ) (size : ℕ) (part kept : List ℕ) → Delivers a b before size part kept
+    → length part ≤ size → length kept ≤ HEAD_LIMIT → BodyStops a b before size Memory
+BodyStops-no_memory a b before size part kept d fits few = record {
+  pieces = d.pieces;
+  taken = d.taken;
+  short = d.short;
+  agrees = d.some;
+  lacks = rw d.joined (omega (arith, length-append part kept));
+}
+
+pub BodyStops-cut : (a b c : Told) (before : List ℕ) (size : ℕ) (part kept after : List ℕ) → Delivers a b before size part kept
+    → length (part ++ kept) < size → Fills b c kept after 0 → BodyStops a c before size Truncated
+BodyStops-cut a b c before size part kept after d lacks f =
+    let pieces = d.pieces ++ f.piece ∷ [] in
+    let lack : length (before ++ concat d.pieces) < size = rw (← d.joined) at lacks in
+    let same : before ++ concat pieces ≡ before ++ concat d.pieces =
+    ap (λ l. before ++ l) (concat-push d.pieces f.piece ∙ ap (λ l. concat d.pieces ++ l) (nothing f.piece f.size) ∙ append-nil (concat d.pieces)) in
+    record {
+      pieces = pieces;
+      taken = Taken-trans a b c d.pieces (f.piece ∷ []) d.taken f.taken;
+      short = AreShort-push before size d.pieces f.piece d.short lack;
+      agrees = GaveAll-push d.pieces f.piece c.left d.some f.size (f.at_end refl);
+      lacks = rw same lack;
+    }
+
+pub BodyStops-fault : (a b c : Told) (before : List ℕ) (size : ℕ) (part kept : List ℕ) → Delivers a b before size part kept
+    → length (part ++ kept) < size → Taken b c [] → BodyStops a c before size ReadFault
+BodyStops-fault a b c before size part kept d lacks taken = record {
+  pieces = d.pieces;
+  taken = rw (append-nil d.pieces) at (Taken-trans a b c d.pieces [] d.taken taken);
+  short = d.short;
+  agrees = d.some;
+  lacks = rw (← d.joined) at lacks;
+}
+
+-- ---- a head and what follows it
 
 -- the head block stands in what was kept, and the body behind it
 pub BeginsWith-from_parts : (bytes more body after : List ℕ) (begin end : ℕ) (kept : Head)
@@ -63,32 +156,77 @@ IsOpenBody-from_parts bytes more begin end kept block limit head short = record 
   short = rw (drop-append-le end bytes more block.within) short;
 }
 
--- a part was received, and then more was taken
-pub Reads-from_two : (a b c : Told) (before now more after : List ℕ) (result : Result Message WireEnd)
-    → Receives a b before now → Taken b c more → Gives (now ++ more) result after → Reads a c before result after
-Reads-from_two a b c before now more after result received taken gives = record {
-  bytes = received.bytes ++ more;
-  taken = Taken-trans a b c received.bytes more received.taken taken;
-  gives = rw (received.joined, append_assoc before received.bytes more) at gives;
+-- what is read of a body is needed for the message
+AreNeeded-from_short : (bytes more : List ℕ) (begin end : ℕ) (kept : Head) (pieces : List (List ℕ)) → IsBlockAt bytes begin end
+    → end ≤ HEAD_LIMIT → ReadsHead (slice_range bytes begin end) kept → AreShort (drop end bytes ++ more) kept.length pieces
+    → AreNeeded (bytes ++ more) pieces
+AreNeeded-from_short bytes more begin end kept [] block limit head short = tt
+AreNeeded-from_short bytes more begin end kept (piece ∷ pieces) block limit head short = (
+  inr (IsOpenBody-from_parts bytes more begin end kept block limit head short.0),
+  rw (append_assoc bytes more piece)
+      (AreNeeded-from_short bytes (more ++ piece) begin end kept pieces block limit head
+      (rw (append_assoc (drop end bytes) more piece) at short.1)),
+)
+
+-- what was read for the head and for the body was needed
+all_needed : (a b : Told) (before now : List ℕ) (begin end : ℕ) (kept : Head) (pieces : List (List ℕ)) (g : Gathers a b before now)
+    → IsBlockAt now begin end → end ≤ HEAD_LIMIT → ReadsHead (slice_range now begin end) kept
+    → AreShort (drop end now) kept.length pieces → AreNeeded before (g.pieces ++ pieces)
+all_needed a b before now begin end kept pieces g block limit head short =
+    let none : drop end now ++ [] ≡ drop end now = append-nil (drop end now) in
+    let needed = AreNeeded-from_short now [] begin end kept pieces block limit head (rw none short) in
+    AreNeeded-append before g.pieces pieces g.needed (rw (append-nil now, g.joined) at needed)
+
+joined_with : (a b : Told) (before now : List ℕ) (pieces : List (List ℕ)) (g : Gathers a b before now)
+    → now ++ concat pieces ≡ before ++ concat (g.pieces ++ pieces)
+joined_with a b before now pieces g =
+    ap (λ l. l ++ concat pieces) g.joined ∙ append_assoc before (concat g.pieces) (concat pieces)
+    ∙ ap (λ l. before ++ l) (sym (concat-append g.pieces pieces))
+
+-- the body was read too
+pub Reads-from_body : (a b c : Told) (before now body after : List ℕ) (begin end : ℕ) (kept : Head) → Gathers a b before now
+    → IsBlockAt now begin end → end ≤ HEAD_LIMIT → ReadsHead (slice_range now begin end) kept
+    → Delivers b c (drop end now) kept.length body after → length body ≡ kept.length → length after ≤ HEAD_LIMIT
+    → Reads a c before (Ok (message_of kept body)) after
+Reads-from_body a b c before now body after begin end kept g block limit head d size few = record {
+  pieces = g.pieces ++ d.pieces;
+  taken = Taken-trans a b c g.pieces d.pieces g.taken d.taken;
+  needed = all_needed a b before now begin end kept d.pieces g block limit head d.short;
+  stops = HaveBytes-append g.pieces d.pieces g.some d.some;
+  limit = few;
+  gives = rw (joined_with a b before now d.pieces g) at
+      (BeginsWith-from_parts now (concat d.pieces) body after begin end kept block limit head d.joined size);
 }
 
--- what is read where the body stops
-pub Reads-from_stop : (a b c : Told) (before now after : List ℕ) (begin end : ℕ) (kept : Head) (why : WireEnd)
-    → Receives a b before now → IsBlockAt now begin end → end ≤ HEAD_LIMIT → ReadsHead (slice_range now begin end) kept
-    → BodyStops b c (drop end now) kept.length why → Reads a c before (Err why) after
-Reads-from_stop a b c before now after begin end kept Truncated received block limit head stops =
-    Reads-from_two a b c before now stops.0.bytes after (Err Truncated) received stops.0.taken
-    (inr (IsOpenBody-from_parts now stops.0.bytes begin end kept block limit head stops.0.short))
-Reads-from_stop a b c before now after begin end kept ReadFault received block limit head stops =
-    Reads-from_two a b c before now stops.0.bytes after (Err ReadFault) received stops.0.taken
-    (inr (IsOpenBody-from_parts now stops.0.bytes begin end kept block limit head stops.0.short))
-Reads-from_stop a b c before now after begin end kept Memory received block limit head stops =
-    Reads-from_two a b c before now stops.0 after (Err Memory) received stops.1 tt
-Reads-from_stop a b c before now after begin end kept other received block limit head stops = absurd stops
+-- what there is where a body stops
+ends_in_body : (bytes more : List ℕ) (begin end : ℕ) (kept : Head) (why : WireEnd) → IsBlockAt bytes begin end → end ≤ HEAD_LIMIT
+    → ReadsHead (slice_range bytes begin end) kept → LacksBody (drop end bytes ++ more) kept.length why
+    → EndsAs (bytes ++ more) why × (length (bytes ++ more) ≤ end_limit why)
+ends_in_body bytes more begin end kept Truncated block limit head lacks = (
+  inr (IsOpenBody-from_parts bytes more begin end kept block limit head lacks),
+  omega (arith, lacks, limit, block.within, head.fits, length-drop end bytes, length-append (drop end bytes) more, length-append bytes more),
+)
+ends_in_body bytes more begin end kept ReadFault block limit head lacks = (
+  inr (IsOpenBody-from_parts bytes more begin end kept block limit head lacks),
+  omega (arith, lacks, limit, block.within, head.fits, length-drop end bytes, length-append (drop end bytes) more, length-append bytes more),
+)
+ends_in_body bytes more begin end kept Memory block limit head lacks = (
+  tt,
+  omega (arith, lacks, limit, block.within, head.fits, length-drop end bytes, length-append (drop end bytes) more, length-append bytes more),
+)
+ends_in_body bytes more begin end kept other block limit head lacks = absurd lacks
 
-pub BodyStops-at_end : (b c : Told) (kept : List ℕ) (size : ℕ) (why : WireEnd) → BodyStops b c kept size why
-    → AgreesWithInput why c.left
-BodyStops-at_end b c kept size Truncated stops = stops.1
-BodyStops-at_end b c kept size ReadFault stops = tt
-BodyStops-at_end b c kept size Memory stops = tt
-BodyStops-at_end b c kept size other stops = absurd stops
+pub Reads-from_stop : (a b c : Told) (before now after : List ℕ) (begin end : ℕ) (kept : Head) (why : WireEnd) → Gathers a b before now
+    → IsBlockAt now begin end → end ≤ HEAD_LIMIT → ReadsHead (slice_range now begin end) kept
+    → BodyStops b c (drop end now) kept.length why → Reads a c before (Err why) after
+Reads-from_stop a b c before now after begin end kept why g block limit head s =
+    let told = ends_in_body now (concat s.pieces) begin end kept why block limit head s.lacks in
+    let same = joined_with a b before now s.pieces g in
+    record {
+      pieces = g.pieces ++ s.pieces;
+      taken = Taken-trans a b c g.pieces s.pieces g.taken s.taken;
+      needed = all_needed a b before now begin end kept s.pieces g block limit head s.short;
+      stops = AgreesWithInput-behind why g.pieces s.pieces c.left g.some s.agrees;
+      limit = rw same at told.1;
+      gives = rw same at told.0;
+    }

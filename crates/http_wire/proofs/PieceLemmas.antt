@@ -1,11 +1,13 @@
 -- What is read of an input in pieces is what the whole input says.
 use Rattle.std.proofs.Common.{◌≡◌, ℕ, List, ◌++◌, Option, Some, None, Ok, Err, refl, sym, ap, subst, ◌∙◌, append_assoc, append-nil}
+use Rattle.std.specs.List.{concat}
 use Rattle.std.specs.Io.KnownBytes.{Consumes, IsAtEnd}
 use Rattle.osm_outside.specs.Told.{Told}
 use Rattle.http_wire.specs.declared.end.WireEnd.{WireEnd}
 use Rattle.http_wire.specs.declared.end.WireEnd.TheVariants.{End, Truncated, BadHead, HeadLong, BadLength, BodyLong, Coded, ReadFault, Memory}
 use Rattle.http_wire.specs.declared.message.Message.{Message}
-use Rattle.http_wire.specs.End.{EndsAs, AgreesWithInput, IsTold, IsSettled}
+use Rattle.http_wire.specs.End.{EndsAs, IsTold, IsSettled}
+use Rattle.http_wire.specs.Received.{AgreesWithInput}
 use Rattle.http_wire.specs.Message.{BeginsWith}
 use Rattle.http_wire.specs.Wire.{Reads}
 use Rattle.http_wire.proofs.EndLemmas.{BeginsWith-append, EndsAs-append}
@@ -23,8 +25,8 @@ pub message_in_any_pieces : (old new : Told) (before after input : List ℕ) (m 
     → Reads old new before (Ok m) after
     → (left : List ℕ) × (new.left ≡ Some left) × BeginsWith (before ++ input) m (after ++ left)
 message_in_any_pieces old new before after input m known reads =
-    message_of_whole before after reads.bytes input new.left m
-    (subst (λ (o : Option (List ℕ)). Consumes o new.left reads.bytes) known reads.taken.input) reads.gives
+    message_of_whole before after (concat reads.pieces) input new.left m
+    (subst (λ (o : Option (List ℕ)). Consumes o new.left (concat reads.pieces)) known reads.taken.input) reads.gives
 
 settled_end : (before bytes input : List ℕ) (left : Option (List ℕ)) (e : WireEnd) → IsSettled e → Consumes (Some input) left bytes
     → EndsAs (before ++ bytes) e → EndsAs (before ++ input) e
@@ -40,20 +42,20 @@ last_end before bytes input (Some rest) e done taken ends =
     let same : bytes ≡ input = sym (taken ∙ ap (λ (l : List ℕ). bytes ++ l) done ∙ append-nil bytes) in
     subst (λ (l : List ℕ). EndsAs (before ++ l) e) same ends
 
-end_of_whole : (before bytes input : List ℕ) (left : Option (List ℕ)) (e : WireEnd) → IsTold e → AgreesWithInput e left
+end_of_whole : (before bytes : List ℕ) (pieces : List (List ℕ)) (input : List ℕ) (left : Option (List ℕ)) (e : WireEnd) → IsTold e → AgreesWithInput e pieces left
     → Consumes (Some input) left bytes → EndsAs (before ++ bytes) e → EndsAs (before ++ input) e
-end_of_whole before bytes input left End told agrees taken ends = last_end before bytes input left End agrees taken ends
-end_of_whole before bytes input left Truncated told agrees taken ends = last_end before bytes input left Truncated agrees taken ends
-end_of_whole before bytes input left HeadLong told agrees taken ends = settled_end before bytes input left HeadLong tt taken ends
-end_of_whole before bytes input left BadHead told agrees taken ends = settled_end before bytes input left BadHead tt taken ends
-end_of_whole before bytes input left Coded told agrees taken ends = settled_end before bytes input left Coded tt taken ends
-end_of_whole before bytes input left BadLength told agrees taken ends = settled_end before bytes input left BadLength tt taken ends
-end_of_whole before bytes input left BodyLong told agrees taken ends = settled_end before bytes input left BodyLong tt taken ends
-end_of_whole before bytes input left ReadFault told agrees taken ends = absurd told
-end_of_whole before bytes input left Memory told agrees taken ends = absurd told
+end_of_whole before bytes pieces input left End told agrees taken ends = last_end before bytes input left End agrees.at_end taken ends
+end_of_whole before bytes pieces input left Truncated told agrees taken ends = last_end before bytes input left Truncated agrees.at_end taken ends
+end_of_whole before bytes pieces input left HeadLong told agrees taken ends = settled_end before bytes input left HeadLong tt taken ends
+end_of_whole before bytes pieces input left BadHead told agrees taken ends = settled_end before bytes input left BadHead tt taken ends
+end_of_whole before bytes pieces input left Coded told agrees taken ends = settled_end before bytes input left Coded tt taken ends
+end_of_whole before bytes pieces input left BadLength told agrees taken ends = settled_end before bytes input left BadLength tt taken ends
+end_of_whole before bytes pieces input left BodyLong told agrees taken ends = settled_end before bytes input left BodyLong tt taken ends
+end_of_whole before bytes pieces input left ReadFault told agrees taken ends = absurd told
+end_of_whole before bytes pieces input left Memory told agrees taken ends = absurd told
 
 pub end_in_any_pieces : (old new : Told) (before after input : List ℕ) (e : WireEnd) → old.left ≡ Some input → IsTold e
-    → Reads old new before (Err e) after → AgreesWithInput e new.left → EndsAs (before ++ input) e
-end_in_any_pieces old new before after input e known told reads agrees =
-    end_of_whole before reads.bytes input new.left e told agrees
-    (subst (λ (o : Option (List ℕ)). Consumes o new.left reads.bytes) known reads.taken.input) reads.gives
+    → Reads old new before (Err e) after → EndsAs (before ++ input) e
+end_in_any_pieces old new before after input e known told reads =
+    end_of_whole before (concat reads.pieces) reads.pieces input new.left e told reads.stops
+    (subst (λ (o : Option (List ℕ)). Consumes o new.left (concat reads.pieces)) known reads.taken.input) reads.gives

@@ -1,6 +1,5 @@
 -- What stands in the place of a message.
-use Rattle.std.specs.Prelude.{ℕ, ◌<◌, ◌≤◌, ◌⊎◌, List, length, take, drop, slice_range, Option, ⊤}
-use Rattle.std.specs.Io.KnownBytes.{IsAtEnd}
+use Rattle.std.specs.Prelude.{ℕ, ◌<◌, ◌≤◌, ◌⊎◌, List, length, take, drop, slice_range, Option, None, Some, ⊤}
 use Rattle.osm_base.specs.declared.limits.TheConstants.{HEAD_LIMIT}
 use Rattle.http_wire.specs.declared.head.Head.{Head}
 use Rattle.http_wire.specs.declared.end.WireEnd.{WireEnd}
@@ -18,6 +17,15 @@ pub record IsOpenBody (bytes : List ℕ) : Type 0 where
   pub head : ReadsHead (slice_range bytes begin end) kept
   pub short : length (drop end bytes) < kept.length
 
+-- the end where the input ends, by where a head block begins, if it has begun
+abbrev pub input_ended : Option ℕ → WireEnd
+input_ended None = End
+input_ended (Some begin) = Truncated
+
+-- The bytes tell no message and no end, but that the input may end here.
+abbrev pub IsUnfinished : List ℕ → Type 0
+IsUnfinished bytes = (HasNoBlock bytes × (length bytes < HEAD_LIMIT)) ⊎ IsOpenBody bytes
+
 -- A message has begun, and isn't whole.
 abbrev pub IsCut : List ℕ → Type 0
 IsCut bytes = (IsOpenBlock bytes × (length bytes < HEAD_LIMIT)) ⊎ IsOpenBody bytes
@@ -32,14 +40,8 @@ EndsAs bytes Coded = RefusesBlock bytes Coded
 EndsAs bytes BadLength = RefusesBlock bytes BadLength
 EndsAs bytes BodyLong = RefusesBlock bytes BodyLong
 -- reading failed before the next message was whole
-EndsAs bytes ReadFault = (HasNoBlock bytes × (length bytes < HEAD_LIMIT)) ⊎ IsOpenBody bytes
+EndsAs bytes ReadFault = IsUnfinished bytes
 EndsAs bytes Memory = ⊤
-
--- The input is at its end where the end says so.
-abbrev pub AgreesWithInput : WireEnd → Option (List ℕ) → Type 0
-AgreesWithInput End left = IsAtEnd left
-AgreesWithInput Truncated left = IsAtEnd left
-AgreesWithInput other left = ⊤
 
 -- The bytes alone tell this end. A fault in reading and want of memory may come at any bytes.
 abbrev pub IsTold : WireEnd → Type 0

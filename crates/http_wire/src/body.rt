@@ -1,7 +1,8 @@
 //! The body of a message.
-ghost use Rattle.std.specs.Prelude.{◌≡◌, ◌+◌, ◌++◌, length, vec_len, IfOk, IfErr, OnOk};
-ghost use Rattle.http_wire.specs.Body.{BodyStops};
-ghost use Rattle.http_wire.specs.Received.{Delivers};
+ghost use Rattle.std.specs.Prelude.{◌≡◌, ◌≤◌, ◌+◌, ◌++◌, length, vec_len, IfOk, IfErr, OnOk, IsErrOf};
+ghost use Rattle.osm_base.specs.declared.limits.TheConstants.{HEAD_LIMIT};
+ghost use Rattle.http_wire.specs.Body.{BodyStops, Delivers};
+ghost use Rattle.osm_outside.specs.Told.{Rose};
 
 use crate::buffer::Buffer;
 use crate::end::WireEnd;
@@ -16,9 +17,12 @@ pub fn read_body<S: Source>(
     source: &mut S,
     size: usize,
 ) -> Result<Bytes, WireEnd>
-    ensures body { IfOk result (λ body. Delivers (S.told source.old) (S.told source.new) buffer.old body buffer.new) }
+    ensures body { IfOk result (λ body. Delivers (S.told source.old) (S.told source.new) buffer.old size body buffer.new) }
     ensures size { IfOk result (λ body. length body ≡ size) }
+    ensures limit { OnOk result (length buffer.new ≤ HEAD_LIMIT) }
     ensures stops { IfErr result (BodyStops (S.told source.old) (S.told source.new) buffer.old size) }
+    ensures fault { IsErrOf result WireEnd.ReadFault
+        → Rose (S.told source.old).read_faults (S.told source.new).read_faults }
 {
     let mut body = Vec::new(alloc);
     'pieces: loop {

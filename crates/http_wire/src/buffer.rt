@@ -1,7 +1,6 @@
 //! The bytes that were read and aren't used yet.
 ghost use Rattle.std.specs.Prelude.{◌≡◌, ◌≤◌, ◌<◌, ◌+◌, ◌-◌, [], List, ℕ, length, take, drop, IfOk, OnErr, IsErr, vec_len};
-ghost use Rattle.std.specs.Io.KnownBytes.{IsAtEnd};
-ghost use Rattle.http_wire.specs.Received.{Receives};
+ghost use Rattle.http_wire.specs.Received.{Fills, Taken};
 ghost use Rattle.osm_base.specs.declared.limits.TheConstants.{HEAD_LIMIT};
 ghost use Rattle.osm_outside.specs.Told.{Rose};
 
@@ -58,10 +57,9 @@ impl Buffer {
     /// where they aren't a whole message, so each byte moves once at most.
     pub fn fill<S: Source>(&mut self, source: &mut S) -> Result<usize, Failed>
         requires { length self.old < HEAD_LIMIT }
-        ensures received { Receives (S.told source.old) (S.told source.new) self.old self.new }
-        ensures count { IfOk result (λ n. length self.new ≡ length self.old + n) }
-        ensures at_end { IfOk result (λ n. n ≡ 0 → IsAtEnd (S.told source.new).left) }
+        ensures filled { IfOk result (Fills (S.told source.old) (S.told source.new) self.old self.new) }
         ensures err { OnErr result (self.new ≡ self.old) }
+        ensures nothing_read { OnErr result (Taken (S.told source.old) (S.told source.new) []) }
         ensures failed { IsErr result → Rose (S.told source.old).read_faults (S.told source.new).read_faults }
     {
         let len = self.end - self.start;
@@ -91,12 +89,10 @@ fn read_behind<S: Source>(bytes: &mut [u8], len: usize, source: &mut S) -> Resul
     requires { len < length bytes.old }
     ensures count { IfOk result (λ n. len + n ≤ length bytes.new) }
     ensures len { length bytes.new ≡ length bytes.old }
-    ensures received { IfOk result (λ n. Receives (S.told source.old) (S.told source.new)
-        (take len bytes.old) (take (len + n) bytes.new)) }
-    ensures at_end { IfOk result (λ n. n ≡ 0 → IsAtEnd (S.told source.new).left) }
-    ensures err { OnErr result (Receives (S.told source.old) (S.told source.new)
-        (take len bytes.old) (take len bytes.new)) }
+    ensures filled { IfOk result (λ n. Fills (S.told source.old) (S.told source.new)
+        (take len bytes.old) (take (len + n) bytes.new) n) }
     ensures unchanged { OnErr result (take len bytes.new ≡ take len bytes.old) }
+    ensures nothing_read { OnErr result (Taken (S.told source.old) (S.told source.new) []) }
     ensures failed { IsErr result → Rose (S.told source.old).read_faults (S.told source.new).read_faults }
 {
     source.read(&mut bytes[len..])

@@ -19,11 +19,8 @@ pub use close::trim_ows;
 pub use end::WireEnd;
 pub use law::{
     end_in_any_pieces, end_stays, message_in_any_pieces, message_stays, no_empty_message,
-    no_end_at_a_message, one_end, one_message, one_reading, some_reading,
+    no_end_at_a_message, no_read_at_a_message, one_end, one_message, one_reading, some_reading,
 };
 pub use message::Message;
 pub use reply::write_reply;
 pub use wire::Wire;
-
-#[cfg(test)]
-mod tests;

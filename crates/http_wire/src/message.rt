@@ -1,6 +1,5 @@
 //! One message.
-ghost use Rattle.std.specs.Prelude.{◌≡◌, IfErr, IsErrOf};
-ghost use Rattle.http_wire.specs.End.{AgreesWithInput};
+ghost use Rattle.std.specs.Prelude.{◌≡◌, IsErrOf};
 ghost use Rattle.http_wire.specs.Message.{message_of};
 ghost use Rattle.http_wire.specs.Wire.{Reads};
 ghost use Rattle.osm_outside.specs.Told.{Rose};
@@ -58,13 +57,12 @@ pub fn read_next<S: Source>(
     source: &mut S,
 ) -> Result<Message, WireEnd>
     ensures reads { Reads (S.told source.old) (S.told source.new) buffer.old result buffer.new }
-    ensures at_end { IfErr result (λ e. AgreesWithInput e (S.told source.new).left) }
     ensures fault { IsErrOf result WireEnd.ReadFault
         → Rose (S.told source.old).read_faults (S.told source.new).read_faults }
 {
-    let (begin, end) = read_block(buffer, source)?;
-    let head = read_head(alloc, &buffer.as_slice()[begin..end])?;
-    buffer.drop_front(end);
+    let block = read_block(buffer, source)?;
+    let head = read_head(alloc, &buffer.as_slice()[block.begin..block.end])?;
+    buffer.drop_front(block.end);
     let body = read_body(buffer, alloc, source, head.length)?;
     Ok(message_of(head, body))
 }

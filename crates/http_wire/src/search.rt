@@ -1,23 +1,23 @@
 //! Reading until a head block is whole.
-ghost use Rattle.std.specs.Prelude.{◌≤◌, length, IfOk, IfErr, IsErrOf};
+ghost use Rattle.std.specs.Prelude.{◌≡◌, ◌≤◌, length, Err, IfOk, OnOk, IfErr, IsErrOf};
+ghost use Rattle.osm_base.specs.declared.limits.TheConstants.{HEAD_LIMIT};
 ghost use Rattle.http_wire.specs.Block.{IsBlockAt};
-ghost use Rattle.http_wire.specs.End.{EndsAs, AgreesWithInput};
-ghost use Rattle.http_wire.specs.Received.{Receives};
+ghost use Rattle.http_wire.specs.End.{input_ended};
+ghost use Rattle.http_wire.specs.Wire.{Gathers, Reads};
 ghost use Rattle.osm_outside.specs.Told.{Rose};
 
-use crate::block::find_block;
+use crate::block::{HeadBlock, Search, find_block};
 use crate::buffer::Buffer;
 use crate::end::WireEnd;
 use osm_base::HEAD_LIMIT;
 use osm_outside::{Outside, Source};
 
-/// Reads until a head block is whole, and says where it begins and ends.
-pub fn read_block<S: Source>(buffer: &mut Buffer, source: &mut S) -> Result<(usize, usize), WireEnd>
-    ensures received { Receives (S.told source.old) (S.told source.new) buffer.old buffer.new }
+/// Reads until a head block is whole, and says where it stands.
+pub fn read_block<S: Source>(buffer: &mut Buffer, source: &mut S) -> Result<HeadBlock, WireEnd>
+    ensures gathered { OnOk result (Gathers (S.told source.old) (S.told source.new) buffer.old buffer.new) }
     ensures limit { length buffer.new ≤ HEAD_LIMIT }
-    ensures found { IfOk result (λ block. IsBlockAt buffer.new block.0 block.1) }
-    ensures ends { IfErr result (EndsAs buffer.new) }
-    ensures at_end { IfErr result (λ e. AgreesWithInput e (S.told source.new).left) }
+    ensures found { IfOk result (λ block. IsBlockAt buffer.new block.begin block.end) }
+    ensures ended { IfErr result (λ e. Reads (S.told source.old) (S.told source.new) buffer.old (Err e) buffer.new) }
     ensures fault { IsErrOf result WireEnd.ReadFault
         → Rose (S.told source.old).read_faults (S.told source.new).read_faults }
 {
@@ -26,22 +26,27 @@ pub fn read_block<S: Source>(buffer: &mut Buffer, source: &mut S) -> Result<(usi
     'reads: loop {
         let bytes = buffer.as_slice();
         match find_block(bytes, begin, searched) {
-            Ok(block) => return Ok(block),
-            Err(begun) => begin = begun,
+            Search::Whole(block) => return Ok(block),
+            Search::Open(begun) => begin = begun,
         }
         searched = bytes.len();
         if searched >= HEAD_LIMIT {
             return Err(WireEnd::HeadLong);
         }
         match buffer.fill(source) {
-            Ok(0) => {
-                return Err(match begin {
-                    Some(_) => WireEnd::Truncated,
-                    None => WireEnd::End,
-                });
-            }
+            Ok(0) => return Err(input_ended(begin)),
             Ok(_) => {}
             Err(_) => return Err(WireEnd::ReadFault),
         }
+    }
+}
+
+/// The end where the input ended, by where the head block begins, if it has begun.
+fn input_ended(begin: Option<usize>) -> WireEnd
+    ensures { result ≡ input_ended begin }
+{
+    match begin {
+        Some(_) => WireEnd::Truncated,
+        None => WireEnd::End,
     }
 }

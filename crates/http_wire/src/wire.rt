@@ -1,6 +1,5 @@
 //! Messages one after another.
-ghost use Rattle.std.specs.Prelude.{◌≡◌, [], IfOk, IfErr, IsErrOf, IsFalse, is_err};
-ghost use Rattle.http_wire.specs.End.{AgreesWithInput};
+ghost use Rattle.std.specs.Prelude.{◌≡◌, [], IfOk, IsErrOf, IsFalse, is_err};
 ghost use Rattle.http_wire.specs.Wire.{Reads};
 ghost use Rattle.osm_outside.specs.Told.{Rose};
 
@@ -54,7 +53,6 @@ impl Wire {
     ) -> Result<Message, WireEnd>
         requires { IsFalse self.old.ended }
         ensures reads { Reads (S.told source.old) (S.told source.new) self.old.kept result self.new.kept }
-        ensures at_end { IfErr result (λ e. AgreesWithInput e (S.told source.new).left) }
         ensures fault { IsErrOf result WireEnd.ReadFault
             → Rose (S.told source.old).read_faults (S.told source.new).read_faults }
         ensures ended { self.new.ended ≡ is_err result }

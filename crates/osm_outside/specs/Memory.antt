@@ -1,6 +1,7 @@
 -- A link and a host in memory: what they were made of, and what each call does.
 use Rattle.std.specs.Prelude.{ℕ, ◌+◌, ◌-◌, ◌^◌, min, max, List, length, Option, Some, unwrap_or, slice_get, ◌==◌, ◌&&◌, not, if◌then◌else◌}
 use Rattle.std.specs.List.{Contains}
+use Rattle.osm_outside.specs.Event.{Event}
 use Rattle.osm_outside.specs.Told.{Told, HostTold}
 
 -- a count of 64 bits after one more, which stands still at the greatest
@@ -35,8 +36,6 @@ pub record Watch : Type 0 where
   pub moments : List ℕ
   -- how many readings there were
   pub readings : ℕ
-  -- what they were answered
-  pub answered : List ℕ
   pub fixed : Option ℕ
 
 -- the moment of that number, past the list the last one, and 0 where there is none
@@ -59,13 +58,14 @@ pub record LinkState : Type 0 where
   pub room : ℕ
   pub writes : Counted
   pub watch : Watch
+  -- what happened on it
+  pub trace : List Event
 
 -- what the link tells
 abbrev pub told_of : LinkState → Told
 told_of link = record {
+  trace = link.trace;
   left = Some link.left;
-  written = Some link.written;
-  moments = Some link.watch.answered;
   fixed = link.watch.fixed;
   read_faults = link.reads.faults;
   write_faults = link.writes.faults;

@@ -49,7 +49,7 @@ impl Host for MemHost {
         ensures keeps { OnlyFaults (host_told_of self.old) (host_told_of self.new) }
         ensures fails { (result ≡ Err fault.Failed) ↔ IsBad self.old.calls }
     {
-        if self.calls.next().is_err() {
+        if self.calls.count_call().is_err() {
             return Err(HostFault::Failed);
         }
         let text = first_bytes(self.users.as_slice(), USERS_LIMIT + 1);

@@ -2,16 +2,14 @@
 //! stand-ins in memory.
 #![tactic(auto)]
 
-mod answered;
 mod calls;
 mod host;
 mod memory;
 mod outside;
+mod trace;
 mod watch;
 
 pub use host::MemHost;
 pub use memory::MemLink;
 pub use outside::{Clock, Failed, Host, HostFault, Link, Outside, Sink, Source};
-
-#[cfg(test)]
-mod tests;
+pub use trace::Trace;

@@ -1,13 +1,15 @@
 //! The traits of the outside. Each counts its faults, and a call fails only where its count rose.
-ghost use Rattle.std.specs.Prelude.{◌≡◌, ◌+◌, ◌<◌, ◌≤◌, ◌∷◌, [], length, take, IfOk, IfSome, IsErr, Some, Err};
-ghost use Rattle.std.specs.Io.KnownBytes.{ReadConsumes, WriteAppends, Appends};
+//! A link keeps for contracts, in one list, what its calls gave, took and told.
+ghost use Rattle.std.specs.Prelude.{◌≡◌, ◌+◌, ◌<◌, ◌≤◌, ◌∷◌, ◌++◌, [], length, take, IfOk, IfSome, IsErr, Some, Err};
+ghost use Rattle.std.specs.Io.KnownBytes.{ReadConsumes};
 ghost use Rattle.osm_base.specs.declared.limits.TheConstants.{USERS_LIMIT};
-ghost use Rattle.osm_outside.specs.Told.{Told, HostTold, Rose, OnlyReads, OnlyWrites, OnlyTime, OnlyFaults};
+ghost use Rattle.osm_outside.specs.Event.{Answered};
+ghost use Rattle.osm_outside.specs.Told.{Told, HostTold, Rose, AddsRead, AddsWrite, OnlyReads, OnlyWrites, OnlyFaults};
 
 use osm_base::{Bytes, Memory};
 use std::alloc::Global;
 
-/// A read, a write or an accept failed.
+/// A read or a write failed.
 #[derive(Clone, Copy, Debug, PartialEq, Eq)]
 pub struct Failed;
 
@@ -22,7 +24,8 @@ pub trait Source: Outside {
     /// input.
     fn read(&mut self, into: &mut [u8]) -> Result<usize, Failed>
         ensures count { IfOk result (λ n. n ≤ length into.new) }
-        ensures bytes { ReadConsumes (Self.told self.old).left (Self.told self.new).left result into.new }
+        ensures trace { AddsRead (Self.told self.old) (Self.told self.new) result into.new }
+        ensures left { ReadConsumes (Self.told self.old).left (Self.told self.new).left result into.new }
         ensures failed { IsErr result → Rose (Self.told self.old).read_faults (Self.told self.new).read_faults }
         ensures keeps { OnlyReads (Self.told self.old) (Self.told self.new) };
 }
@@ -33,7 +36,7 @@ pub trait Sink: Outside {
     /// fault.
     fn write(&mut self, piece: &[u8]) -> Result<usize, Failed>
         ensures count { IfOk result (λ n. n ≤ length piece.now) }
-        ensures bytes { WriteAppends (Self.told self.old).written (Self.told self.new).written result piece.now }
+        ensures trace { AddsWrite (Self.told self.old) (Self.told self.new) result piece.now }
         ensures failed { IsErr result → Rose (Self.told self.old).write_faults (Self.told self.new).write_faults }
         ensures none_taken { IfOk result (λ n. n ≡ 0 → 0 < length piece.now
             → Rose (Self.told self.old).write_faults (Self.told self.new).write_faults) }
@@ -44,15 +47,14 @@ pub trait Sink: Outside {
 pub trait Clock: Outside {
     /// The moment, in seconds since 1970.
     fn now(&mut self) -> u64
-        ensures moments { Appends (Self.told self.old).moments (Self.told self.new).moments (result ∷ []) }
-        ensures fixed { IfSome (Self.told self.old).fixed (λ at. result ≡ at) }
-        ensures stays { (Self.told self.new).fixed ≡ (Self.told self.old).fixed }
-        ensures keeps { OnlyTime (Self.told self.old) (Self.told self.new) };
+        ensures trace { Self.told self.new ≡ record (Self.told self.old) {
+          trace = (Self.told self.old).trace ++ Answered result ∷ [];
+        } }
+        ensures fixed { IfSome (Self.told self.old).fixed (λ at. result ≡ at) };
 
     /// From here on every moment is this one, in seconds since 1970.
     fn fix(&mut self, seconds: u64)
-        ensures fixed { (Self.told self.new).fixed ≡ Some seconds }
-        ensures keeps { OnlyTime (Self.told self.old) (Self.told self.new) };
+        ensures told { Self.told self.new ≡ record (Self.told self.old) { fixed = Some seconds } };
 }
 
 /// A connection to one client.

@@ -41,8 +41,11 @@ impl<F: Files> Host for FileHost<F> {
 fn first_bytes<R: Read>(alloc: Global, file: &mut R) -> Result<Bytes, HostFault> {
     let mut text = Vec::new(alloc);
     let mut piece = [0; 8_192];
-    for _ in 0..u64::MAX {
-        let room = (USERS_LIMIT + 1).saturating_sub(text.len()).min(8_192);
+    // Each turn reads a byte at least, so the room ends before the turns do.
+    for _ in 0..USERS_LIMIT + 1 {
+        let room = (USERS_LIMIT + 1)
+            .saturating_sub(text.len())
+            .min(piece.len());
         if room == 0 {
             break;
         }

@@ -1,5 +1,5 @@
-//! The real outside: streams, files and the system's clock. Each adapter counts its faults, and
-//! tells contracts nothing of content. What the system gives and takes is trusted.
+//! The real outside: streams, files and the system's clock. Each adapter counts its faults, and a link keeps its trace for
+//! contracts. That the trace has what the standard library says was read and written is proved; what the system does is trusted.
 #![tactic(auto)]
 
 mod host;
@@ -7,6 +7,3 @@ mod stream;
 
 pub use host::FileHost;
 pub use stream::StreamLink;
-
-#[cfg(test)]
-mod tests;

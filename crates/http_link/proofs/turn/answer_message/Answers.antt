@@ -7,4 +7,4 @@ returns-clause-replies g c =
     let now = c.now-moment.ensures in
     let writes = rw c.closes-close.ensures at c.send.ensures.writes in
     Replies-from_parts g.D.Desk.allows _ _ _ _ _ c.args.count c.args.message c.now-moment.result
-    (counted_reply c.answer-answer.result) c.send.result now.keeps now.moments now.fixed now.stays c.answer-answer.ensures.allowed writes
+    (counted_reply c.answer-answer.result) c.send.result now.trace now.fixed c.answer-answer.ensures.allowed writes

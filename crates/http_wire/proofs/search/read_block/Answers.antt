@@ -1,31 +1,49 @@
-use Rattle.std.proofs.Common.{◌≤◌, length, arith}
+use Rattle.std.proofs.Common.{◌<◌, ◌≤◌, length, inl, arith}
 use Rattle.std.proofs.lemmas.List.{take_all, length-append}
 use Rattle.osm_base.specs.declared.limits.TheConstants.{HEAD_LIMIT}
-use Rattle.http_wire.proofs.ReceivedLemmas.{Receives-trans}
+use Rattle.http_wire.specs.declared.end.WireEnd.TheVariants.{HeadLong}
+use Rattle.http_wire.proofs.ReceivedLemmas.{Gathers-nil, Gathers-fill}
+use Rattle.http_wire.proofs.MessageLemmas.{Reads-from_end, Reads-from_none, Reads-from_fault}
 use Rattle.http_wire.proofs.BlockLemmas.{IsSearched-append, HasNoBlock-from_search}
 use Rattle.http_wire.proofs.search.read_block.Goals as goal
 
-pub returns-in-Err-fill-clause-received : goal.returns-in-Err-fill-clause-received
-returns-in-Err-fill-clause-received g c =
-    Receives-trans _ _ _ _ _ _ c.reads.invariant.0 c.fill.ensures.received
+pub reads-init : goal.reads-init
+reads-init g c = (Gathers-nil _ _, λ at below. absurd (omega arith), omega arith)
 
-pub returns-then-searched-ge-HEAD_LIMIT-clause-ends : goal.returns-then-searched-ge-HEAD_LIMIT-clause-ends
-returns-then-searched-ge-HEAD_LIMIT-clause-ends g c =
+pub returns-then-searched-ge-HEAD_LIMIT-clause-ended : goal.returns-then-searched-ge-HEAD_LIMIT-clause-ended
+returns-then-searched-ge-HEAD_LIMIT-clause-ended g c =
     let bytes = c.reads.buffer in
     let same = c.as_slice-bytes.ensures.bytes in
     let limit = c.as_slice-bytes.ensures.limit in
     let full : HEAD_LIMIT ≤ length bytes = rw same at c.if-searched-ge-HEAD_LIMIT.true in
-    let begun = rw same at c.in-Err.ensures.open in (
-      full,
-      rw (take_all HEAD_LIMIT bytes limit) (HasNoBlock-from_search bytes c.in-Err.begun begun),
-    )
+    let begun = rw same at c.in-Open.ensures in
+    Reads-from_end _ _ c.args.buffer.now bytes bytes HeadLong c.reads.invariant.0 c.reads.invariant.0.some limit
+    (full, rw (take_all HEAD_LIMIT bytes limit) (HasNoBlock-from_search bytes c.in-Open.begun begun))
+
+pub returns-in-Ok-eq0-clause-ended : goal.returns-in-Ok-eq0-clause-ended
+returns-in-Ok-eq0-clause-ended g c =
+    let same = c.as_slice-bytes.ensures.bytes in
+    let begun = rw same at c.in-Open.ensures in
+    let short : length c.reads.buffer < HEAD_LIMIT = rw same at c.if-searched-ge-HEAD_LIMIT.false in
+    rw c.input_ended.ensures
+    (Reads-from_none _ _ _ _ c.reads.buffer _ _ c.in-Open.begun c.reads.invariant.0 begun short
+    (rw c.in-Ok-eq0.field-0-test at c.in-Ok-eq0.ensures.filled))
+
+pub returns-in-Err-clause-ended : goal.returns-in-Err-clause-ended
+returns-in-Err-clause-ended g c =
+    let same = c.as_slice-bytes.ensures.bytes in
+    let begun = rw same at c.in-Open.ensures in
+    let short : length c.reads.buffer < HEAD_LIMIT = rw same at c.if-searched-ge-HEAD_LIMIT.false in
+    Reads-from_fault _ _ _ _ c.reads.buffer _ c.in-Open.begun c.reads.invariant.0 begun short c.in-Err.ensures.nothing_read
 
 pub reads-preserved : goal.reads-preserved
 reads-preserved g c =
     let same = c.as_slice-bytes.ensures.bytes in
-    let more = c.fill.ensures.received in
-    let begun = rw same at c.in-Err.ensures.open in (
-      Receives-trans _ _ _ _ _ _ c.reads.invariant.0 more,
-      rw (more.joined, same) (IsSearched-append c.reads.buffer more.bytes c.in-Err.begun (length c.reads.buffer) (omega arith) begun),
-      rw (same, more.joined) (omega (arith, length-append c.reads.buffer more.bytes)),
+    let begun = rw same at c.in-Open.ensures in
+    let short : length c.reads.buffer < HEAD_LIMIT = rw same at c.if-searched-ge-HEAD_LIMIT.false in
+    let f = c.in-Ok.ensures.filled in (
+      Gathers-fill _ _ _ _ c.reads.buffer _ c.in-Ok.field-0 c.reads.invariant.0
+          (inl (HasNoBlock-from_search c.reads.buffer c.in-Open.begun begun, short)) f (omega (arith, c.in-Ok.field-0-test.1)),
+      rw (f.joined, same) (IsSearched-append c.reads.buffer f.piece c.in-Open.begun (length c.reads.buffer) (omega arith) begun),
+      rw (same, f.joined) (omega (arith, length-append c.reads.buffer f.piece)),
     )
