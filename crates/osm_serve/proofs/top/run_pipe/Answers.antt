@@ -1,5 +1,5 @@
 use Rattle.std.proofs.Common.{refl, inl, inr}
-use Rattle.osm_serve.proofs.run.run_pipe.Goals as goal
+use Rattle.osm_serve.proofs.top.run_pipe.Goals as goal
 
 pub returns-in-Err-Failed : goal.returns-in-Err-Failed
 returns-in-Err-Failed g c =

@@ -1,0 +1,62 @@
+//! The program over what the system gave.
+ghost use Rattle.std.specs.Prelude.{◌≡◌, IfOk, MatchResult, map, string_bytes};
+ghost use Rattle.std.specs.IoError.{error_kind};
+ghost use Rattle.std.specs.Process.{exit_status};
+ghost use Rattle.std.specs.Vec.Iter.{into_iter_items};
+ghost use Rattle.osm.specs.Program.{EndsOn, IsUnserved, lacking_status};
+
+use osm_outside::{Host, Link};
+use osm_serve::run;
+use std::alloc::{AllocError, Global};
+use std::env::Args;
+use std::io;
+use std::process::ExitCode;
+
+/// The words, in their order.
+fn words_of(alloc: Global, args: Args) -> Result<Vec<String>, AllocError>
+    ensures { IfOk result (λ words. words.items ≡ into_iter_items args) }
+{
+    args.collect(alloc)
+}
+
+/// The status where the system gave no words: 5 for want of memory, 1 for words that are no text.
+fn lacking_status(why: &io::Error) -> u8
+    ensures { result ≡ lacking_status (error_kind why.now) }
+{
+    match why.kind() {
+        io::ErrorKind::OutOfMemory => 5,
+        _ => 1,
+    }
+}
+
+/// The status of `run` on the words, or 5 where there is no memory for their list.
+fn status_on<H: Host, L: Link>(alloc: Global, args: Args, host: &mut H, standard: &mut L) -> u8
+    ensures { EndsOn (map string_bytes (into_iter_items args)) (H.told host.old) (H.told host.new)
+        (L.told standard.old) (L.told standard.new) result }
+{
+    match words_of(alloc, args) {
+        Ok(words) => run(alloc, words.as_slice(), host, standard),
+        Err(_) => 5,
+    }
+}
+
+/// Serves the standard link as the words that the system gave ask, and ends with the status of
+/// `run`. Where the system gave no words, nothing is read or written.
+pub fn program<H: Host, L: Link>(
+    alloc: Global,
+    args: io::Result<Args>,
+    host: &mut H,
+    standard: &mut L,
+) -> ExitCode
+    ensures { MatchResult args
+        (λ words. EndsOn (map string_bytes (into_iter_items words)) (H.told host.old) (H.told host.new)
+        (L.told standard.old) (L.told standard.new) (exit_status result))
+        (λ why. IsUnserved (lacking_status (error_kind why)) (H.told host.old) (H.told host.new)
+        (L.told standard.old) (L.told standard.new) (exit_status result)) }
+{
+    let status = match args {
+        Ok(args) => status_on(alloc, args, host, standard),
+        Err(why) => lacking_status(&why),
+    };
+    ExitCode::from(status)
+}
