@@ -5,7 +5,7 @@ ghost use Rattle.osm_element.specs.Limits.{is_long, is_bad_key, check_tags, chec
 use crate::contents::{Member, RawContent};
 use crate::faults::LocalFault;
 use crate::labels::Tags;
-use osm_base::{CHARACTER_LIMIT, RELATION_LIMIT, Text, WAY_LIMIT, is_on_globe};
+use osm_base::{CHARACTER_LIMIT, RELATION_LIMIT, WAY_LIMIT, is_on_globe};
 
 /// The lowest limit that an element's own parts are beyond. It takes no memory.
 pub fn check_local(tags: &Tags, content: &RawContent) -> Result<(), LocalFault>
@@ -20,10 +20,10 @@ impl Tags {
     pub fn check(&self) -> Result<(), LocalFault>
         ensures { result ≡ check_tags self.now }
     {
-        if has_bad_key(self.pairs()) {
+        if has_bad_key(self) {
             return Err(LocalFault::TagKey);
         }
-        if has_long_value(self.pairs()) {
+        if has_long_value(self) {
             return Err(LocalFault::TagValue);
         }
         Ok(())
@@ -79,32 +79,43 @@ fn check_members(members: &[Member<i64>]) -> Result<(), LocalFault>
 fn has_long_role(members: &[Member<i64>]) -> bool
     ensures { result ≡ list_any (λ member. is_long member.role) members.now }
 {
-    members.iter().any(|member| is_long(&member.role))
+    members.iter().any(|member| is_long(member.role.as_str()))
 }
 
-fn has_bad_key(pairs: &[(Text, Text)]) -> bool
-    ensures { result ≡ list_any (λ tag. is_bad_key tag.0) pairs.now }
+fn has_bad_key(tags: &Tags) -> bool
+    ensures { result ≡ list_any (λ tag. is_bad_key tag.0) tags.now }
 {
-    pairs.iter().any(|pair| is_bad_key(&pair.0))
+    for index in 0..tags.len() {
+        let (key, _) = tags.pair(index);
+        if is_bad_key(key) {
+            return true;
+        }
+    }
+    false
 }
 
-fn has_long_value(pairs: &[(Text, Text)]) -> bool
-    ensures { result ≡ list_any (λ tag. is_long tag.1) pairs.now }
+fn has_long_value(tags: &Tags) -> bool
+    ensures { result ≡ list_any (λ tag. is_long tag.1) tags.now }
 {
-    pairs.iter().any(|pair| is_long(&pair.1))
+    for index in 0..tags.len() {
+        let (_, value) = tags.pair(index);
+        if is_long(value) {
+            return true;
+        }
+    }
+    false
 }
 
-fn is_bad_key(key: &Text) -> bool
+fn is_bad_key(key: &str) -> bool
     ensures { result ≡ is_bad_key key.now }
 {
-    key.as_str().is_empty() || is_long(key)
+    key.is_empty() || is_long(key)
 }
 
 /// A text of few bytes has no more characters, so those are seldom counted.
-fn is_long(text: &Text) -> bool
+fn is_long(text: &str) -> bool
     ensures { result ≡ is_long text.now }
 {
-    let text = text.as_str();
     text.len() > CHARACTER_LIMIT && characters(text) > CHARACTER_LIMIT
 }
 

@@ -1,27 +1,37 @@
-ghost use Rattle.std.specs.Prelude.{◌≡◌, ◌↔◌, IfSome, IsSome, IsTrue, []};
+ghost use Rattle.std.specs.Prelude.{◌≡◌, ◌↔◌, ◌<◌, ◌∷◌, [], ◌++◌, length, get_or, map, IfOk, IfSome, IsSome, IsTrue};
 ghost use Rattle.std.specs.Ordering.{is_lt, nat_cmp};
 ghost use Rattle.std.specs.Cmp.Lexicographic.{slice_cmp};
-ghost use Rattle.osm_element.specs.Tags.{KeysRise};
+ghost use Rattle.osm_element.specs.Tags.{KeysRise, cut, start_at, AreEnds};
 
-use osm_base::{Memory, Text, TryCopy, copy_all};
+use osm_base::{Memory, Text, TryCopy};
 use std::alloc::Global;
 use std::marker::Model;
+
+/// Where a key and its value end in the text of their tags. The key begins where the tag before ends.
+#[derive(Clone, Copy, Debug, Drop)]
+pub(crate) struct Ends {
+    key: u32,
+    value: u32,
+}
 
 /// Keys and values, the keys in strictly rising byte order (OpenStreetMap wiki, "Tags").
 #[derive(Debug, Drop)]
 pub struct Tags {
-    pairs: Vec<(Text, Text)>,
+    /// The keys and the values, one after the other.
+    text: String,
+    ends: Vec<Ends>,
 }
 
 impl Model for Tags {
-    ghost use Rattle.std.specs.Prelude.{List};
-    ghost use Rattle.osm_element.specs.Tags.{Tag, KeysRise};
+    ghost use Rattle.std.specs.Prelude.{List, string_bytes};
+    ghost use Rattle.osm_element.specs.Tags.{Tag, KeysRise, cut, AreEnds};
 
     ghost Value = { List Tag };
 
-    ghost view = { λ t. t.pairs.items };
+    ghost view = { λ t. cut 0 t.ends.items (string_bytes t.text) };
 
-    ghost invariant = { λ t. KeysRise t.pairs.items };
+    ghost invariant = { λ t. AreEnds 0 t.ends.items (string_bytes t.text)
+        × KeysRise (cut 0 t.ends.items (string_bytes t.text)) };
 }
 
 impl Tags {
@@ -32,43 +42,76 @@ impl Tags {
         ensures { result ≡ [] }
     {
         Tags {
-            pairs: Vec::new(alloc),
+            text: String::new(alloc),
+            ends: Vec::new(alloc),
         }
     }
 
-    /// The tags of pairs that are in order already.
-    pub fn of_rising(pairs: Vec<(Text, Text)>) -> Tags
-        requires { KeysRise pairs.items }
-        ensures { result ≡ pairs.items }
+    /// No tags, with room for so many and for so many bytes of keys and values.
+    pub fn with_room(alloc: Global, count: usize, bytes: usize) -> Result<Tags, Memory>
+        ensures { IfOk result (λ tags. tags ≡ []) }
     {
-        Tags { pairs }
+        Ok(Tags {
+            text: String::with_capacity(alloc, bytes)?,
+            ends: Vec::with_capacity(alloc, count)?,
+        })
     }
 
     /// The tags of pairs whose keys rise strictly. None where they don't.
-    pub fn of(pairs: Vec<(Text, Text)>) -> Option<Tags>
-        ensures rising { IsSome result ↔ KeysRise pairs.items }
-        ensures value { IfSome result (λ tags. tags ≡ pairs.items) }
+    pub fn of(alloc: Global, pairs: &[(Text, Text)]) -> Result<Option<Tags>, Memory>
+        ensures rising { IfOk result (λ found. IsSome found ↔ KeysRise pairs.now) }
+        ensures value { IfOk result (λ found. IfSome found (λ tags. tags ≡ pairs.now)) }
     {
-        if do_keys_rise(pairs.as_slice()) {
-            Some(Tags { pairs })
-        } else {
-            None
+        if !do_keys_rise(pairs) {
+            return Ok(None);
         }
+        let mut tags = Tags::none(alloc);
+        for (key, value) in pairs {
+            tags = tags.with(key.as_str(), value.as_str())?;
+        }
+        Ok(Some(tags))
     }
 
-    /// The pairs, in the order of their keys.
-    pub fn pairs(&self) -> &[(Text, Text)]
-        ensures value { result.now ≡ self.now }
-        ensures rise { KeysRise result.now }
+    /// The tags and one more, whose key is behind theirs.
+    pub fn with(self, key: &str, value: &str) -> Result<Tags, Memory>
+        requires { KeysRise (self ++ (key.now, value.now) ∷ []) }
+        ensures { IfOk result (λ tags. tags ≡ self ++ (key.now, value.now) ∷ []) }
     {
-        self.pairs.as_slice()
+        let Tags { mut text, mut ends } = self;
+        text.push_str(key)?;
+        let key = text.len();
+        text.push_str(value)?;
+        let value = text.len();
+        if value > u32::MAX as usize {
+            return Err(Memory);
+        }
+        ends.push(Ends {
+            key: key as u32,
+            value: value as u32,
+        })?;
+        Ok(Tags { text, ends })
+    }
+
+    pub fn len(&self) -> usize
+        ensures { result ≡ length self.now }
+    {
+        self.ends.len()
+    }
+
+    /// A key and its value, in the order of the keys.
+    pub fn pair(&self, index: usize) -> (&str, &str)
+        requires { index < length self.now }
+        ensures { (result.0.now, result.1.now) ≡ get_or self.now index ([], []) }
+    {
+        pair_at(self.text.as_str(), self.ends.as_slice(), index)
     }
 }
 
 impl TryCopy for Tags {
     fn copy(&self, alloc: Global) -> Result<Tags, Memory> {
-        let pairs = copy_all(alloc, self.pairs.as_slice())?;
-        Ok(Tags { pairs })
+        let text = String::from_str(alloc, self.text.as_str())?;
+        let ends = Vec::from_slice(alloc, self.ends.as_slice())?;
+        Ok(Tags { text, ends })
     }
 }
 
@@ -88,4 +131,26 @@ fn is_before(text: &Text, other: &Text) -> bool
     ensures { result ≡ is_lt (slice_cmp nat_cmp text.now other.now) }
 {
     text.as_str() < other.as_str()
+}
+
+fn start(ends: &[Ends], index: usize) -> usize
+    requires { index < length ends.now }
+    ensures { result ≡ start_at 0 ends.now index }
+{
+    if index == 0 {
+        0
+    } else {
+        ends[index - 1].value as usize
+    }
+}
+
+fn pair_at<'a>(text: &'a str, ends: &[Ends], index: usize) -> (&'a str, &'a str)
+    requires cut { AreEnds 0 ends.now text.now }
+    requires there { index < length ends.now }
+    ensures { (result.0.now, result.1.now) ≡ get_or (cut 0 ends.now text.now) index ([], []) }
+{
+    let start = start(ends, index);
+    let middle = ends[index].key as usize;
+    let end = ends[index].value as usize;
+    (&text[start..middle], &text[middle..end])
 }

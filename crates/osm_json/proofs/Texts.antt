@@ -7,7 +7,6 @@ use Rattle.serde_json.specs.Data.{Data, null, string, Members, no_members, membe
 use Rattle.serde_json.specs.Find.{as_str}
 use Rattle.osm_json.specs.Reading.{◌>>=◌, pairs_of}
 use Rattle.osm_json.specs.Found.{Texts, text_in, text_pairs}
-use Rattle.osm_json.proofs.Each.{with_front, regroup}
 
 -- a text, and nothing for what is no text
 abbrev text_data : Option (List ℕ) → Data
@@ -69,11 +68,35 @@ text_put old found key t d ms e same inserted =
 pub texts_read : (found : Texts) (ms : Members) → texts_view found ≡ only_texts ms → pairs_of ms ≡ text_pairs found
 texts_read found ms e = sym (pairs_of-texts_view found ∙ ap pairs_of e ∙ pairs_of-only_texts ms)
 
+abbrev Pairs : Type 0
+Pairs = List (List ℕ × List ℕ)
+
+abbrev joined : Option Pairs → Option Pairs → Option Pairs
+joined front rest = front >>= λ ps. rest >>= λ qs. Some (ps ++ qs)
+
+joined_none : (rest : Option Pairs) → rest ≡ joined (Some []) rest
+joined_none None = refl
+joined_none (Some qs) = refl
+
+joined_more : (p : List ℕ × List ℕ) (front rest : Option Pairs) → (joined front rest >>= λ ps. Some (p ∷ ps)) ≡ joined (front >>= λ ps. Some (p ∷ ps)) rest
+joined_more p None rest = refl
+joined_more p (Some ps) None = refl
+joined_more p (Some ps) (Some qs) = refl
+
+with_first : (key : List ℕ) (text : Option (List ℕ)) (both front rest : Option Pairs) → both ≡ joined front rest
+    → (text >>= λ t. both >>= λ ps. Some ((key, t) ∷ ps)) ≡ joined (text >>= λ t. front >>= λ ps. Some ((key, t) ∷ ps)) rest
+with_first key None both front rest e = refl
+with_first key (Some t) both front rest e = ap (λ o. o >>= λ ps. Some ((key, t) ∷ ps)) e ∙ joined_more (key, t) front rest
+
+text_pairs-append : (front rest : Texts) → text_pairs (front ++ rest) ≡ joined (text_pairs front) (text_pairs rest)
+text_pairs-append [] rest = joined_none (text_pairs rest)
+text_pairs-append (e ∷ front) rest = with_first e.0.now (text_in e.1) (text_pairs (front ++ rest)) (text_pairs front) (text_pairs rest) (text_pairs-append front rest)
+
 -- one more name with its text
-pub pairs_more : (front : List (List ℕ × List ℕ)) (key : Bor (List ℕ)) (given : Option (Bor (List ℕ))) (text : List ℕ) (rest : Texts) → text_in given ≡ Some text
-    → with_front (front ++ (key.now, text) ∷ []) (text_pairs rest) ≡ with_front front (text_pairs ((key, given) ∷ rest))
-pairs_more front key given text rest e = sym (regroup front (key.now, text) (text_pairs rest)) ∙ ap (λ found. with_front front (found >>= λ t. text_pairs rest >>= λ pairs. Some ((key.now, t) ∷ pairs))) (sym e)
+pub pairs_more : (front : Texts) (pairs : Pairs) (key : Bor (List ℕ)) (given : Option (Bor (List ℕ))) (text : List ℕ) → text_pairs front ≡ Some pairs → text_in given ≡ Some text
+    → text_pairs (front ++ (key, given) ∷ []) ≡ Some (pairs ++ (key.now, text) ∷ [])
+pairs_more front pairs key given text e there = text_pairs-append front ((key, given) ∷ []) ∙ rw (e, there) refl
 
 -- a name with no text
-pub pairs_none : (front : List (List ℕ × List ℕ)) (key : Bor (List ℕ)) (given : Option (Bor (List ℕ))) (rest : Texts) → text_in given ≡ None → with_front front (text_pairs ((key, given) ∷ rest)) ≡ None
-pairs_none front key given rest e = ap (λ found. with_front front (found >>= λ t. text_pairs rest >>= λ pairs. Some ((key.now, t) ∷ pairs))) e
+pub pairs_none : (front : Texts) (pairs : Pairs) (key : Bor (List ℕ)) (given : Option (Bor (List ℕ))) (rest : Texts) → text_pairs front ≡ Some pairs → text_in given ≡ None → text_pairs (front ++ (key, given) ∷ rest) ≡ None
+pairs_none front pairs key given rest e missing = text_pairs-append front ((key, given) ∷ rest) ∙ rw (e, missing) refl

@@ -109,11 +109,12 @@ pub(crate) fn visible(out: &mut Writer, version: &Version) -> Result<(), AllocEr
     }
 }
 
-fn pairs(out: &mut Writer, pairs: &[(Text, Text)]) -> Result<(), AllocError>
-    ensures { SendsFields result out.old out.new (map tag_field pairs.now) }
+fn pairs(out: &mut Writer, tags: &Tags) -> Result<(), AllocError>
+    ensures { SendsFields result out.old out.new (map tag_field tags.now) }
 {
-    for (key, value) in pairs {
-        text(out, key.as_str(), value.as_str())?;
+    for index in 0..tags.len() {
+        let (key, value) = tags.pair(index);
+        text(out, key, value)?;
     }
     Ok(())
 }
@@ -123,7 +124,7 @@ pub(crate) fn tags(out: &mut Writer, tags: &Tags) -> Result<(), AllocError>
     ensures { Sends result out.old out.new (tokens_of (tags_data tags.now)) }
 {
     out.begin_object()?;
-    pairs(out, tags.pairs())?;
+    pairs(out, tags)?;
     out.end_object()?;
     Ok(())
 }

@@ -8,7 +8,6 @@ ghost use Rattle.osm_json.specs.Pull.{next_data, next_members, Pulled};
 use crate::fault::ReadFault;
 use crate::scalar::{enter_object, next_text};
 use json::Reader;
-use osm_base::Text;
 use osm_element::Tags;
 use std::alloc::Global;
 use std::collections::BTreeMap;
@@ -30,34 +29,31 @@ fn texts<'a>(
     Ok(found)
 }
 
-/// The texts, where there is nothing else.
-fn pairs(
-    alloc: Global,
-    texts: &BTreeMap<&str, Option<&str>>,
-) -> Result<Option<Vec<(Text, Text)>>, ReadFault>
-    ensures { Makes (λ x. option_map (λ v. v.items) x) result (text_pairs texts.now.entries) }
-{
-    let mut found = Vec::with_capacity(alloc, texts.len())?;
+/// How much room the texts take, names included.
+fn byte_count(texts: &BTreeMap<&str, Option<&str>>) -> usize {
+    let mut count: usize = 0;
     for (key, text) in texts {
-        let Some(text) = text else {
-            return Ok(None);
-        };
-        let key = Text::of(alloc, key)?;
-        let text = Text::of(alloc, text)?;
-        found.push((key, text))?;
+        count = count.saturating_add(key.len());
+        if let Some(text) = text {
+            count = count.saturating_add(text.len());
+        }
     }
-    Ok(Some(found))
+    count
 }
 
+/// The texts, where there is nothing else.
 fn tags_from(alloc: Global, texts: &BTreeMap<&str, Option<&str>>) -> Result<Option<Tags>, ReadFault>
     ensures { Makes (λ x. x) result (text_pairs texts.now.entries) }
 {
     // A map's keys rise, as its length says.
-    let _len = texts.len();
-    match pairs(alloc, texts)? {
-        Some(pairs) => Ok(Some(Tags::of_rising(pairs))),
-        None => Ok(None),
+    let mut found = Tags::with_room(alloc, texts.len(), byte_count(texts))?;
+    for (key, text) in texts {
+        let Some(text) = text else {
+            return Ok(None);
+        };
+        found = found.with(key, text)?;
     }
+    Ok(Some(found))
 }
 
 /// An object of texts.

@@ -16,7 +16,7 @@ fn tags(alloc: Global, keys: [&str; 2]) -> Result<Option<Tags>, Memory> {
     for key in keys {
         pairs.push(pair(alloc, key)?)?;
     }
-    Ok(Tags::of(pairs))
+    Tags::of(alloc, pairs.as_slice())
 }
 
 #[test]

@@ -5,4 +5,4 @@ use Rattle.osm_json.proofs.Tokens.{each_sent, whole}
 use Rattle.osm_json.proofs.contents.pairs.Goals as goal
 
 pub returns : goal.returns
-returns c = each_sent tag_field c.args.pairs.now (whole (λ p. field_tokens (tag_field p)) c.args.pairs.now c.loop-key.key-index (omega arith) c.loop-key.invariant)
+returns c = each_sent tag_field c.args.tags.now (whole (λ p. field_tokens (tag_field p)) c.args.tags.now c.loop-index.index (omega arith) c.loop-index.invariant)

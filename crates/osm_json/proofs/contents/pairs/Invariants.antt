@@ -3,5 +3,5 @@ use Rattle.osm_json.specs.Rows.{tag_field}
 use Rattle.osm_json.specs.Sent.{Appends, field_tokens}
 use Rattle.osm_json.proofs.contents.pairs.Given as goal
 
-abbrev pub invariant-loop-key : goal.invariant-loop-key
-invariant-loop-key l = Appends l.initial.out l.out (flat_map (λ p. field_tokens (tag_field p)) (take l.key-index l.pairs))
+abbrev pub invariant-loop-index : goal.invariant-loop-index
+invariant-loop-index l = Appends l.initial.out l.out (flat_map (λ p. field_tokens (tag_field p)) (take l.index l.tags))

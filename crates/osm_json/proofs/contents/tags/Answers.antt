@@ -4,6 +4,4 @@ use Rattle.osm_json.proofs.contents.tags.Goals as goal
 
 pub returns : goal.returns
 unfolding tags
-returns c =
-    rw (← c.pairs.ensures.value)
-    (record_sent (sent c.in_ok-begin_object.ensures) c.in_ok-pairs.ensures (sent c.in_ok-end_object.ensures))
+returns c = record_sent (sent c.in_ok-begin_object.ensures) c.in_ok-pairs.ensures (sent c.in_ok-end_object.ensures)
