@@ -1,18 +1,113 @@
 -- Serving a link by a desk over a new journal.
-use Rattle.std.proofs.Common.{◌≡◌, ℕ, ◌+◌, ◌++◌, ◌∙◌, ap, arith, length, List, [], refl, sym, subst}
+use Rattle.std.proofs.Common.{◌≡◌, ℕ, ◌+◌, ◌++◌, ◌∙◌, ap, arith, length, map, List, [], ◌∷◌, refl, sym, subst, append_assoc, append-nil}
+use Rattle.std.specs.List.{concat}
+use Rattle.std.proofs.lemmas.List.{length-map}
+use Rattle.osm_outside.specs.Event.{Event, Gave, Took, Answered, given, answered}
 use Rattle.osm_outside.specs.Told.{Told}
 use Rattle.osm_model.specs.declared.commands.Entry.{Entry}
 use Rattle.osm_model.specs.Journal.{IsLegal, calls_of}
 use Rattle.osm_element.specs.Elements.{IsConsistent}
 use Rattle.osm_model.specs.Answered.{all_of, map_at}
 use Rattle.http_link.specs.declared.end.LinkEnd.{LinkEnd}
-use Rattle.http_link.specs.Exchange.{Exchange}
+use Rattle.http_link.specs.Exchange.{Exchange, moments_of}
+use Rattle.http_link.specs.Turns.{Turn, Ending, events_of, events_of_turn, exchanges_of, bytes_of}
 use Rattle.http_link.specs.Link.{Serves}
 use Rattle.user_table.specs.Rows.{Row}
 use Rattle.api_desk.specs.declared.desk.OneDesk.{OneDesk}
 use Rattle.api_desk.specs.Answers.{AreAnswered}
 use Rattle.api_desk.specs.Desk.{Allows, HasServed, entries_of, users_of, session_of}
-use Rattle.osm_serve.specs.Serve.{ServesPipe, beginning}
+use Rattle.osm_serve.specs.Serve.{OnLink, ServesPipe, beginning}
+
+-- ---- what the events of turns give and tell
+
+given-append : (xs ys : List Event) → given (xs ++ ys) ≡ given xs ++ given ys
+given-append [] ys = refl
+given-append (Gave bytes ∷ xs) ys =
+    ap (λ l. bytes ++ l) (given-append xs ys) ∙ sym (append_assoc bytes (given xs) (given ys))
+given-append (Took bytes ∷ xs) ys = given-append xs ys
+given-append (Answered moment ∷ xs) ys = given-append xs ys
+
+answered-append : (xs ys : List Event) → answered (xs ++ ys) ≡ answered xs ++ answered ys
+answered-append [] ys = refl
+answered-append (Gave bytes ∷ xs) ys = answered-append xs ys
+answered-append (Took bytes ∷ xs) ys = answered-append xs ys
+answered-append (Answered moment ∷ xs) ys = ap (λ l. moment ∷ l) (answered-append xs ys)
+
+given-reads : (reads : List (List ℕ)) → given (map Gave reads) ≡ concat reads
+given-reads [] = refl
+given-reads (r ∷ reads) = ap (λ l. r ++ l) (given-reads reads)
+
+given-writes : (writes : List (List ℕ)) → given (map Took writes) ≡ []
+given-writes [] = refl
+given-writes (w ∷ writes) = given-writes writes
+
+answered-reads : (reads : List (List ℕ)) → answered (map Gave reads) ≡ []
+answered-reads [] = refl
+answered-reads (r ∷ reads) = answered-reads reads
+
+answered-writes : (writes : List (List ℕ)) → answered (map Took writes) ≡ []
+answered-writes [] = refl
+answered-writes (w ∷ writes) = answered-writes writes
+
+given-parts : (reads writes : List (List ℕ)) → given (map Gave reads ++ map Took writes) ≡ concat reads
+given-parts reads writes =
+    given-append (map Gave reads) (map Took writes)
+    ∙ (λ i. given-reads reads i ++ given-writes writes i) ∙ append-nil (concat reads)
+
+answered-parts : (reads writes : List (List ℕ)) → answered (map Gave reads ++ map Took writes) ≡ []
+answered-parts reads writes =
+    answered-append (map Gave reads) (map Took writes) ∙ (λ i. answered-reads reads i ++ answered-writes writes i)
+
+given-turn : (turn : Turn) → given (events_of_turn turn) ≡ concat turn.reads
+given-turn turn =
+    given-append (map Gave turn.reads) (Answered turn.exchange.moment ∷ map Took turn.writes)
+    ∙ (λ i. given-reads turn.reads i ++ given-writes turn.writes i) ∙ append-nil (concat turn.reads)
+
+answered-turn : (turn : Turn) → answered (events_of_turn turn) ≡ turn.exchange.moment ∷ []
+answered-turn turn =
+    answered-append (map Gave turn.reads) (Answered turn.exchange.moment ∷ map Took turn.writes)
+    ∙ (λ i. answered-reads turn.reads i ++ (turn.exchange.moment ∷ answered-writes turn.writes i))
+
+given-turns : (turns : List Turn) (ending : Ending) → given (events_of turns ending) ≡ bytes_of turns ending
+given-turns [] ending = given-parts ending.reads ending.writes
+given-turns (turn ∷ turns) ending =
+    given-append (events_of_turn turn) (events_of turns ending) ∙ (λ i. given-turn turn i ++ given-turns turns ending i)
+
+answered-turns : (turns : List Turn) (ending : Ending) → answered (events_of turns ending) ≡ moments_of (exchanges_of turns)
+answered-turns [] ending = answered-parts ending.reads ending.writes
+answered-turns (turn ∷ turns) ending =
+    answered-append (events_of_turn turn) (events_of turns ending)
+    ∙ (λ i. answered-turn turn i ++ answered-turns turns ending i)
+
+-- ---- the link
+
+on_link : (old new : OneDesk) (before after : Told) (end : LinkEnd) (s : Serves Allows old new before after end)
+    → OnLink before after (exchanges_of s.turns) end
+on_link old new before after end s = record {
+  turns = s.turns;
+  ending = s.ending;
+  trace = s.served.trace;
+  exchanges_are = refl;
+  few = omega (arith, s.few, length-map s.turns (λ t. t.exchange));
+  bytes = bytes_of s.turns s.ending;
+  rest = s.left ++ concat s.ending.reads;
+  input = sym (given-turns s.turns s.ending);
+  messages = s.agrees.messages;
+  taken = s.agrees.taken;
+  limit = s.agrees.limit;
+  consumed = s.served.input;
+  moments = answered-turns s.turns s.ending;
+  fixed = s.served.fixed;
+  left = s.left;
+  read = s.served.read;
+  ends = s.ends;
+  by_bytes = s.agrees.by_bytes;
+  by_input = s.agrees.by_input;
+  read_faults = s.served.read_faults;
+  write_faults = s.served.write_faults;
+}
+
+-- ---- the journal
 
 -- a journal without entries is legal
 nothing_legal : IsLegal []
@@ -59,30 +154,17 @@ pub serves_pipe :
     (users : List Row) (old new : OneDesk) (before after : Told) (end : LinkEnd)
     → users_of old ≡ users → session_of old ≡ 0 → entries_of old ≡ []
     → (s : Serves Allows old new before after end)
-    → HasServed old s.exchanges new
+    → HasServed old (exchanges_of s.turns) new
     → ((entries : List Entry) → IsLegal entries → (point : ℕ) → IsConsistent (map_at entries point).elements)
     → ServesPipe users before after end
 serves_pipe users old new before after end same zero none s served consistent =
-    let answered = from_nothing users old new s.exchanges same zero none served in
+    let told = from_nothing users old new (exchanges_of s.turns) same zero none served in
     record {
-      exchanges = s.exchanges;
-      few = s.few;
-      bytes = s.served.bytes;
-      rest = s.rest;
-      input = s.served.input;
-      messages = s.served.messages;
-      taken = s.served.taken;
-      moments = s.served.moments;
-      fixed = s.served.fixed;
+      exchanges = exchanges_of s.turns;
+      link = on_link old new before after end s;
       journal = entries_of new;
-      legal = answered.1;
-      answered = answered.0;
-      own = answered.2;
-      consistent = consistent (entries_of new) answered.1;
-      written = s.written;
-      output = s.served.output;
-      ends = s.ends;
-      by_input = s.by_input;
-      read_faults = s.served.read_faults;
-      write_faults = s.served.write_faults;
+      legal = told.1;
+      answered = told.0;
+      own = told.2;
+      consistent = consistent (entries_of new) told.1;
     }

@@ -1,6 +1,6 @@
 -- What a run of the program does, and which status it ends with.
 use Rattle.std.specs.Prelude.{◌≡◌, ℕ, ◌⊎◌, List, Option, Some, None, Ok}
-use Rattle.osm_outside.specs.Told.{Told, HostTold, OnlyTime, OnlyFaults, Rose}
+use Rattle.osm_outside.specs.Told.{Told, HostTold, OnlyFaults, Rose}
 use Rattle.http_link.specs.declared.end.LinkEnd.{LinkEnd}
 use Rattle.http_link.specs.declared.end.LinkEnd.TheVariants.{Ended, Closed, Budget, Refused, ReadFault, WriteFault, Memory}
 use Rattle.user_table.specs.Rows.{Row}
@@ -22,7 +22,7 @@ status_of (Refused why) = 7
 -- The clock is fixed where a moment is given, and nothing else is changed.
 abbrev pub IsStarted : Option ℕ → Told → Told → Type 0
 IsStarted None before after = after ≡ before
-IsStarted (Some at) before after = OnlyTime before after × (after.fixed ≡ Some at)
+IsStarted (Some at) before after = after ≡ record before { fixed = Some at }
 
 -- The standard link was served from its start to an end, which tells the status.
 pub record ServesFrom (users : List Row) (at : Option ℕ) (before after : Told) (status : ℕ) : Type 0 where

@@ -17,6 +17,7 @@ pub fn serve_pipe<L: Link>(alloc: Global, users: &UserTable, link: &mut L) -> Li
 {
     let mut journal = Journal::new(alloc);
     let mut desk = OneDesk::new(&mut journal, users, SESSION);
+    // What the desk's relation and the rules of journals come to over a whole link.
     desk_answers();
     points_are_consistent();
     serve_desk(alloc, &mut desk, link)

@@ -1,4 +1,5 @@
 use Rattle.std.proofs.Common.{◌∙◌}
+use Rattle.http_link.specs.Turns.{exchanges_of}
 use Rattle.osm_serve.proofs.Serving.{serves_pipe}
 use Rattle.osm_serve.proofs.serve.serve_pipe.Goals as goal
 
@@ -15,5 +16,5 @@ returns g c =
     c.new-desk.ensures.session
     (c.new-desk.ensures.journal ∙ c.new-journal.ensures)
     c.serve_desk.ensures
-    (c.desk_answers.ensures c.new-desk.result c.serve_desk.ensures.exchanges c.serve_desk.new.desk c.serve_desk.ensures.served.answered)
+    (c.desk_answers.ensures c.new-desk.result (exchanges_of c.serve_desk.ensures.turns) c.serve_desk.new.desk c.serve_desk.ensures.served.answered)
     c.points_are_consistent.ensures
