@@ -4,3 +4,5 @@ mod RouteLemmas
 mod Vectors
 mod EachRoute
 mod RequestLines
+mod Seeking
+mod Nowhere

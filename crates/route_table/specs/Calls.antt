@@ -1,5 +1,5 @@
 -- Which call a method and a target ask for (OpenStreetMap wiki, API v0.6).
-use Rattle.std.specs.Prelude.{◌≡◌, ℕ, Bool, true, false, Some, List, codes, Option, Result, Ok, Err, ⊤}
+use Rattle.std.specs.Prelude.{◌≡◌, ℕ, ◌^◌, ◌<◌, ◌≤◌, Bool, true, false, Some, List, codes, Option, Result, Ok, Err, ⊤}
 use Rattle.std.specs.Option.{option_map_or}
 use Rattle.matchit.specs.Router.{RouteOf}
 use Rattle.osm_base.specs.Number.{number_of}
@@ -109,6 +109,30 @@ call_of method target = do
   route ← or_fault (route_at path) fault.NoPath
   verb ← or_fault (method_of method) fault.WrongMethod
   call_at route.value verb (details_of route path (query_of target))
+
+-- ---- the numbers of a call
+
+-- what a path number may be
+abbrev pub IsPathNumber : ℕ → Type 0
+IsPathNumber n = (1 ≤ n) × (n < 2 ^ 63)
+
+-- the ids and versions that a path gave
+abbrev pub HasPathNumbers : Call → Type 0
+HasPathNumbers (call.Changeset id) = IsPathNumber id
+HasPathNumbers (call.Retag id) = IsPathNumber id
+HasPathNumbers (call.CloseChangeset id) = IsPathNumber id
+HasPathNumbers (call.Upload id) = IsPathNumber id
+HasPathNumbers (call.Download id) = IsPathNumber id
+HasPathNumbers (call.One key) = IsPathNumber key.id
+HasPathNumbers (call.ModifySingle key) = IsPathNumber key.id
+HasPathNumbers (call.DeleteSingle key) = IsPathNumber key.id
+HasPathNumbers (call.History key show) = IsPathNumber key.id
+HasPathNumbers (call.Numbered key version show) = IsPathNumber key.id × IsPathNumber version
+HasPathNumbers (call.Redact key version redaction) = IsPathNumber key.id × IsPathNumber version
+HasPathNumbers (call.RelationsOf key) = IsPathNumber key.id
+HasPathNumbers (call.WaysOf id) = IsPathNumber id
+HasPathNumbers (call.Full key) = IsPathNumber key.id
+HasPathNumbers _ = ⊤
 
 -- ---- memory: none is taken for a call without parameters
 

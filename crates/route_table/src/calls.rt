@@ -1,6 +1,7 @@
 //! The calls of the API.
-ghost use Rattle.std.specs.Prelude.{◌≡◌, true};
-ghost use Rattle.route_table.specs.Calls.{call_at, changesets, map_call, history, numbered, redact, many, list_name, Gives, has_parameters};
+ghost use Rattle.std.specs.Prelude.{◌≡◌, true, IfOk};
+ghost use Rattle.route_table.specs.Calls.{call_at, changesets, map_call, history, numbered, redact};
+ghost use Rattle.route_table.specs.Calls.{many, list_name, Gives, HasPathNumbers, has_parameters};
 
 use crate::details::Details;
 use crate::faults::RouteFault;
@@ -92,6 +93,7 @@ pub fn call_at(
     details: &Details<'_>,
 ) -> Result<Call, RouteFault>
     ensures call { Gives (call_at resource method details.now) result }
+    ensures numbers { IfOk result HasPathNumbers }
     ensures memory { result ≡ Err RouteFault.Memory → has_parameters resource ≡ true }
 {
     match (resource, method) {
@@ -130,7 +132,8 @@ pub fn call_at(
 }
 
 fn changesets(alloc: Global, details: &Details<'_>) -> Result<Call, RouteFault>
-    ensures { Gives (changesets details.now) result }
+    ensures call { Gives (changesets details.now) result }
+    ensures numbers { IfOk result HasPathNumbers }
 {
     let query = details.query;
     let user = number(alloc, query, "user")?;
@@ -146,14 +149,16 @@ fn changesets(alloc: Global, details: &Details<'_>) -> Result<Call, RouteFault>
 }
 
 fn map_call(alloc: Global, details: &Details<'_>) -> Result<Call, RouteFault>
-    ensures { Gives (map_call details.now) result }
+    ensures call { Gives (map_call details.now) result }
+    ensures numbers { IfOk result HasPathNumbers }
 {
     let within = needed_area(alloc, details.query, "bbox")?;
     Ok(Call::Map { within })
 }
 
 fn history(alloc: Global, kind: Kind, details: &Details<'_>) -> Result<Call, RouteFault>
-    ensures { Gives (history kind details.now) result }
+    ensures call { Gives (history kind details.now) result }
+    ensures numbers { IfOk result HasPathNumbers }
 {
     let key = details.key(kind)?;
     let show = flag(alloc, details.query, "show_redactions")?;
@@ -161,7 +166,8 @@ fn history(alloc: Global, kind: Kind, details: &Details<'_>) -> Result<Call, Rou
 }
 
 fn numbered(alloc: Global, kind: Kind, details: &Details<'_>) -> Result<Call, RouteFault>
-    ensures { Gives (numbered kind details.now) result }
+    ensures call { Gives (numbered kind details.now) result }
+    ensures numbers { IfOk result HasPathNumbers }
 {
     let key = details.key(kind)?;
     let version = details.version()?;
@@ -170,7 +176,8 @@ fn numbered(alloc: Global, kind: Kind, details: &Details<'_>) -> Result<Call, Ro
 }
 
 fn redact(alloc: Global, kind: Kind, details: &Details<'_>) -> Result<Call, RouteFault>
-    ensures { Gives (redact kind details.now) result }
+    ensures call { Gives (redact kind details.now) result }
+    ensures numbers { IfOk result HasPathNumbers }
 {
     let key = details.key(kind)?;
     let version = details.version()?;
@@ -193,7 +200,8 @@ fn list_name(kind: Kind) -> &'static str
 }
 
 fn many(alloc: Global, kind: Kind, details: &Details<'_>) -> Result<Call, RouteFault>
-    ensures { Gives (many kind details.now) result }
+    ensures call { Gives (many kind details.now) result }
+    ensures numbers { IfOk result HasPathNumbers }
 {
     let ids = needed_ids(alloc, details.query, list_name(kind))?;
     Ok(Call::Many { kind, ids })

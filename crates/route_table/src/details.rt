@@ -1,6 +1,6 @@
 //! What a target says besides its resource.
-ghost use Rattle.std.specs.Prelude.{◌≡◌, IfErr};
-ghost use Rattle.route_table.specs.Calls.{id_in, version_in, key_in};
+ghost use Rattle.std.specs.Prelude.{◌≡◌, IfOk, IfErr};
+ghost use Rattle.route_table.specs.Calls.{id_in, version_in, key_in, IsPathNumber};
 
 use crate::faults::RouteFault;
 use osm_base::{Key, Kind, path_number};
@@ -30,6 +30,7 @@ impl<'a> Model for Details<'a> {
 impl Details<'_> {
     pub fn id(&self) -> Result<u64, RouteFault>
         ensures id { result ≡ id_in self.now }
+        ensures number { IfOk result IsPathNumber }
         ensures fault { IfErr result (λ e. e ≡ RouteFault.BadNumber) }
     {
         path_number(self.id).ok_or(RouteFault::BadNumber)
@@ -37,6 +38,7 @@ impl Details<'_> {
 
     pub fn version(&self) -> Result<u64, RouteFault>
         ensures version { result ≡ version_in self.now }
+        ensures number { IfOk result IsPathNumber }
         ensures fault { IfErr result (λ e. e ≡ RouteFault.BadNumber) }
     {
         path_number(self.version).ok_or(RouteFault::BadNumber)
@@ -44,6 +46,7 @@ impl Details<'_> {
 
     pub fn key(&self, kind: Kind) -> Result<Key, RouteFault>
         ensures key { result ≡ key_in kind self.now }
+        ensures number { IfOk result (λ key. IsPathNumber key.id) }
         ensures fault { IfErr result (λ e. e ≡ RouteFault.BadNumber) }
     {
         let id = self.id()?;

@@ -5,8 +5,9 @@ ghost use Rattle.std.specs.List.{find, before_first, after_first};
 ghost use Rattle.std.specs.Cow.{cow_slice_items};
 ghost use Rattle.osm_base.specs.Number.{number_of};
 ghost use Rattle.osm_base.specs.Parts.{parts_of};
-ghost use Rattle.route_table.specs.Parameters.{ampersand, is_equals, is_named, name_of, value_of, value_if_any};
-ghost use Rattle.route_table.specs.Parameters.{parameter_of, truth_of, area_in, ids_in, optional, needed, flag, IsBad};
+ghost use Rattle.route_table.specs.Parameters.{ampersand, is_equals, is_named, name_of, value_of};
+ghost use Rattle.route_table.specs.Parameters.{value_if_any, parameter_of, truth_of, area_in, ids_in};
+ghost use Rattle.route_table.specs.Parameters.{optional, needed, flag, IsBad};
 ghost use Rattle.route_table.specs.Calls.{Gives};
 
 use crate::faults::RouteFault;

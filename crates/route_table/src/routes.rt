@@ -1,11 +1,11 @@
 //! The table of routes.
-ghost use Rattle.std.specs.Prelude.{◌≡◌, [], slice_index_or, Some, None, MatchOption, IsAscii};
+ghost use Rattle.std.specs.Prelude.{◌≡◌, [], slice_index_or, Some, None, MatchOption, IfOk, IsAscii};
 ghost use Rattle.std.specs.Option.{option_copied};
 ghost use Rattle.matchit.specs.Router.{RouteOf};
 ghost use Rattle.route_table.specs.declared.resources.Resource.{Resource};
 ghost use Rattle.route_table.specs.Paths.{route_at};
 ghost use Rattle.route_table.specs.Details.{details_of, taken_by};
-ghost use Rattle.route_table.specs.Calls.{call_of, Gives, IsParametric};
+ghost use Rattle.route_table.specs.Calls.{call_of, Gives, HasPathNumbers, IsParametric};
 
 use crate::calls::{Call, call_at};
 use crate::details::Details;
@@ -59,6 +59,7 @@ impl Routes {
     #[tactic(auto, unfolding(crate::specs::Calls::call_of))]
     pub fn route(&self, alloc: Global, method: &[u8], target: &[u8]) -> Result<Call, RouteFault>
         ensures call { Gives (call_of method.now target.now) result }
+        ensures numbers { IfOk result HasPathNumbers }
         ensures memory { result ≡ Err RouteFault.Memory → IsParametric target.now }
     {
         let path = path_of(target).ok_or(RouteFault::NoPath)?;

@@ -1,5 +1,5 @@
 //! A target as its path and its query.
-ghost use Rattle.std.specs.Prelude.{◌≡◌, nat_eq, if◌then◌else◌, ◌-◌, length, take, codes, IfSome, IsAscii};
+ghost use Rattle.std.specs.Prelude.{◌≡◌, IfSome, IsAscii};
 ghost use Rattle.std.specs.Option.{option_copied};
 ghost use Rattle.std.specs.List.{list_all, before_first, ends_with};
 ghost use Rattle.std.specs.Char.{is_ascii};
