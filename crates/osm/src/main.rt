@@ -1,4 +1,5 @@
-//! The map server's program: the system's words, files, clock and standard streams, given to `run`.
+//! The map server's program. `program` has the contract; main hands it what the system gives: the
+//! words, the files, the clock and the standard streams.
 #![tactic(auto)]
 
 mod start;

@@ -8,6 +8,3 @@ mod words;
 
 pub use top::run;
 pub use words::{Pipe, read_words};
-
-#[cfg(test)]
-mod tests;

@@ -1,0 +1,34 @@
+//! Plays the rows of a text through the server's top call: sessions of requests on a link in memory,
+//! and what must come of them. docs/ROWS.md has the format.
+#![tactic(auto)]
+
+mod lines;
+mod plays;
+mod rows;
+mod sweeps;
+mod tally;
+mod wire;
+
+use std::alloc::Global;
+use std::io;
+use std::process::ExitCode;
+use tally::Tally;
+
+/// Plays each row of the text, tells of each that is wrong, and then how many were played.
+fn play_all<R: Print>(rt: &R, alloc: Global, text: &str) -> io::Result<bool> {
+    let mut tally = Tally::none();
+    for row in text.split("\n== ").skip(1) {
+        tally.play(rt, alloc, row)?;
+    }
+    tally.tell(rt)?;
+    Ok(tally.is_right())
+}
+
+fn main(rt: HostRuntime) -> io::Result<ExitCode> {
+    let text = io::read_to_string(rt.alloc(), rt.stdin())?;
+    if play_all(&rt, rt.alloc(), text.as_str())? {
+        Ok(ExitCode::SUCCESS)
+    } else {
+        Ok(ExitCode::FAILURE)
+    }
+}
