@@ -1,0 +1,25 @@
+//! Reads the bodies of a text, and compares what was read with what must be. docs/ROWS.md has the
+//! format.
+#![tactic(auto)]
+
+mod bodies;
+mod tally;
+mod told;
+
+use std::io;
+use std::process::ExitCode;
+use tally::Tally;
+
+fn main(rt: HostRuntime) -> io::Result<ExitCode> {
+    let text = io::read_to_string(rt.alloc(), rt.stdin())?;
+    let mut tally = Tally::none();
+    for row in text.split("\n== ").skip(1) {
+        tally.read(&rt, rt.alloc(), row)?;
+    }
+    tally.tell(&rt)?;
+    if tally.is_right() {
+        Ok(ExitCode::SUCCESS)
+    } else {
+        Ok(ExitCode::FAILURE)
+    }
+}
