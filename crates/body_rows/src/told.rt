@@ -7,14 +7,15 @@ use std::alloc::Global;
 
 /// ` tags A=B C=D` in the order of the keys, or nothing where there are none.
 pub fn tell_tags(tags: &Tags, text: &mut String) -> Result<(), LineFault> {
-    if !tags.pairs().is_empty() {
+    if tags.len() > 0 {
         text.push_str(" tags")?;
     }
-    for (key, value) in tags.pairs() {
+    for index in 0..tags.len() {
+        let (key, value) = tags.pair(index);
         text.push(' ')?;
-        text.push_str(key.as_str())?;
+        text.push_str(key)?;
         text.push('=')?;
-        text.push_str(value.as_str())?;
+        text.push_str(value)?;
     }
     Ok(())
 }

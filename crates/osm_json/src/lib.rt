@@ -30,6 +30,3 @@ pub use moment::stamp_text;
 pub use single::{read_single, read_tags};
 pub use status::answer_status;
 pub use title::read_title;
-
-#[cfg(test)]
-mod tests;

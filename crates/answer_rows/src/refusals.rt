@@ -1,9 +1,10 @@
+//! The status and the body of each refusal.
 ghost use Rattle.osm_change.specs.Moments.{RefusalHasShownEnd};
 
-use crate::{answer_body, answer_status};
 use osm_base::{Kind, Stamp, Text};
 use osm_change::{Answer, Refusal, Said};
 use osm_element::LocalFault;
+use osm_json::{answer_body, answer_status};
 use std::alloc::Global;
 
 fn shows(alloc: Global, fault: Refusal, status: u16, text: &str) -> bool
@@ -352,10 +353,10 @@ fn of_parameters(rt: HostRuntime) {
 #[test]
 fn escapes(rt: HostRuntime) {
     let alloc = rt.alloc();
-    match Text::of(alloc, "\"\\\u{8}\u{c}\n\r\t\u{1}\u{7f}/\u{e9}") {
+    match Text::of(alloc, "\"\\\u{8}\u{c}\n\r\t\u{1}\u{1f}\u{7f}/\u{e9}") {
         Ok(name) => {
             let text =
-                "{\"error\":\"bad_parameter\",\"name\":\"\\\"\\\\\\b\\f\\n\\r\\t\\u0001\u{7f}/\u{e9}\"}";
+                "{\"error\":\"bad_parameter\",\"name\":\"\\\"\\\\\\b\\f\\n\\r\\t\\u0001\\u001f\u{7f}/\u{e9}\"}";
             assert!(rt; shows(alloc, Refusal::BadParameter { name }, 400, text));
         }
         Err(_) => assert!(rt; false),

@@ -1,0 +1,10 @@
+//! What answers are written as: their statuses and their bodies, worked out by hand. There is
+//! nothing here but tests.
+#![tactic(auto)]
+
+#[cfg(test)]
+mod answers;
+#[cfg(test)]
+mod elements;
+#[cfg(test)]
+mod refusals;
