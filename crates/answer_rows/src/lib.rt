@@ -3,8 +3,4 @@
 #![tactic(auto)]
 
 #[cfg(test)]
-mod answers;
-#[cfg(test)]
-mod elements;
-#[cfg(test)]
-mod refusals;
+mod tests;

@@ -111,7 +111,7 @@ on_link old new before after end s = record {
 
 -- a journal without entries is legal
 nothing_legal : IsLegal []
-nothing_legal = record { each = λ n e found. cc }
+nothing_legal = record { taken = refl; numbered = refl }
 
 -- a journal that was empty has the entries of the session alone
 own_entries : (es more : List Entry) → es ≡ [] ++ more → calls_of 0 es ≡ calls_of 0 [] + length more → calls_of 0 es ≡ length es

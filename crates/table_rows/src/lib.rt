@@ -1,11 +1,15 @@
-//! Rows for the tables of the server: users by their tokens, placeholders, and the users of an
-//! element. It calls public functions alone.
+//! Rows for the tables of the server: users by their tokens, placeholders, the users of an element,
+//! changesets and redactions. It calls public functions alone.
 #![tactic(auto)]
 
+#[cfg(test)]
+mod changesets;
 #[cfg(test)]
 mod lists;
 #[cfg(test)]
 mod placeholders;
+#[cfg(test)]
+mod redactions;
 #[cfg(test)]
 mod references;
 #[cfg(test)]

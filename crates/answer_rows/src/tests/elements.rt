@@ -2,7 +2,7 @@
 ghost use Rattle.std.specs.Prelude.{IfOk};
 ghost use Rattle.osm_change.specs.Moments.{HasShownStamp};
 
-use crate::answers::{alice, shows};
+use super::answers::{alice, shows};
 use osm_base::{Box7, Coord, Items, Key, Kind, Memory, Stamp, Text};
 use osm_change::{Answer, ElementRow};
 use osm_element::{Content, Member, Tags, Version};

@@ -1,0 +1,4 @@
+//! Each file has one kind of answer.
+mod answers;
+mod elements;
+mod refusals;
