@@ -24,6 +24,7 @@ fn is_digits(text: &[u8]) -> bool
     !text.is_empty() && text.len() <= DIGIT_LIMIT && are_digits(text)
 }
 
+/// Whether each byte is a digit.
 pub fn are_digits(text: &[u8]) -> bool
     ensures { result ≡ list_all is_ascii_digit text.now }
 {

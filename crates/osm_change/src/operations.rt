@@ -94,6 +94,7 @@ impl OpDone {
     ghost use Rattle.std.specs.Prelude.{◌≡◌};
     ghost use Rattle.osm_change.specs.Done.{is_applied, done_version};
 
+    /// Whether the operation made a version.
     pub fn is_applied(self) -> bool
         ensures { result ≡ is_applied self }
     {

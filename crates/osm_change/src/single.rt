@@ -35,6 +35,7 @@ impl OneOp {
         }
     }
 
+    /// The change, of one operation.
     pub fn change(&self) -> &Change
         ensures value { result.now ≡ self.now }
         ensures one { length self.now ≡ 1 }

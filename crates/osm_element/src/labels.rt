@@ -92,6 +92,7 @@ impl Tags {
         Ok(Tags { text, ends })
     }
 
+    /// How many tags.
     pub fn len(&self) -> usize
         ensures { result ≡ length self.now }
     {

@@ -15,6 +15,7 @@ pub struct FileHost<F> {
 }
 
 impl<F> FileHost<F> {
+    /// A host over these files that has had no fault yet.
     pub fn new(files: F) -> FileHost<F> {
         FileHost { files, faults: 0 }
     }

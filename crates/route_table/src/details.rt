@@ -28,6 +28,7 @@ impl<'a> Model for Details<'a> {
 }
 
 impl Details<'_> {
+    /// The number of the part `{id}`.
     pub fn id(&self) -> Result<u64, RouteFault>
         ensures id { result ≡ id_in self.now }
         ensures number { IfOk result IsPathNumber }
@@ -36,6 +37,7 @@ impl Details<'_> {
         path_number(self.id).ok_or(RouteFault::BadNumber)
     }
 
+    /// The number of the part `{version}`.
     pub fn version(&self) -> Result<u64, RouteFault>
         ensures version { result ≡ version_in self.now }
         ensures number { IfOk result IsPathNumber }
@@ -44,6 +46,7 @@ impl Details<'_> {
         path_number(self.version).ok_or(RouteFault::BadNumber)
     }
 
+    /// The element of that kind with the number of the part `{id}`.
     pub fn key(&self, kind: Kind) -> Result<Key, RouteFault>
         ensures key { result ≡ key_in kind self.now }
         ensures number { IfOk result (λ key. IsPathNumber key.id) }

@@ -98,6 +98,7 @@ const PATHS: [(&str, Resource); 32] = [
     ("/api/0.6/relations", Resource::Elements(Kind::Relation)),
 ];
 
+/// Each path of the table with its resource.
 pub fn paths() -> &'static [(&'static str, Resource)]
     ensures { map (λ row. (row.0.now, row.1)) result.now ≡ paths }
 {

@@ -43,6 +43,7 @@ struct Found<'a> {
 }
 
 impl Routes {
+    /// The table of all routes. `Memory` is the only error.
     pub fn new(alloc: Global) -> Result<Routes, Memory> {
         let mut router = Router::new(alloc);
         for (path, resource) in paths() {
