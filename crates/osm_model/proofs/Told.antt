@@ -27,8 +27,6 @@ use Rattle.changeset_core.specs.declared.records.ChangesetRecord.{ChangesetRecor
 use Rattle.osm_model.specs.declared.states.State.{State}
 use Rattle.osm_model.specs.declared.commands.Command.{Command}
 use Rattle.osm_model.specs.declared.commands.Command.TheVariants as command
-use Rattle.osm_model.specs.declared.queries.Query.{Query}
-use Rattle.osm_model.specs.declared.queries.Query.TheVariants as query
 use Rattle.osm_model.specs.declared.uploads.Progress.{Progress}
 use Rattle.osm_model.specs.Changeset.{changeset_row, open_record, own_record}
 use Rattle.osm_model.specs.State.{changeset, own_changeset, with_tags, with_end}
@@ -38,7 +36,6 @@ use Rattle.osm_model.specs.Names.{known_key, said}
 use Rattle.osm_model.specs.Operation.{number, named_key, named_version, is_missing, missing, references_visible, created, modified, modify_known, modify_current, or_skipped, delete_unless_used, delete_visible, delete_known, used, gone, operate, operate_all}
 use Rattle.osm_model.specs.Fold.{start, applied_count, task, upload, upload_own, upload_counted, uploaded}
 use Rattle.osm_model.specs.Act.{Effect, judge, settle, act, single_number, known_version, known_redaction, old_version, marked}
-use Rattle.osm_model.specs.Ask.{ask}
 use Rattle.osm_model.proofs.Advances.{changeset-all}
 
 -- ---- steps that may be refused
@@ -299,19 +296,6 @@ pub act_shown : (P : State) (user : User) (m : ℕ) (c : Command) → IsTimely P
 act_shown P user m c timely =
     let t : ℕ = stamp_after P.last m in
     settled_shown P t (judge P user t c) (judge_shown P user t c (stamp_timely P.last m timely.last) timely.changesets)
-
--- ---- a query
-
-changeset_shown :
-    (P : State) (c t : ℕ) (o : Option ChangesetRecord)
-    → changeset P c ≡ o
-    → IsTimely P
-    → HasShownMoments (option_map_or (λ r. answer.Changeset (changeset_row c r t)) o (answer.Refused (refused.NoChangeset c)))
-changeset_shown P c t None found timely = tt
-changeset_shown P c t (Some r) found timely = row_shown c t r (changeset-all IsTimelyRecord P c r timely.changesets found)
-
-pub ask_shown : (P : State) (m : ℕ) (q : Query) → IsTimely P → HasShownMoments (ask P m q)
-ask_shown P m (query.Changeset c) timely = changeset_shown P c (stamp_after P.last m) (changeset P c) refl timely
 
 -- ---- what was judged
 

@@ -1,19 +1,103 @@
 -- What a query is answered.
-use Rattle.std.specs.Prelude.{ℕ}
-use Rattle.std.specs.Option.{option_map_or}
+use Rattle.std.specs.Prelude.{ℕ, ◌==◌, if◌then◌else◌, List, [], ◌∷◌, filter_map, Option, Some, None, option_and_then, option_map, Result, Ok, Err}
+
+use Rattle.osm_base.specs.Outcome.{◌>>=◌}
+use Rattle.osm_base.specs.Place.{Area}
 use Rattle.osm_base.specs.Stamp.{stamp_after}
+use Rattle.osm_base.specs.declared.keys.Key.{Key}
+use Rattle.osm_base.specs.declared.limits.TheConstants.{AREA_LIMIT, MAP_NODE_LIMIT}
+use Rattle.osm_element.specs.Elements.{version}
 use Rattle.osm_change.specs.declared.answers.Answer.{Answer}
 use Rattle.osm_change.specs.declared.answers.Answer.TheVariants as answer
+use Rattle.osm_change.specs.declared.answers.ChangesetRow.{ChangesetRow}
+use Rattle.osm_change.specs.declared.answers.ElementRow.{ElementRow}
+use Rattle.osm_change.specs.declared.reads.MapFault.{MapFault}
+use Rattle.osm_change.specs.declared.reads.MapFault.TheVariants as unmapped
+use Rattle.osm_change.specs.declared.reads.ReadFault.{ReadFault}
+use Rattle.osm_change.specs.declared.reads.ReadFault.TheVariants as unread
+use Rattle.osm_change.specs.declared.reads.Selection.{Selection}
+use Rattle.osm_change.specs.declared.reads.Shown.{Shown}
+use Rattle.osm_change.specs.declared.refusals.Refusal.{Refusal}
 use Rattle.osm_change.specs.declared.refusals.Refusal.TheVariants as refused
+use Rattle.osm_change.specs.declared.refusals.Said.TheVariants.{Id}
 use Rattle.osm_model.specs.declared.queries.Query.{Query}
 use Rattle.osm_model.specs.declared.queries.Query.TheVariants as query
 use Rattle.osm_model.specs.declared.states.State.{State}
-use Rattle.osm_model.specs.Changeset.{changeset_row}
+use Rattle.osm_model.specs.ChangesetReads.{read_changeset, query_changesets, download}
+use Rattle.osm_model.specs.Reads.{one, numbered, history_of, many, full, ways_of, relations_of}
+use Rattle.osm_model.specs.Selection.{map_of, selected}
 use Rattle.osm_model.specs.State.{changeset}
 
--- a changeset as it is at a stamp
-abbrev pub ask_changeset : State → ℕ → ℕ → Answer
-ask_changeset P t c = option_map_or (λ r. answer.Changeset (changeset_row c r t)) (changeset P c) (answer.Refused (refused.NoChangeset c))
+-- ---- rows of elements
 
+-- a version with the owner of its changeset, where both are there
+abbrev pub element_row : State → Shown → Option ElementRow
+element_row P s =
+    option_and_then
+    (λ v. option_map (λ r. record { key = s.key; number = s.number; version = v; owner = r.owner }) (changeset P v.changeset))
+    (version P.elements s.key s.number)
+
+abbrev pub element_rows : State → List Shown → List ElementRow
+element_rows P ss = filter_map (element_row P) ss
+
+-- ---- refusals
+
+-- an element that never existed has version 0
+abbrev pub not_found : Key → ℕ → Refusal
+not_found k n = if n == 0 then refused.NoElement (Id k.id) None k.kind else refused.NoSuchVersion (Id k.id) k.kind n
+
+-- No definition gives want of memory.
+abbrev pub read_refusal : ReadFault → Refusal
+read_refusal (unread.NotFound k n) = not_found k n
+read_refusal (unread.Gone k n) = refused.Gone (Id k.id) None k.kind n
+read_refusal (unread.Redacted k n r) = refused.Redacted (Id k.id) r k.kind n
+read_refusal unread.Memory = refused.NoPath
+
+abbrev pub map_refusal : MapFault → Refusal
+map_refusal (unmapped.TooLarge area) = refused.MapArea area AREA_LIMIT
+map_refusal (unmapped.TooMany nodes) = refused.MapNodes MAP_NODE_LIMIT nodes
+map_refusal unmapped.Memory = refused.NoPath
+
+-- ---- answers
+
+abbrev pub elements_answer : State → List Shown → Answer
+elements_answer P ss = answer.Elements None (element_rows P ss)
+
+abbrev pub read_answer : State → Result (List Shown) ReadFault → Answer
+read_answer P (Ok ss) = elements_answer P ss
+read_answer P (Err fault) = answer.Refused (read_refusal fault)
+
+abbrev pub one_answer : State → Result Shown ReadFault → Answer
+one_answer P (Ok s) = elements_answer P (s ∷ [])
+one_answer P (Err fault) = answer.Refused (read_refusal fault)
+
+-- the map is answered with its box
+abbrev pub map_answer : State → Area → Result Selection MapFault → Answer
+map_answer P a (Ok S) = answer.Elements (Some a) (element_rows P (selected P.elements S))
+map_answer P a (Err fault) = answer.Refused (map_refusal fault)
+
+abbrev pub changeset_answer : Result ChangesetRow Refusal → Answer
+changeset_answer (Ok row) = answer.Changeset row
+changeset_answer (Err r) = answer.Refused r
+
+abbrev pub download_answer : State → Result (List Shown) Refusal → Answer
+download_answer P (Ok ss) = answer.Change (element_rows P ss)
+download_answer P (Err r) = answer.Refused r
+
+-- what a query is answered at a stamp
+abbrev pub ask_at : State → ℕ → Query → Answer
+ask_at P t (query.Changeset c) = changeset_answer (read_changeset P t c)
+ask_at P t (query.Changesets user only_open only_closed within) = answer.Changesets (query_changesets P t user only_open only_closed within)
+ask_at P t (query.Download c) = download_answer P (download P c)
+ask_at P t (query.Map within) = map_answer P within (map_of P.elements within)
+ask_at P t (query.One k) = one_answer P (one P.elements k)
+ask_at P t (query.Numbered k n show) = one_answer P (numbered P.elements k n show)
+ask_at P t (query.History k show) = read_answer P (history_of P.elements k show)
+ask_at P t (query.Many kind ids) = read_answer P (many P.elements kind ids)
+ask_at P t (query.Full k) = read_answer P (full P.elements k)
+ask_at P t (query.WaysOf id) = elements_answer P (ways_of P.elements id)
+ask_at P t (query.RelationsOf k) = elements_answer P (relations_of P.elements k)
+
+-- a query counts the moment as a command does
 abbrev pub ask : State → ℕ → Query → Answer
-ask P moment (query.Changeset c) = ask_changeset P (stamp_after P.last moment) c
+ask P moment q = ask_at P (stamp_after P.last moment) q

@@ -9,6 +9,9 @@ pub mod Act
 pub mod Edit
 pub mod Journal
 pub mod Judgement
+pub mod Reads
+pub mod Selection
+pub mod ChangesetReads
 pub mod Ask
 pub mod Answered
 pub mod Timely

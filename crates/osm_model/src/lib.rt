@@ -2,7 +2,6 @@
 #![tactic(auto)]
 
 mod acts;
-mod asks;
 mod changesets;
 mod commands;
 mod edits;
@@ -20,7 +19,6 @@ mod states;
 mod uploads;
 
 pub use acts::plain_act;
-pub use asks::plain_ask;
 pub use commands::{Command, Entry};
 pub use faults::Fault;
 pub use fold::upload;
