@@ -15,12 +15,13 @@ use http_wire::Message;
 use osm_base::Memory;
 use osm_change::Answer;
 use osm_json::{answer_body, answer_status};
-use osm_model::{Journal, Query, plain_ask};
+use osm_model::{Journal, Query};
+use plain_reads::plain_ask;
 use std::alloc::Global;
 use user_table::UserTable;
 
 /// The reply that tells an answer.
-fn reply_to(alloc: Global, answer: &Answer) -> Result<Reply, Memory>
+fn reply_to(alloc: Global, answer: &Answer<'_>) -> Result<Reply, Memory>
     requires { HasShownMoments answer.now }
     ensures reply { IfOk result (λ reply. reply ≡ reply_of (Some answer.now)) }
     ensures status { IfOk result (λ reply. IsStatus reply.status) }

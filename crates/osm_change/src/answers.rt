@@ -1,6 +1,7 @@
 use crate::refusals::Refusal;
 use osm_base::{Box7, Items, Key, Kind, Owner, Stamp};
 use osm_element::{Tags, Version};
+use std::marker::Model;
 
 /// What one operation of an upload came to, as the client is told (OpenStreetMap wiki, API v0.6,
 /// "Diff upload"). A delete that was applied has neither new id nor new version.
@@ -15,17 +16,25 @@ pub struct DiffRow {
 /// One row for each operation, in the order of the upload.
 pub type DiffRows = Items<DiffRow>;
 
-/// One version of an element, with the owner of its changeset.
+/// One version of an element, with the owner of its changeset: both are shown where they are kept.
 #[derive(Debug, Drop)]
-pub struct ElementRow {
+pub struct ElementRow<'a> {
     pub key: Key,
     pub number: u64,
-    pub version: Version,
-    pub owner: Owner,
+    pub version: &'a Version,
+    pub owner: &'a Owner,
+}
+
+impl<'a> Model for ElementRow<'a> {
+    ghost use Rattle.osm_change.specs.ElementRows.{ShownVersion};
+
+    ghost Value = { ShownVersion };
+
+    ghost view = { λ r. record { key = r.key; number = r.number; version = r.version.now; owner = r.owner.now } };
 }
 
 /// Nodes, then ways, then relations, each by id; a history and a download keep their own order.
-pub type ElementRows = Items<ElementRow>;
+pub type ElementRows<'a> = Items<ElementRow<'a>>;
 
 /// A changeset, as the client is told. It is open where `closes` is missing.
 #[derive(Debug, Drop)]
@@ -42,9 +51,9 @@ pub struct ChangesetRow {
 /// The newest changeset first.
 pub type ChangesetRows = Items<ChangesetRow>;
 
-/// What a call of the server answers.
+/// What a call of the server answers. Only elements are borrowed.
 #[derive(Debug, Drop)]
-pub enum Answer {
+pub enum Answer<'a> {
     /// A new id, or a new version.
     Number(u64),
     Nothing,
@@ -52,10 +61,10 @@ pub enum Answer {
     /// Elements; the map call gives its box as their bounds.
     Elements {
         bounds: Option<Box7>,
-        rows: ElementRows,
+        rows: ElementRows<'a>,
     },
     /// The versions that a changeset made.
-    Change(ElementRows),
+    Change(ElementRows<'a>),
     Changeset(ChangesetRow),
     Changesets(ChangesetRows),
     Refused(Refusal),

@@ -15,7 +15,7 @@ use osm_change::Answer;
 use std::alloc::{AllocError, Global};
 
 #[tactic(auto, unfolding(crate::specs::Answered::answer, crate::specs::Sent::tokens_of))]
-fn write_answer(alloc: Global, out: &mut Writer, answer: &Answer) -> Result<(), AllocError>
+fn write_answer(alloc: Global, out: &mut Writer, answer: &Answer<'_>) -> Result<(), AllocError>
     requires { HasShownMoments answer.now }
     ensures { Sends result out.old out.new (tokens_of (answer_data answer.now)) }
 {
@@ -33,7 +33,7 @@ fn write_answer(alloc: Global, out: &mut Writer, answer: &Answer) -> Result<(), 
 
 /// The body of an answer: compact JSON, the members in the byte order of their names, positions
 /// and boxes in units of 1e-7 degrees (OpenStreetMap wiki, "API v0.6").
-pub fn answer_body(alloc: Global, answer: &Answer) -> Result<Bytes, Memory>
+pub fn answer_body(alloc: Global, answer: &Answer<'_>) -> Result<Bytes, Memory>
     requires { HasShownMoments answer.now }
     ensures { IfOk result (λ body. body ≡ body_of answer.now) }
 {

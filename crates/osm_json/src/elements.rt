@@ -13,7 +13,7 @@ use osm_change::ElementRow;
 use osm_element::Version;
 use std::alloc::{AllocError, Global};
 
-fn number(out: &mut Writer, row: &ElementRow) -> Result<(), AllocError>
+fn number(out: &mut Writer, row: &ElementRow<'_>) -> Result<(), AllocError>
     ensures { SendsFields result out.old out.new (number_fields row.now) }
 {
     members(
@@ -31,7 +31,7 @@ fn redaction(out: &mut Writer, version: &Version) -> Result<(), AllocError>
     members(out, &[("redaction", optional(version.redaction))])
 }
 
-fn origin(out: &mut Writer, row: &ElementRow) -> Result<(), AllocError>
+fn origin(out: &mut Writer, row: &ElementRow<'_>) -> Result<(), AllocError>
     ensures { SendsFields result out.old out.new (origin_fields row.now) }
 {
     members(
@@ -46,22 +46,22 @@ fn origin(out: &mut Writer, row: &ElementRow) -> Result<(), AllocError>
     )
 }
 
-fn element(alloc: Global, out: &mut Writer, row: &ElementRow) -> Result<(), AllocError>
+fn element(alloc: Global, out: &mut Writer, row: &ElementRow<'_>) -> Result<(), AllocError>
     requires { HasShownStamp row.now }
     ensures { Sends result out.old out.new (tokens_of (element_data row.now)) }
 {
     out.begin_object()?;
     number(out, row)?;
-    visible(out, &row.version)?;
-    redaction(out, &row.version)?;
-    visible_tags(out, &row.version)?;
+    visible(out, row.version)?;
+    redaction(out, row.version)?;
+    visible_tags(out, row.version)?;
     moment(alloc, out, "timestamp", row.version.stamp)?;
     origin(out, row)?;
     out.end_object()?;
     Ok(())
 }
 
-fn element_rows(alloc: Global, out: &mut Writer, rows: &[ElementRow]) -> Result<(), AllocError>
+fn element_rows(alloc: Global, out: &mut Writer, rows: &[ElementRow<'_>]) -> Result<(), AllocError>
     requires { All HasShownStamp rows.now }
     ensures { Sends result out.old out.new (flat_map (λ r. tokens_of (element_data r)) rows.now) }
 {
@@ -91,7 +91,7 @@ pub(crate) fn elements(
     alloc: Global,
     out: &mut Writer,
     within: &Option<Box7>,
-    rows: &[ElementRow],
+    rows: &[ElementRow<'_>],
 ) -> Result<(), AllocError>
     requires { All HasShownStamp rows.now }
     ensures { Sends result out.old out.new (tokens_of (elements_data within.now rows.now)) }
@@ -107,7 +107,7 @@ pub(crate) fn elements(
     Ok(())
 }
 
-fn action_name(row: &ElementRow) -> &'static str
+fn action_name(row: &ElementRow<'_>) -> &'static str
     ensures { result.now ≡ name_of_action row.now }
 {
     if row.number == 1 {
@@ -119,7 +119,7 @@ fn action_name(row: &ElementRow) -> &'static str
     }
 }
 
-fn block(alloc: Global, out: &mut Writer, row: &ElementRow) -> Result<(), AllocError>
+fn block(alloc: Global, out: &mut Writer, row: &ElementRow<'_>) -> Result<(), AllocError>
     requires { HasShownStamp row.now }
     ensures { Sends result out.old out.new (tokens_of (block_data row.now)) }
 {
@@ -132,7 +132,7 @@ fn block(alloc: Global, out: &mut Writer, row: &ElementRow) -> Result<(), AllocE
     Ok(())
 }
 
-fn blocks(alloc: Global, out: &mut Writer, rows: &[ElementRow]) -> Result<(), AllocError>
+fn blocks(alloc: Global, out: &mut Writer, rows: &[ElementRow<'_>]) -> Result<(), AllocError>
     requires { All HasShownStamp rows.now }
     ensures { Sends result out.old out.new (flat_map (λ r. tokens_of (block_data r)) rows.now) }
 {
@@ -145,7 +145,7 @@ fn blocks(alloc: Global, out: &mut Writer, rows: &[ElementRow]) -> Result<(), Al
 pub(crate) fn download(
     alloc: Global,
     out: &mut Writer,
-    rows: &[ElementRow],
+    rows: &[ElementRow<'_>],
 ) -> Result<(), AllocError>
     requires { All HasShownStamp rows.now }
     ensures { Sends result out.old out.new (tokens_of (download_data rows.now)) }

@@ -50,7 +50,7 @@ fn refusal_status(fault: &Refusal) -> u16
 
 /// The status of an answer (RFC 9110, section 15; OpenStreetMap wiki, "API v0.6"). It takes no
 /// memory.
-pub fn answer_status(answer: &Answer) -> u16
+pub fn answer_status(answer: &Answer<'_>) -> u16
     ensures value { result ≡ status_of answer.now }
     ensures listed { IsStatus result }
 {

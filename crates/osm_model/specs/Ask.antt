@@ -1,7 +1,5 @@
 -- What a query is answered.
 use Rattle.std.specs.Prelude.{ℕ, ◌==◌, if◌then◌else◌, List, [], ◌∷◌, filter_map, Option, Some, None, option_and_then, option_map, Result, Ok, Err}
-
-use Rattle.osm_base.specs.Outcome.{◌>>=◌}
 use Rattle.osm_base.specs.Place.{Area}
 use Rattle.osm_base.specs.Stamp.{stamp_after}
 use Rattle.osm_base.specs.declared.keys.Key.{Key}

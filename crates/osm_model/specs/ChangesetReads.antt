@@ -1,5 +1,5 @@
 -- Reading changesets (wiki, API v0.6, "Changesets").
-use Rattle.std.specs.Prelude.{ℕ, Bool, true, false, not, ◌==◌, ◌&&◌, ◌||◌, List, length, map, filter, filter_map, take, reverse, is_some, Option, Some, option_map, Result, Ok, Err}
+use Rattle.std.specs.Prelude.{ℕ, Bool, true, false, not, ◌==◌, ◌&&◌, ◌||◌, List, length, map, filter, filter_map, take, reverse, is_some, Option, option_map, Result, Ok, Err}
 use Rattle.std.specs.Option.{option_map_or}
 use Rattle.osm_base.specs.Place.{Area, areas_meet}
 use Rattle.osm_base.specs.declared.limits.TheConstants.{QUERY_LIMIT}

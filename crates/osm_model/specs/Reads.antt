@@ -1,5 +1,5 @@
 -- Reading elements (wiki, API v0.6, "Elements"): which versions a read shows, or why it shows none.
-use Rattle.std.specs.Prelude.{ℕ, Bool, false, not, ◌==◌, ◌&&◌, ◌||◌, if◌then◌else◌, List, [], ◌∷◌, map, filter, length, slice_get, Option, None, is_some, Result, Ok, Err}
+use Rattle.std.specs.Prelude.{ℕ, Bool, false, not, ◌==◌, ◌&&◌, ◌||◌, if◌then◌else◌, List, map, filter, length, slice_get, Option, None, is_some, Result, Ok, Err}
 use Rattle.std.specs.List.{list_any}
 use Rattle.std.specs.Option.{option_map_or}
 use Rattle.osm_base.specs.Key.{kind_eq, key_eq, lists_key}

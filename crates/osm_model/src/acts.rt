@@ -18,7 +18,7 @@ pub fn plain_act(
     user: &User,
     moment: u64,
     command: &Command,
-) -> Result<(State, Answer), Memory>
+) -> Result<(State, Answer<'static>), Memory>
     ensures act { IfOk result (λ done. done ≡ act state user.now moment command.now) }
     ensures kept { IfOk result (λ done. Keeps state.elements done.0.elements) }
 {

@@ -49,12 +49,12 @@ pub struct Kept {
 #[derive(Debug, Drop)]
 pub struct Judgement {
     kept: Option<Kept>,
-    answer: Answer,
+    answer: Answer<'static>,
 }
 
 impl Judgement {
     /// What the command is answered.
-    pub fn answer(&self) -> &Answer
+    pub fn answer(&self) -> &Answer<'static>
         ensures { result.now ≡ answer_of self.now }
     {
         &self.answer
@@ -130,7 +130,7 @@ impl Journal {
 
     /// Keeps what was judged on this journal, and gives its answer back.
     #[tactic(auto, using(crate::proofs::JournalLemmas::replay_consistent))]
-    pub fn keep(&mut self, judged: Judgement) -> Result<Answer, Memory>
+    pub fn keep(&mut self, judged: Judgement) -> Result<Answer<'static>, Memory>
         requires { IsJudgedOn self.old judged }
         ensures answer { IfOk result (λ answer. answer ≡ answer_of judged) }
         ensures ok { OnOk result (self.new ≡ kept_after self.old judged) }
@@ -172,7 +172,7 @@ impl Journal {
         user: &User,
         moment: u64,
         command: Command,
-    ) -> Result<Answer, Memory>
+    ) -> Result<Answer<'static>, Memory>
         ensures answer { IfOk result (λ answer. answer ≡ (act (replay self.old) user.now moment command).1) }
         ensures entries { OnOk result (self.new ≡ journal_after self.old session user.now moment command) }
         ensures legal { OnOk result (IsLegal self.new) }

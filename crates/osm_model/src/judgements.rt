@@ -24,7 +24,7 @@ fn retag(
     at: Stamp,
     id: u64,
     tags: &Tags,
-) -> Result<(Edit, Answer), Fault>
+) -> Result<(Edit, Answer<'static>), Fault>
     ensures { StepsTo state.now (retag state.now user.now at id tags.now) result }
 {
     let kept = state.own_changeset(user, at, id)?;
@@ -38,7 +38,12 @@ fn retag(
     Ok((edit, Answer::Changeset(told)))
 }
 
-fn close_changeset(state: &State, user: &User, at: Stamp, id: u64) -> Result<(Edit, Answer), Fault>
+fn close_changeset(
+    state: &State,
+    user: &User,
+    at: Stamp,
+    id: u64,
+) -> Result<(Edit, Answer<'static>), Fault>
     ensures { StepsTo state.now (close_changeset state.now user.now at id) result }
 {
     state.own_changeset(user, at, id)?;
@@ -67,7 +72,7 @@ fn upload_change(
     at: Stamp,
     id: u64,
     change: &Change,
-) -> Result<(Edit, Answer), Fault>
+) -> Result<(Edit, Answer<'static>), Fault>
     ensures { StepsTo state.now (upload_change state.now user.now at id change.now) result }
 {
     let progress = upload(alloc, state, user, at, id, change)?;
@@ -102,7 +107,7 @@ fn single_change(
     at: Stamp,
     id: u64,
     change: &Change,
-) -> Result<(Edit, Answer), Fault>
+) -> Result<(Edit, Answer<'static>), Fault>
     ensures { StepsTo state.now (single_change state.now user.now at id change.now) result }
 {
     let progress = upload(alloc, state, user, at, id, change)?;
@@ -163,7 +168,12 @@ fn old_version(state: &State, key: Key, number: u64) -> Result<(), Refusal>
     }
 }
 
-fn redact(state: &State, key: Key, number: u64, redaction: u64) -> Result<(Edit, Answer), Fault>
+fn redact(
+    state: &State,
+    key: Key,
+    number: u64,
+    redaction: u64,
+) -> Result<(Edit, Answer<'static>), Fault>
     ensures { StepsTo state.now (redact state.now key number redaction) result }
 {
     known_version(state, key, number)?;
@@ -177,7 +187,7 @@ fn redact(state: &State, key: Key, number: u64, redaction: u64) -> Result<(Edit,
     Ok((edit, Answer::Nothing))
 }
 
-fn unredact(state: &State, key: Key, number: u64) -> Result<(Edit, Answer), Fault>
+fn unredact(state: &State, key: Key, number: u64) -> Result<(Edit, Answer<'static>), Fault>
     ensures { StepsTo state.now (unredact state.now key number) result }
 {
     known_version(state, key, number)?;
@@ -196,7 +206,7 @@ pub fn judge(
     user: &User,
     at: Stamp,
     command: &Command,
-) -> Result<(Edit, Answer), Fault>
+) -> Result<(Edit, Answer<'static>), Fault>
     ensures { StepsTo state.now (judge state.now user.now at command.now) result }
 {
     match command {

@@ -9,7 +9,7 @@ use osm_element::Tags;
 use osm_json::{answer_body, answer_status, stamp_text};
 use std::alloc::Global;
 
-pub fn shows(alloc: Global, answer: &Answer, text: &str) -> bool
+pub fn shows(alloc: Global, answer: &Answer<'_>, text: &str) -> bool
     requires { HasShownMoments answer.now }
 {
     answer_status(answer) == 200

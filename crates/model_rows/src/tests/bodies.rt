@@ -11,7 +11,7 @@ use std::test::Fail;
 const MOMENT: u64 = 1_700_000_000;
 
 /// The answer to the command of user 1.
-pub fn acted(alloc: Global, journal: &mut Journal, command: Command) -> Result<Answer, Memory> {
+pub fn acted(alloc: Global, journal: &mut Journal, command: Command) -> Result<Answer<'static>, Memory> {
     let user = User {
         id: 1,
         name: Text::of(alloc, "someone")?,
@@ -29,7 +29,7 @@ pub fn begun(alloc: Global) -> Result<Journal, Memory> {
 }
 
 /// An answer as a text.
-pub fn told(alloc: Global, answer: &Answer) -> Result<String, Memory> {
+pub fn told(alloc: Global, answer: &Answer<'_>) -> Result<String, Memory> {
     Ok(format!(in alloc; "{answer:?}")?)
 }
 

@@ -5,6 +5,8 @@ use Rattle.osm_json.proofs.elements.element.Goals as goal
 pub returns : goal.returns
 unfolding element
 returns c =
-    let stamp = one_sent (stamp_field c.args.row.now.version.stamp) c.in_ok-moment.ensures in
-    let fields = c.in_ok-number.ensures ⊕ c.in_ok-visible.ensures ⊕ c.in_ok-redaction.ensures ⊕ c.in_ok-visible_tags.ensures ⊕ stamp ⊕ c.in_ok-origin.ensures in
-    record_sent (sent c.in_ok-begin_object.ensures) fields (sent c.in_ok-end_object.ensures)
+    let number = rw (← c.row.view_is) at c.in_ok-number.ensures in
+    let stamp = one_sent (stamp_field c.row.inside.version.now.stamp) c.in_ok-moment.ensures in
+    let origin = rw (← c.row.view_is) at c.in_ok-origin.ensures in
+    let fields = number ⊕ c.in_ok-visible.ensures ⊕ c.in_ok-redaction.ensures ⊕ c.in_ok-visible_tags.ensures ⊕ stamp ⊕ origin in
+    rw (← c.row.view_is) (record_sent (sent c.in_ok-begin_object.ensures) fields (sent c.in_ok-end_object.ensures))

@@ -6,8 +6,8 @@ use Rattle.osm_model.specs.Edit.{effect}
 use Rattle.osm_model.proofs.Advances.{judge-advances}
 use Rattle.osm_model.proofs.acts.plain_act.Goals as goal
 
-pub returns-in_ok-take_edit-in-Ok-clause-kept : goal.returns-in_ok-take_edit-in-Ok-clause-kept
-returns-in_ok-take_edit-in-Ok-clause-kept c =
+pub returns-in-Ok-clause-kept : goal.returns-in-Ok-clause-kept
+returns-in-Ok-clause-kept c =
     let done = effect c.args.state c.in-Ok.edit c.in-Ok.answer in
     let judged : judge c.args.state c.args.user.now c.after-at.result c.args.command.now ≡ Ok done = search rules in
     subst
