@@ -170,7 +170,7 @@ closed_shown : (b : Bool) (t : ℕ) → IsShownMoment t → ForSome (if b then N
 closed_shown true t shown = λ x none. cc
 closed_shown false t shown = λ x same. let e : t ≡ x = cc in omega (arith, e, shown)
 
-row_shown : (c t : ℕ) (r : ChangesetRecord) → IsTimelyRecord r → HasShownLife (changeset_row c r t)
+pub row_shown : (c t : ℕ) (r : ChangesetRecord) → IsTimelyRecord r → HasShownLife (changeset_row c r t)
 row_shown c t r timely = record {
   created = omega (arith, timely.created);
   closes = closed_shown (is_open r t) (closes r) (closes_shown r.created r.activity r.ended timely.created timely.activity timely.ended);

@@ -4,13 +4,16 @@ ghost use Rattle.osm_base.specs.Stamp.{stamp_after};
 ghost use Rattle.osm_base.specs.declared.people.User.{User};
 ghost use Rattle.osm_element.specs.Elements.{IsConsistent};
 ghost use Rattle.osm_element.specs.Later.{Keeps};
+ghost use Rattle.osm_change.specs.Moments.{HasShownMoments};
 ghost use Rattle.osm_change.specs.declared.operations.Op.{Op};
 ghost use Rattle.osm_model.specs.declared.commands.Command.{Command};
 ghost use Rattle.osm_model.specs.declared.commands.Entry.{Entry};
+ghost use Rattle.osm_model.specs.declared.queries.Query.{Query};
 ghost use Rattle.osm_model.specs.declared.states.State.{State};
 ghost use Rattle.osm_model.specs.declared.uploads.Progress.{Progress};
 ghost use Rattle.osm_model.specs.Act.{Effect, judge};
 ghost use Rattle.osm_model.specs.Answered.{map_at};
+ghost use Rattle.osm_model.specs.Ask.{ask};
 ghost use Rattle.osm_model.specs.Attributed.{IsAttributed};
 ghost use Rattle.osm_model.specs.Fold.{upload, made, all_pushed};
 ghost use Rattle.osm_model.specs.Journal.{IsLegal, Later, replay, takes, entry_of};
@@ -51,4 +54,9 @@ pub fn uploads_push_what_they_made()
     ensures { (map : State) (user : User) (stamp id : ℕ) (operations : List Op) (done : Progress)
         → upload map user stamp id operations ≡ Ok done
         → done.elements ≡ all_pushed map.elements (made done) }
+{}
+
+/// On a map whose moments are bounded, each moment that a query is answered has a text.
+pub fn answers_have_moments()
+    ensures { (map : State) (moment : ℕ) (query : Query) → IsTimely map → HasShownMoments (ask map moment query) }
 {}

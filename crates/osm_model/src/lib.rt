@@ -19,13 +19,14 @@ mod states;
 mod uploads;
 
 pub use acts::plain_act;
+pub use changesets::changeset_row;
 pub use commands::{Command, Entry};
 pub use faults::Fault;
 pub use fold::upload;
 pub use journals::{Journal, Judgement};
 pub use law::{
-    accepted_entries_are_taken, later_maps_keep, moments_are_bounded, points_are_consistent,
-    uploads_push_what_they_made, versions_are_attributed,
+    accepted_entries_are_taken, answers_have_moments, later_maps_keep, moments_are_bounded,
+    points_are_consistent, uploads_push_what_they_made, versions_are_attributed,
 };
 pub use queries::Query;
 pub use states::State;
