@@ -1,22 +1,223 @@
-ghost use Rattle.std.specs.Prelude.{◌≡◌, IfOk};
+ghost use Rattle.std.specs.Prelude.{◌≡◌, ◌≢◌, List, Result, IfOk};
 ghost use Rattle.osm_change.specs.Moments.{HasShownMoments};
-ghost use Rattle.osm_model.specs.Ask.{ask};
+ghost use Rattle.osm_change.specs.declared.reads.ReadFault.{ReadFault};
+ghost use Rattle.osm_change.specs.declared.reads.Shown.{Shown};
+ghost use Rattle.osm_change.specs.declared.answers.Answer.TheVariants as answers;
+ghost use Rattle.osm_model.specs.Ask.{ask, ask_at, not_found, read_refusal, elements_answer, one_answer, read_answer, map_answer, changeset_answer, download_answer};
+ghost use Rattle.osm_model.specs.ChangesetReads.{read_changeset, download};
+ghost use Rattle.osm_model.specs.Selection.{map_of};
 ghost use Rattle.osm_model.specs.Timely.{IsTimely};
+ghost use Rattle.plain_reads.specs.Read.{IsRead};
 
-use osm_base::Memory;
-use osm_change::Answer;
-use osm_model::{Query, State};
+use crate::changesets::{Filters, download, query_changesets, read_changeset};
+use crate::elements::{history, numbered, one};
+use crate::full::full;
+use crate::many::many;
+use crate::rows::element_rows;
+use crate::selection::{map_of, selected};
+use crate::users::{relations_of, ways_of};
+use osm_base::{AREA_LIMIT, Box7, Items, Key, MAP_NODE_LIMIT, Memory, Stamp};
+use osm_change::{Answer, MapFault, ReadFault, Refusal, Said, Shown};
+use osm_model::{Fault, Query, State, answers_have_moments};
 use std::alloc::Global;
 
-/// What the query is answered at a moment. The elements are shown where the state keeps them.
+/// What the query is answered at a moment. The elements of the answer are borrowed from the map.
 pub fn plain_ask<'a>(
-    _alloc: Global,
-    _state: &'a State,
-    _moment: u64,
-    _query: &Query,
+    alloc: Global,
+    state: &'a State,
+    moment: u64,
+    query: &Query,
 ) -> Result<Answer<'a>, Memory>
-    ensures answer { IfOk result (λ answer. answer ≡ ask _state.now _moment _query.now) }
-    ensures shown { IsTimely _state.now → IfOk result HasShownMoments }
+    ensures answer { IfOk result (λ answer. answer ≡ ask state.now moment query.now) }
+    ensures shown { IsTimely state.now → IfOk result HasShownMoments }
 {
-    Err(Memory)
+    answers_have_moments();
+    let at = Stamp::after(state.last, moment);
+    let answer = ask_at(alloc, state, at, query)?;
+    Ok(answer)
+}
+
+fn ask_at<'a>(
+    alloc: Global,
+    state: &'a State,
+    at: Stamp,
+    query: &Query,
+) -> Result<Answer<'a>, Memory>
+    ensures { IfOk result (λ answer. answer ≡ ask_at state.now at query.now) }
+{
+    let elements = &state.elements;
+    match query {
+        Query::Changeset { id } => ask_changeset(alloc, state, at, *id),
+        Query::Changesets {
+            user,
+            only_open,
+            only_closed,
+            within,
+        } => {
+            let filters = Filters {
+                user: *user,
+                only_open: *only_open,
+                only_closed: *only_closed,
+                within: *within,
+            };
+            let rows = query_changesets(alloc, state, at, &filters)?;
+            Ok(Answer::Changesets(rows))
+        }
+        Query::Download { id } => ask_download(alloc, state, *id),
+        Query::Map { within } => ask_map(alloc, state, within),
+        Query::One { key } => one_answer(alloc, state, one(elements, *key)),
+        Query::Numbered { key, version, show } => {
+            one_answer(alloc, state, numbered(elements, *key, *version, *show))
+        }
+        Query::History { key, show } => {
+            read_answer(alloc, state, history(alloc, elements, *key, *show))
+        }
+        Query::Many { kind, ids } => {
+            read_answer(alloc, state, many(alloc, elements, *kind, ids.items()))
+        }
+        Query::Full { key } => read_answer(alloc, state, full(alloc, elements, *key)),
+        Query::WaysOf { id } => {
+            let shown = ways_of(alloc, elements, *id)?;
+            elements_answer(alloc, state, &shown)
+        }
+        Query::RelationsOf { key } => {
+            let shown = relations_of(alloc, elements, *key)?;
+            elements_answer(alloc, state, &shown)
+        }
+    }
+}
+
+// ---- elements
+
+fn elements_answer<'a>(
+    alloc: Global,
+    state: &'a State,
+    shown: &Items<Shown>,
+) -> Result<Answer<'a>, Memory>
+    ensures { IfOk result (λ answer. answer ≡ elements_answer state.now shown.now) }
+{
+    let rows = element_rows(alloc, state, shown.items())?;
+    Ok(Answer::Elements { bounds: None, rows })
+}
+
+/// An element that never existed has version 0.
+fn not_found(key: Key, version: u64) -> Refusal
+    ensures { result ≡ not_found key version }
+{
+    let id = Said::Id(key.id);
+    let kind = key.kind;
+    if version == 0 {
+        Refusal::NoElement { id, op: None, kind }
+    } else {
+        Refusal::NoSuchVersion { id, kind, version }
+    }
+}
+
+/// The refusal of a read, unless memory ran out.
+fn refused_read<'a>(fault: ReadFault) -> Result<Answer<'a>, Memory>
+    ensures { IfOk result (λ answer. (answer ≡ answers.Refused (read_refusal fault)) × (fault ≢ ReadFault.Memory)) }
+{
+    match fault {
+        ReadFault::NotFound { key, version } => Ok(Answer::Refused(not_found(key, version))),
+        ReadFault::Gone { key, version } => Ok(Answer::Refused(Refusal::Gone {
+            id: Said::Id(key.id),
+            op: None,
+            kind: key.kind,
+            version,
+        })),
+        ReadFault::Redacted {
+            key,
+            version,
+            redaction,
+        } => Ok(Answer::Refused(Refusal::Redacted {
+            id: Said::Id(key.id),
+            redaction,
+            kind: key.kind,
+            version,
+        })),
+        ReadFault::Memory => Err(Memory),
+    }
+}
+
+fn one_answer<'a>(
+    alloc: Global,
+    state: &'a State,
+    read: Result<Shown, ReadFault>,
+) -> Result<Answer<'a>, Memory>
+    ensures { IfOk result (λ answer. answer ≡ one_answer state.now read) }
+{
+    match read {
+        Ok(shown) => {
+            let rows = element_rows(alloc, state, &[shown])?;
+            Ok(Answer::Elements { bounds: None, rows })
+        }
+        Err(fault) => refused_read(fault),
+    }
+}
+
+fn read_answer<'a>(
+    alloc: Global,
+    state: &'a State,
+    read: Result<Items<Shown>, ReadFault>,
+) -> Result<Answer<'a>, Memory>
+    ensures { (expected : Result (List Shown) ReadFault) → IsRead expected read → IfOk result (λ answer. answer ≡ read_answer state.now expected) }
+{
+    match read {
+        Ok(shown) => elements_answer(alloc, state, &shown),
+        Err(fault) => refused_read(fault),
+    }
+}
+
+// ---- the map
+
+/// The elements of a box, with the box as their bounds.
+fn ask_map<'a>(alloc: Global, state: &'a State, within: &Box7) -> Result<Answer<'a>, Memory>
+    ensures { IfOk result (λ answer. answer ≡ map_answer state.now within.now (map_of state.now.elements within.now)) }
+{
+    match map_of(alloc, &state.elements, within) {
+        Ok(selection) => {
+            let shown = selected(alloc, &state.elements, &selection)?;
+            let rows = element_rows(alloc, state, shown.items())?;
+            Ok(Answer::Elements {
+                bounds: Some(*within),
+                rows,
+            })
+        }
+        Err(MapFault::TooLarge { area }) => Ok(Answer::Refused(Refusal::MapArea {
+            area,
+            limit: AREA_LIMIT,
+        })),
+        Err(MapFault::TooMany { nodes }) => Ok(Answer::Refused(Refusal::MapNodes {
+            limit: MAP_NODE_LIMIT,
+            nodes,
+        })),
+        Err(MapFault::Memory) => Err(Memory),
+    }
+}
+
+// ---- changesets
+
+fn ask_changeset<'a>(
+    alloc: Global,
+    state: &'a State,
+    at: Stamp,
+    id: u64,
+) -> Result<Answer<'a>, Memory>
+    ensures { IfOk result (λ answer. answer ≡ changeset_answer (read_changeset state.now at id)) }
+{
+    match read_changeset(alloc, state, at, id) {
+        Ok(row) => Ok(Answer::Changeset(row)),
+        Err(Fault::Refused(refusal)) => Ok(Answer::Refused(refusal)),
+        Err(Fault::Memory) => Err(Memory),
+    }
+}
+
+fn ask_download<'a>(alloc: Global, state: &'a State, id: u64) -> Result<Answer<'a>, Memory>
+    ensures { IfOk result (λ answer. answer ≡ download_answer state.now (download state.now id)) }
+{
+    match download(alloc, state, id) {
+        Ok(shown) => Ok(Answer::Change(element_rows(alloc, state, shown.items())?)),
+        Err(Fault::Refused(refusal)) => Ok(Answer::Refused(refusal)),
+        Err(Fault::Memory) => Err(Memory),
+    }
 }

@@ -2,5 +2,14 @@
 #![tactic(auto)]
 
 mod asks;
+mod changesets;
+mod elements;
+mod full;
+mod lists;
+mod many;
+mod met;
+mod rows;
+mod selection;
+mod users;
 
 pub use asks::plain_ask;

@@ -1,0 +1,10 @@
+mod AllKeys
+mod Alike
+mod Chosen
+mod Firsts
+mod InFull
+mod Meets
+mod Newest
+mod OfKind
+mod Once
+mod Steps

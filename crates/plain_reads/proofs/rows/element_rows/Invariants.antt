@@ -1,0 +1,7 @@
+use Rattle.std.proofs.Common.{◌≡◌, take}
+use Rattle.std.specs.Prelude.{filter_map}
+use Rattle.osm_model.specs.Ask.{element_row}
+use Rattle.plain_reads.proofs.rows.element_rows.Given as goal
+
+abbrev pub invariant-loop-one : goal.invariant-loop-one
+invariant-loop-one l = l.rows.items ≡ filter_map (element_row l.state) (take l.one-index l.shown)
