@@ -10,13 +10,13 @@ use Rattle.osm_change.specs.declared.refusals.Refusal.{Refusal}
 use Rattle.osm_change.specs.declared.refusals.Refusal.TheVariants as refusals
 use Rattle.osm_element.specs.Limits.{check_tags}
 use Rattle.osm_element.specs.Tags.{Tag}
-use Rattle.osm_json.specs.Reading.{changeset_tags, change_of, single_in}
+use Rattle.osm_json.specs.Reading.{changeset_tags, change_of, single_in, title_in}
 use Rattle.osm_model.specs.declared.commands.Command.{Command}
 use Rattle.osm_model.specs.declared.commands.Command.TheVariants as command
 use Rattle.api_desk.specs.declared.faults.RequestFault.{RequestFault}
 use Rattle.api_desk.specs.declared.faults.RequestFault.TheVariants.{Memory, Refused}
-use Rattle.api_desk.specs.declared.routes.Edit.{Edit}
-use Rattle.api_desk.specs.declared.routes.Edit.TheVariants as edit
+use Rattle.api_desk.specs.declared.tasks.Edit.{Edit}
+use Rattle.api_desk.specs.declared.tasks.Edit.TheVariants as edit
 use Rattle.api_desk.specs.Faults.{of_body, of_change, of_tags}
 
 -- the refusal of a fault. No definition gives want of memory
@@ -58,3 +58,6 @@ command_of (edit.Upload id) body = upload_in id body >>= λ ops. Ok (command.Upl
 command_of (edit.CreateSingle kind) body = change_in Create kind (negsuc 0) body
 command_of (edit.ModifySingle key) body = change_in Modify key.kind (pos key.id) body
 command_of (edit.DeleteSingle key) body = change_in (Delete false) key.kind (pos key.id) body
+command_of edit.MakeRedaction body = or_refused of_body (title_in body) >>= λ title. Ok (command.MakeRedaction title)
+command_of (edit.Redact key version redaction) body = Ok (command.Redact key version redaction)
+command_of (edit.Unredact key version) body = Ok (command.Unredact key version)

@@ -1,4 +1,4 @@
--- How the faults of a body are told.
+-- How the faults of a request line and of a body are told.
 use Rattle.std.specs.Prelude.{Some, Option, ℕ}
 use Rattle.osm_change.specs.declared.causes.Cause.{Cause}
 use Rattle.osm_change.specs.declared.causes.Cause.TheVariants as cause
@@ -7,8 +7,18 @@ use Rattle.osm_change.specs.declared.refusals.Refusal.TheVariants as refusals
 use Rattle.osm_element.specs.declared.faults.LocalFault.{LocalFault}
 use Rattle.osm_json.specs.declared.fault.BodyFault.{BodyFault}
 use Rattle.osm_json.specs.declared.fault.BodyFault.TheVariants as body
+use Rattle.route_table.specs.declared.faults.RouteFault.{RouteFault}
+use Rattle.route_table.specs.declared.faults.RouteFault.TheVariants as route
 use Rattle.api_desk.specs.declared.faults.RequestFault.{RequestFault}
 use Rattle.api_desk.specs.declared.faults.RequestFault.TheVariants.{Memory, Refused}
+
+-- a request line without a call
+abbrev pub of_route : RouteFault → RequestFault
+of_route route.Memory = Memory
+of_route route.NoPath = Refused refusals.NoPath
+of_route route.WrongMethod = Refused refusals.WrongMethod
+of_route route.BadNumber = Refused refusals.BadNumber
+of_route (route.BadParameter name) = Refused (refusals.BadParameter name)
 
 -- a body that isn't JSON, or isn't of the form that its call wants
 abbrev pub of_body : BodyFault → RequestFault

@@ -1,6 +1,5 @@
 pub mod Faults
-pub mod Parts
-pub mod Routes
+pub mod Tasks
 pub mod Media
 pub mod Bodies
 pub mod Request

@@ -2,15 +2,15 @@
 ghost use Rattle.std.specs.Prelude.{◌≡◌, ◌∷◌, [], IfOk, IfErr};
 ghost use Rattle.osm_change.specs.Build.{IsReference};
 ghost use Rattle.api_desk.specs.Bodies.{tags_in, upload_in, change_in, command_of};
-ghost use Rattle.api_desk.specs.Routes.{HasPathNumber};
+ghost use Rattle.api_desk.specs.Tasks.{HasPathNumber};
 ghost use Rattle.api_desk.specs.Gives.{Gives, HasShownFault};
 
 use crate::faults::{RequestFault, tags_fault};
-use crate::routes::Edit;
+use crate::tasks::Edit;
 use osm_base::{Kind, Memory};
 use osm_change::{Action, Change, OneOp, RawOp};
 use osm_element::Tags;
-use osm_json::{read_change, read_single, read_tags};
+use osm_json::{read_change, read_single, read_tags, read_title};
 use osm_model::Command;
 use std::alloc::Global;
 
@@ -94,5 +94,18 @@ pub fn command_of(alloc: Global, edit: Edit, body: &[u8]) -> Result<Command, Req
             let action = Action::Delete { if_unused: false };
             change_in(alloc, action, key.kind, key.id as i64, body)
         }
+        Edit::MakeRedaction => Ok(Command::MakeRedaction {
+            title: read_title(alloc, body)?,
+        }),
+        Edit::Redact {
+            key,
+            version,
+            redaction,
+        } => Ok(Command::Redact {
+            key,
+            version,
+            redaction,
+        }),
+        Edit::Unredact { key, version } => Ok(Command::Unredact { key, version }),
     }
 }

@@ -17,6 +17,7 @@ use osm_change::Answer;
 use osm_json::{answer_body, answer_status};
 use osm_model::{Journal, Query};
 use plain_reads::plain_ask;
+use route_table::Routes;
 use std::alloc::Global;
 use user_table::UserTable;
 
@@ -70,6 +71,7 @@ fn read(journal: &Journal, alloc: Global, query: Query, moment: u64) -> Result<R
 fn answer_on(
     journal: &mut Journal,
     alloc: Global,
+    routes: &Routes,
     users: &UserTable,
     session: u32,
     message: &Message,
@@ -79,7 +81,7 @@ fn answer_on(
     ensures legal { IsLegal journal.old → IsLegal journal.new }
     ensures status { IfOk result (λ reply. IsStatus reply.status) }
 {
-    match request_of(alloc, message, users) {
+    match request_of(alloc, message, routes, users) {
         Ok(Request::Change(asked)) => change(journal, alloc, session, asked, moment),
         Ok(Request::Read(query)) => read(journal, alloc, query, moment),
         Err(RequestFault::Refused(refusal)) => reply_to(alloc, &Answer::Refused(refusal)),
@@ -91,6 +93,7 @@ fn answer_on(
 #[derive(Drop)]
 pub struct OneDesk<'a> {
     journal: &'a mut Journal,
+    routes: Routes,
     users: &'a UserTable,
     session: u32,
 }
@@ -98,17 +101,33 @@ pub struct OneDesk<'a> {
 impl<'a> OneDesk<'a> {
     ghost use Rattle.api_desk.specs.Desk.{entries_of, users_of, session_of};
 
-    /// A desk of that session. It takes no memory.
-    pub fn new(journal: &'a mut Journal, users: &'a UserTable, session: u32) -> OneDesk<'a>
-        ensures journal { entries_of result ≡ journal.old }
-        ensures users { users_of result ≡ users.now }
-        ensures session { session_of result ≡ session }
+    /// A desk of that session, with a table of the routes.
+    pub fn new(
+        alloc: Global,
+        journal: &'a mut Journal,
+        users: &'a UserTable,
+        session: u32,
+    ) -> Result<OneDesk<'a>, Memory>
+        ensures journal { IfOk result (λ desk. entries_of desk ≡ journal.old) }
+        ensures users { IfOk result (λ desk. users_of desk ≡ users.now) }
+        ensures session { IfOk result (λ desk. session_of desk ≡ session) }
     {
-        OneDesk {
+        let routes = Routes::new(alloc)?;
+        Ok(OneDesk {
             journal,
+            routes,
             users,
             session,
-        }
+        })
+    }
+
+    /// Serves another session from now on.
+    pub fn switch_to(&mut self, session: u32)
+        ensures journal { entries_of self.new ≡ entries_of self.old }
+        ensures users { users_of self.new ≡ users_of self.old }
+        ensures session { session_of self.new ≡ session }
+    {
+        self.session = session;
     }
 }
 
@@ -121,6 +140,7 @@ impl Desk for OneDesk<'_> {
         answer_on(
             self.journal,
             alloc,
+            &self.routes,
             self.users,
             self.session,
             &message,

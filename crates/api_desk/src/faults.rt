@@ -5,6 +5,7 @@ use osm_base::Memory;
 use osm_change::{Cause, Refusal, ShapeFault};
 use osm_element::LocalFault;
 use osm_json::BodyFault;
+use route_table::RouteFault;
 
 /// Why a message is no request that is judged on the map.
 #[derive(Debug, Drop)]
@@ -32,6 +33,23 @@ impl From<Refusal> for RequestFault {
 
     fn from(refusal: Refusal) -> Self {
         RequestFault::Refused(refusal)
+    }
+}
+
+impl From<RouteFault> for RequestFault {
+    ghost use Rattle.std.specs.Prelude.{◌≡◌};
+    ghost use Rattle.api_desk.specs.Faults.{of_route};
+
+    ghost from_gives = { λ fault made. made ≡ of_route fault };
+
+    fn from(fault: RouteFault) -> Self {
+        RequestFault::Refused(match fault {
+            RouteFault::Memory => return RequestFault::Memory,
+            RouteFault::NoPath => Refusal::NoPath,
+            RouteFault::WrongMethod => Refusal::WrongMethod,
+            RouteFault::BadNumber => Refusal::BadNumber,
+            RouteFault::BadParameter { name } => Refusal::BadParameter { name },
+        })
     }
 }
 

@@ -7,9 +7,8 @@ mod desk;
 mod faults;
 mod law;
 mod media;
-mod parts;
 mod requests;
-mod routes;
+mod tasks;
 
 pub use desk::OneDesk;
 pub use faults::RequestFault;

@@ -1,19 +1,19 @@
 //! What a message asks.
-ghost use Rattle.std.specs.Prelude.{◌≡◌, IfErr};
-ghost use Rattle.api_desk.specs.Request.{user_of, may_read, asked_by, request_of};
-ghost use Rattle.api_desk.specs.Routes.{HasPathNumbers};
+ghost use Rattle.std.specs.Prelude.{◌≡◌, option_copied, option_map, MatchResult, Ok, Err, IfErr};
+ghost use Rattle.api_desk.specs.Request.{caller_of, is_moderator, known_user, known_moderator, work_of, asked_by, request_of};
+ghost use Rattle.api_desk.specs.Tasks.{HasPathNumber, HasTaskNumbers};
 ghost use Rattle.api_desk.specs.Gives.{Gives, GivesRequest, GivesAsked, HasShownFault};
-ghost use Rattle.user_table.specs.Who.{who_of};
 
 use crate::bodies::command_of;
 use crate::bytes::value_of;
 use crate::faults::RequestFault;
 use crate::media::is_xml;
-use crate::routes::{Call, call_of};
+use crate::tasks::{Edit, Task, task_of};
 use http_wire::Message;
 use osm_base::{TryCopy, User};
 use osm_change::Refusal;
 use osm_model::{Command, Query};
+use route_table::Routes;
 use std::alloc::Global;
 use user_table::{UserTable, Who};
 
@@ -31,67 +31,101 @@ pub enum Request {
     Read(Query),
 }
 
-/// The user who sent the message.
-fn user_of(alloc: Global, message: &Message, users: &UserTable) -> Result<User, RequestFault>
-    ensures gives { Gives (user_of users.now message.now) result }
-    ensures shown { IfErr result HasShownFault }
+/// The caller: nobody who says who it is, or a user. Another is refused.
+fn caller_of<'a>(message: &Message, users: &'a UserTable) -> Result<Option<&'a User>, Refusal>
+    ensures { MatchResult result (λ caller. caller_of users.now message.now ≡ Ok (option_copied caller)) (λ r. caller_of users.now message.now ≡ Err r) }
 {
     match users.who(value_of(&message.authorization)) {
-        Who::Known(place) => Ok(users.user(place).copy(alloc)?),
-        Who::Anonymous | Who::Unknown => Err(RequestFault::Refused(Refusal::NoUser)),
-    }
-}
-
-/// A caller may read who doesn't say who it is, but not one whom the server can't know.
-fn may_read(message: &Message, users: &UserTable) -> Result<(), Refusal>
-    ensures { result ≡ may_read (who_of users.now message.now.authorization) }
-{
-    match users.who(value_of(&message.authorization)) {
-        Who::Known(_) | Who::Anonymous => Ok(()),
+        Who::Known(place) => Ok(Some(users.user(place))),
+        Who::Anonymous => Ok(None),
         Who::Unknown => Err(Refusal::NoUser),
     }
 }
 
-/// What a call asks, where its caller may.
-fn asked_by(
+fn is_moderator(caller: Option<&User>) -> bool
+    ensures { result ≡ is_moderator (option_copied caller) }
+{
+    match caller {
+        Some(user) => user.moderator,
+        None => false,
+    }
+}
+
+fn known_user(caller: Option<&User>) -> Result<&User, Refusal>
+    ensures { MatchResult result (λ user. known_user (option_copied caller) ≡ Ok user.now) (λ r. known_user (option_copied caller) ≡ Err r) }
+{
+    caller.ok_or(Refusal::NoUser)
+}
+
+fn known_moderator(caller: Option<&User>) -> Result<&User, Refusal>
+    ensures { MatchResult result (λ user. known_moderator (option_copied caller) ≡ Ok user.now) (λ r. known_moderator (option_copied caller) ≡ Err r) }
+{
+    let user = known_user(caller)?;
+    if user.moderator {
+        Ok(user)
+    } else {
+        Err(Refusal::Role)
+    }
+}
+
+/// The work that a user asks for, by its body.
+fn work_of(
     alloc: Global,
-    message: &Message,
-    users: &UserTable,
-    call: Call,
+    edit: Edit,
+    body: &[u8],
+    user: &User,
 ) -> Result<Request, RequestFault>
-    requires { HasPathNumbers call }
-    ensures gives { GivesAsked (asked_by users.now message.now call) result }
+    requires { HasPathNumber edit }
+    ensures gives { GivesAsked (work_of edit body.now user.now) result }
     ensures shown { IfErr result HasShownFault }
 {
-    match call {
-        Call::Read(query) => {
-            may_read(message, users)?;
-            Ok(Request::Read(query))
+    let user = user.copy(alloc)?;
+    let command = command_of(alloc, edit, body)?;
+    Ok(Request::Change(Asked { user, command }))
+}
+
+/// What a task asks, where the caller may.
+fn asked_by(
+    alloc: Global,
+    caller: Option<&User>,
+    body: &[u8],
+    task: Task,
+) -> Result<Request, RequestFault>
+    requires { HasTaskNumbers task }
+    ensures gives { GivesAsked (asked_by (option_copied caller) body.now task) result }
+    ensures shown { IfErr result HasShownFault }
+{
+    match task {
+        Task::Read(query) => Ok(Request::Read(query)),
+        Task::Change(edit) => {
+            let user = known_user(caller)?;
+            work_of(alloc, edit, body, user)
         }
-        Call::Edit(edit) => {
-            let user = user_of(alloc, message, users)?;
-            let command = command_of(alloc, edit, message.body.as_slice())?;
-            Ok(Request::Change(Asked { user, command }))
+        Task::Moderate(edit) => {
+            let user = known_moderator(caller)?;
+            work_of(alloc, edit, body, user)
         }
     }
 }
 
-/// What the message asks, or the first cause for which it is refused: it has no path, its body is
-/// XML, its caller may not, its body is none of the call. It depends on the message and the users
-/// alone.
+/// What the message asks, or the first cause for which it is refused: its request line has no call,
+/// its body is XML, its caller isn't known or may not, its body is none of the call. It depends on
+/// the message and the users alone.
 #[tactic(auto, unfolding(crate::specs::Request::asked))]
 pub fn request_of(
     alloc: Global,
     message: &Message,
+    routes: &Routes,
     users: &UserTable,
 ) -> Result<Request, RequestFault>
     ensures gives { GivesRequest (request_of users.now message.now) result }
     ensures shown { IfErr result HasShownFault }
 {
-    let call = call_of(message.method.as_slice(), message.target.as_slice());
-    let call = call.ok_or(Refusal::NoPath)?;
+    let call = routes.route(alloc, message.method.as_slice(), message.target.as_slice())?;
     if is_xml(message) {
         return Err(RequestFault::Refused(Refusal::Xml));
     }
-    asked_by(alloc, message, users, call)
+    let caller = caller_of(message, users)?;
+    let task = task_of(call, is_moderator(caller));
+    asked_by(alloc, caller, message.body.as_slice(), task)
 }

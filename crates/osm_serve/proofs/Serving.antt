@@ -1,6 +1,8 @@
 -- Serving a link by a desk over a new journal.
-use Rattle.std.proofs.Common.{◌≡◌, ℕ, ◌+◌, ◌++◌, ◌∙◌, ap, arith, length, map, List, [], ◌∷◌, refl, sym, subst, append_assoc, append-nil}
-use Rattle.std.specs.List.{concat}
+use Rattle.std.proofs.Common.{◌≡◌, ℕ, ◌+◌, ◌++◌, ◌∙◌, ap, arith, length, map, List, [], ◌∷◌, Option, Some, None, refl, sym, subst, inl, append_assoc, append-nil}
+use Rattle.std.specs.Prelude.{IfSome}
+use Rattle.std.specs.List.{AllByRecursion, concat}
+use Rattle.std.specs.Io.KnownBytes.{Consumes}
 use Rattle.std.proofs.lemmas.List.{length-map}
 use Rattle.osm_outside.specs.Event.{Event, Gave, Took, Answered, given, answered}
 use Rattle.osm_outside.specs.Told.{Told}
@@ -8,9 +10,15 @@ use Rattle.osm_model.specs.declared.commands.Entry.{Entry}
 use Rattle.osm_model.specs.Journal.{IsLegal, calls_of}
 use Rattle.osm_element.specs.Elements.{IsConsistent}
 use Rattle.osm_model.specs.Answered.{all_of, map_at}
+use Rattle.http_wire.specs.declared.message.Message.{Message}
+use Rattle.http_wire.specs.declared.end.WireEnd.{WireEnd}
+use Rattle.http_wire.specs.End.{IsTold}
+use Rattle.http_wire.specs.Message.{AreMessages}
 use Rattle.http_link.specs.declared.end.LinkEnd.{LinkEnd}
+use Rattle.http_link.specs.declared.end.LinkEnd.TheVariants.{Memory}
+use Rattle.http_link.specs.Input.{IsByInput, EndsByInput}
 use Rattle.http_link.specs.Exchange.{Exchange, moments_of}
-use Rattle.http_link.specs.Turns.{Turn, Ending, events_of, events_of_turn, exchanges_of, bytes_of}
+use Rattle.http_link.specs.Turns.{Turn, Ending, no_ending, events_of, events_of_turn, exchanges_of, bytes_of}
 use Rattle.http_link.specs.Link.{Serves}
 use Rattle.user_table.specs.Rows.{Row}
 use Rattle.api_desk.specs.declared.desk.OneDesk.{OneDesk}
@@ -168,3 +176,64 @@ serves_pipe users old new before after end same zero none s served consistent =
       own = told.2;
       consistent = consistent (entries_of new) told.1;
     }
+
+-- ---- a link that was left alone
+
+-- every byte string has messages and an end behind them
+abbrev HaveReadings : Type 0
+HaveReadings = (bytes : List ℕ) → (messages : List Message) × (why : WireEnd) × IsTold why × AreMessages bytes messages why
+
+-- want of memory is told by no bytes
+by_no_bytes : HaveReadings → (input : List ℕ) → EndsByInput input [] Memory
+by_no_bytes readings input =
+    let found = readings input in
+    (found.0, (found.1, (found.2, (found.3, λ (never : IsByInput Memory). absurd never))))
+
+unserved_input : HaveReadings → (left : Option (List ℕ)) → IfSome left (λ input. EndsByInput input [] Memory)
+unserved_input readings None = tt
+unserved_input readings (Some input) = by_no_bytes readings input
+
+unserved_left : (left : Option (List ℕ)) → Consumes left left []
+unserved_left None = tt
+unserved_left (Some input) = refl
+
+unserved_moments : (fixed : Option ℕ) → IfSome fixed (λ at. AllByRecursion (λ (e : Exchange). e.moment ≡ at) [])
+unserved_moments None = tt
+unserved_moments (Some at) = tt
+
+pub unserved :
+    (users : List Row) (before : Told)
+    → HaveReadings
+    → ((entries : List Entry) → IsLegal entries → (point : ℕ) → IsConsistent (map_at entries point).elements)
+    → ServesPipe users before before Memory
+unserved users before readings consistent = record {
+  exchanges = [];
+  link = record {
+    turns = [];
+    ending = no_ending;
+    trace = sym (append-nil before.trace);
+    exchanges_are = refl;
+    few = omega arith;
+    bytes = [];
+    rest = [];
+    input = refl;
+    messages = refl;
+    taken = omega arith;
+    limit = omega arith;
+    consumed = unserved_left before.left;
+    moments = refl;
+    fixed = unserved_moments before.fixed;
+    left = [];
+    read = refl;
+    ends = inl (record { untouched = refl; no_turn = refl; nothing_else = refl });
+    by_bytes = by_no_bytes readings [];
+    by_input = unserved_input readings before.left;
+    read_faults = omega arith;
+    write_faults = omega arith;
+  };
+  journal = [];
+  legal = nothing_legal;
+  answered = record { asked = []; told = tt; answered = (refl, omega arith) };
+  own = refl;
+  consistent = consistent [] nothing_legal;
+}

@@ -3,6 +3,7 @@ ghost use Rattle.osm_serve.specs.Serve.{ServesPipe};
 
 use api_desk::{OneDesk, desk_answers};
 use http_link::{LinkEnd, serve_desk};
+use http_wire::some_reading;
 use osm_model::{Journal, points_are_consistent};
 use osm_outside::{Link, Outside};
 use std::alloc::Global;
@@ -16,7 +17,11 @@ pub fn serve_pipe<L: Link>(alloc: Global, users: &UserTable, link: &mut L) -> Li
     ensures { ServesPipe users.now (L.told link.old) (L.told link.new) result }
 {
     let mut journal = Journal::new(alloc);
-    let mut desk = OneDesk::new(&mut journal, users, SESSION);
+    let Ok(mut desk) = OneDesk::new(alloc, &mut journal, users, SESSION) else {
+        // The link is left alone, and its input has a reading all the same.
+        some_reading();
+        return LinkEnd::Memory;
+    };
     // What the desk's relation and the rules of journals come to over a whole link.
     desk_answers();
     points_are_consistent();

@@ -1,0 +1,118 @@
+//! What a call comes to: a query, or work on the map, by who may ask for it.
+ghost use Rattle.std.specs.Prelude.{◌≡◌};
+ghost use Rattle.api_desk.specs.Tasks.{mark, task_of, HasTaskNumbers};
+ghost use Rattle.route_table.specs.Calls.{HasPathNumbers};
+
+use osm_base::{Key, Kind};
+use osm_model::Query;
+use route_table::Call;
+
+/// Work that a body may say more of (OpenStreetMap wiki, API v0.6).
+#[derive(Clone, Copy, Debug)]
+pub enum Edit {
+    CreateChangeset,
+    Retag {
+        id: u64,
+    },
+    CloseChangeset {
+        id: u64,
+    },
+    Upload {
+        id: u64,
+    },
+    CreateSingle {
+        kind: Kind,
+    },
+    ModifySingle {
+        key: Key,
+    },
+    DeleteSingle {
+        key: Key,
+    },
+    MakeRedaction,
+    Redact {
+        key: Key,
+        version: u64,
+        redaction: u64,
+    },
+    Unredact {
+        key: Key,
+        version: u64,
+    },
+}
+
+/// A call, by who may make it.
+#[derive(Debug, Drop)]
+pub enum Task {
+    /// Anybody may read who isn't taken for somebody whom the server doesn't know.
+    Read(Query),
+    /// Only a user may change the map.
+    Change(Edit),
+    /// Only a moderator may redact.
+    Moderate(Edit),
+}
+
+/// Without a redaction the mark is taken off.
+fn mark(key: Key, version: u64, redaction: Option<u64>) -> Task
+    ensures { result ≡ mark key version redaction }
+{
+    Task::Moderate(match redaction {
+        Some(redaction) => Edit::Redact {
+            key,
+            version,
+            redaction,
+        },
+        None => Edit::Unredact { key, version },
+    })
+}
+
+/// What a call comes to. `sees` tells whether its caller may see what is redacted: the parameter
+/// that asks for it counts for nobody else.
+pub fn task_of(call: Call, sees: bool) -> Task
+    ensures task { result ≡ task_of sees call }
+    ensures numbers { HasPathNumbers call → HasTaskNumbers result }
+{
+    match call {
+        Call::CreateChangeset => Task::Change(Edit::CreateChangeset),
+        Call::Retag { id } => Task::Change(Edit::Retag { id }),
+        Call::CloseChangeset { id } => Task::Change(Edit::CloseChangeset { id }),
+        Call::Upload { id } => Task::Change(Edit::Upload { id }),
+        Call::CreateSingle { kind } => Task::Change(Edit::CreateSingle { kind }),
+        Call::ModifySingle { key } => Task::Change(Edit::ModifySingle { key }),
+        Call::DeleteSingle { key } => Task::Change(Edit::DeleteSingle { key }),
+        Call::MakeRedaction => Task::Moderate(Edit::MakeRedaction),
+        Call::Redact {
+            key,
+            version,
+            redaction,
+        } => mark(key, version, redaction),
+        Call::Changeset { id } => Task::Read(Query::Changeset { id }),
+        Call::Changesets {
+            user,
+            only_open,
+            only_closed,
+            within,
+        } => Task::Read(Query::Changesets {
+            user,
+            only_open,
+            only_closed,
+            within,
+        }),
+        Call::Download { id } => Task::Read(Query::Download { id }),
+        Call::Map { within } => Task::Read(Query::Map { within }),
+        Call::One { key } => Task::Read(Query::One { key }),
+        Call::Numbered { key, version, show } => Task::Read(Query::Numbered {
+            key,
+            version,
+            show: show && sees,
+        }),
+        Call::History { key, show } => Task::Read(Query::History {
+            key,
+            show: show && sees,
+        }),
+        Call::Many { kind, ids } => Task::Read(Query::Many { kind, ids }),
+        Call::Full { key } => Task::Read(Query::Full { key }),
+        Call::WaysOf { id } => Task::Read(Query::WaysOf { id }),
+        Call::RelationsOf { key } => Task::Read(Query::RelationsOf { key }),
+    }
+}
