@@ -43,7 +43,7 @@ fn caller_of<'a>(message: &Message, users: &'a UserTable) -> Result<Option<&'a U
 }
 
 fn is_moderator(caller: Option<&User>) -> bool
-    ensures { result ≡ is_moderator (option_copied caller) }
+    ensures { result ≡ is_moderator (option_copied caller.entry) }
 {
     match caller {
         Some(user) => user.moderator,
@@ -52,13 +52,13 @@ fn is_moderator(caller: Option<&User>) -> bool
 }
 
 fn known_user(caller: Option<&User>) -> Result<&User, Refusal>
-    ensures { MatchResult result (λ user. known_user (option_copied caller) ≡ Ok user.now) (λ r. known_user (option_copied caller) ≡ Err r) }
+    ensures { MatchResult result (λ user. known_user (option_copied caller.entry) ≡ Ok user.now) (λ r. known_user (option_copied caller.entry) ≡ Err r) }
 {
     caller.ok_or(Refusal::NoUser)
 }
 
 fn known_moderator(caller: Option<&User>) -> Result<&User, Refusal>
-    ensures { MatchResult result (λ user. known_moderator (option_copied caller) ≡ Ok user.now) (λ r. known_moderator (option_copied caller) ≡ Err r) }
+    ensures { MatchResult result (λ user. known_moderator (option_copied caller.entry) ≡ Ok user.now) (λ r. known_moderator (option_copied caller.entry) ≡ Err r) }
 {
     let user = known_user(caller)?;
     if user.moderator {
@@ -69,12 +69,7 @@ fn known_moderator(caller: Option<&User>) -> Result<&User, Refusal>
 }
 
 /// The work that a user asks for, by its body.
-fn work_of(
-    alloc: Global,
-    edit: Edit,
-    body: &[u8],
-    user: &User,
-) -> Result<Request, RequestFault>
+fn work_of(alloc: Global, edit: Edit, body: &[u8], user: &User) -> Result<Request, RequestFault>
     requires { HasPathNumber edit }
     ensures gives { GivesAsked (work_of edit body.now user.now) result }
     ensures shown { IfErr result HasShownFault }
@@ -92,7 +87,7 @@ fn asked_by(
     task: Task,
 ) -> Result<Request, RequestFault>
     requires { HasTaskNumbers task }
-    ensures gives { GivesAsked (asked_by (option_copied caller) body.now task) result }
+    ensures gives { GivesAsked (asked_by (option_copied caller.entry) body.now task) result }
     ensures shown { IfErr result HasShownFault }
 {
     match task {

@@ -187,7 +187,7 @@ HaveReadings = (bytes : List ℕ) → (messages : List Message) × (why : WireEn
 by_no_bytes : HaveReadings → (input : List ℕ) → EndsByInput input [] Memory
 by_no_bytes readings input =
     let found = readings input in
-    (found.0, (found.1, (found.2, (found.3, λ (never : IsByInput Memory). absurd never))))
+    (found.0, found.1, found.2, found.3, λ (never : IsByInput Memory). absurd never)
 
 unserved_input : HaveReadings → (left : Option (List ℕ)) → IfSome left (λ input. EndsByInput input [] Memory)
 unserved_input readings None = tt

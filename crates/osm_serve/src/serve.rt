@@ -16,14 +16,14 @@ const SESSION: u32 = 0;
 pub fn serve_pipe<L: Link>(alloc: Global, users: &UserTable, link: &mut L) -> LinkEnd
     ensures { ServesPipe users.now (L.told link.old) (L.told link.new) result }
 {
+    // What journals, and the desk's relation over a whole link, come to.
+    points_are_consistent();
+    desk_answers();
     let mut journal = Journal::new(alloc);
     let Ok(mut desk) = OneDesk::new(alloc, &mut journal, users, SESSION) else {
         // The link is left alone, and its input has a reading all the same.
         some_reading();
         return LinkEnd::Memory;
     };
-    // What the desk's relation and the rules of journals come to over a whole link.
-    desk_answers();
-    points_are_consistent();
     serve_desk(alloc, &mut desk, link)
 }
