@@ -11,7 +11,11 @@ use std::test::Fail;
 const MOMENT: u64 = 1_700_000_000;
 
 /// The answer to the command of user 1.
-pub fn acted(alloc: Global, journal: &mut Journal, command: Command) -> Result<Answer<'static>, Memory> {
+pub fn acted(
+    alloc: Global,
+    journal: &mut Journal,
+    command: Command,
+) -> Result<Answer<'static>, Memory> {
     let user = User {
         id: 1,
         name: Text::of(alloc, "someone")?,
