@@ -1,0 +1,6 @@
+pub mod Vectors
+pub mod PutLemmas
+pub mod NodeLemmas
+pub mod Lengths
+pub mod LeftLemmas
+pub mod UserLemmas

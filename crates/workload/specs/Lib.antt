@@ -1,0 +1,5 @@
+pub mod Numbers
+pub mod Upload
+pub mod Request
+pub mod Left
+pub mod Users

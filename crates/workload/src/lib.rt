@@ -1,0 +1,13 @@
+//! A generated load: requests whose bytes a seed and two numbers fix, and the users who send them.
+#![tactic(auto)]
+
+mod bodies;
+mod loads;
+mod numbers;
+mod pieces;
+mod sent;
+mod users;
+
+pub use loads::{Load, requests};
+pub use sent::Sent;
+pub use users::users_text;
