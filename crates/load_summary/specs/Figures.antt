@@ -4,18 +4,18 @@ use Rattle.osm_base.specs.declared.keys.Kind.{Kind}
 use Rattle.osm_base.specs.declared.keys.Kind.TheVariants.{Node, Way, Relation}
 use Rattle.osm_element.specs.Elements.{key, keys_to, histories, is_visible, position}
 use Rattle.osm_element.specs.declared.elements.Elements.{Elements}
-use Rattle.osm_model.specs.declared.states.State.{State}
 use Rattle.load_summary.specs.declared.figures.Figures.{Figures}
 
 -- how many of the elements of a kind are visible
 abbrev pub visible_count : Elements → Kind → ℕ
 visible_count E kind = count_by (is_visible E) (keys_to kind (length (histories E kind)))
 
-abbrev pub figures_of : State → ℕ → Figures
-figures_of P entries = record {
+-- the figures of the elements that so many entries made
+abbrev pub figures_of : Elements → ℕ → Figures
+figures_of E entries = record {
   entries = entries;
-  nodes = visible_count P.elements Node;
-  ways = visible_count P.elements Way;
-  relations = visible_count P.elements Relation;
-  first = position P.elements (key Node 1);
+  nodes = visible_count E Node;
+  ways = visible_count E Way;
+  relations = visible_count E Relation;
+  first = position E (key Node 1);
 }

@@ -1,5 +1,6 @@
 -- The lines that tell of a load's run, and those that tell of a replay.
-use Rattle.std.specs.Prelude.{ℕ, List, ◌++◌, codes, decimal, signed_decimal, Option, Some, None}
+use Rattle.std.specs.Prelude.{ℕ, List, ◌++◌, codes, decimal, Option, Some, None}
+use Rattle.std.specs.Fmt.{signed_decimal}
 use Rattle.osm_base.specs.Place.{Position}
 use Rattle.load_summary.specs.declared.figures.Figures.{Figures}
 use Rattle.load_summary.specs.declared.figures.Run.{Run}

@@ -4,7 +4,6 @@ ghost use Rattle.load_summary.specs.Figures.{visible_count, figures_of};
 
 use osm_base::{Coord, Key, Kind};
 use osm_element::Elements;
-use osm_model::State;
 
 /// The numbers of a journal and of its map. Elements count where they are visible.
 #[derive(Clone, Copy, Debug, PartialEq, Eq)]
@@ -28,20 +27,20 @@ pub struct Run {
     pub refused: u64,
 }
 
-/// The numbers of the map that so many entries made. It looks at every element once.
-pub fn figures_of(map: &State, entries: u64) -> Figures
-    ensures { result ≡ figures_of map.now entries }
+/// The figures of the elements that so many entries made. It looks at every element once.
+pub fn figures_of(elements: &Elements, entries: u64) -> Figures
+    ensures { result ≡ figures_of elements.now entries }
 {
-    let elements = &map.elements;
+    let first_node = Key {
+        kind: Kind::Node,
+        id: 1,
+    };
     Figures {
         entries,
         nodes: visible_count(elements, Kind::Node),
         ways: visible_count(elements, Kind::Way),
         relations: visible_count(elements, Kind::Relation),
-        first: elements.position(Key {
-            kind: Kind::Node,
-            id: 1,
-        }),
+        first: elements.position(first_node),
     }
 }
 

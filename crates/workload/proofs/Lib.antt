@@ -4,3 +4,4 @@ pub mod NodeLemmas
 pub mod Lengths
 pub mod LeftLemmas
 pub mod UserLemmas
+pub mod TableLemmas

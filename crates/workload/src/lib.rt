@@ -2,12 +2,14 @@
 #![tactic(auto)]
 
 mod bodies;
+mod law;
 mod loads;
 mod numbers;
 mod pieces;
 mod sent;
 mod users;
 
+pub use law::users_are_read;
 pub use loads::{Load, requests};
 pub use sent::Sent;
 pub use users::users_text;

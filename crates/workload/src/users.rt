@@ -1,5 +1,5 @@
 //! The users of a load.
-ghost use Rattle.std.specs.Prelude.{◌≡◌, ◌++◌, ◌≤◌, IfOk, OnOk};
+ghost use Rattle.std.specs.Prelude.{◌≡◌, ◌++◌, ◌≤◌, IfOk, OnOk, codes};
 ghost use Rattle.osm_base.specs.declared.limits.TheConstants.{SESSION_LIMIT};
 ghost use Rattle.workload.specs.Users.{user_line, users_text};
 
@@ -12,7 +12,7 @@ const LINE_ROOM: usize = 10;
 
 #[tactic(auto, unfolding(crate::specs::Users::user_line))]
 fn put_line(bytes: &mut Vec<u8>, user: u32) -> Result<(), Memory>
-    ensures { OnOk result (bytes.new.items ≡ bytes.old.items ++ user_line user) }
+    ensures { OnOk result (bytes.new.items ≡ bytes.old.items ++ (user_line user ++ codes "\n")) }
 {
     put_number(bytes, user)?;
     put_with_number(bytes, b" t", user)?;
