@@ -7,14 +7,19 @@ use osm_base::{Coord, Memory, Text};
 use std::alloc::Global;
 
 #[tactic(auto, unfolding(crate::specs::Summary::first_line))]
+fn position_line(alloc: Global, at: Coord) -> Result<String, Memory>
+    ensures { IfOk result (λ text. string_bytes text ≡ first_line (Some at)) }
+{
+    let (lat7, lon7) = (at.lat7(), at.lon7());
+    Ok(format!(in alloc; "first {lat7} {lon7}\n")?)
+}
+
+#[tactic(auto, unfolding(crate::specs::Summary::first_line))]
 fn first_line(alloc: Global, first: Option<Coord>) -> Result<String, Memory>
     ensures { IfOk result (λ text. string_bytes text ≡ first_line first) }
 {
     match first {
-        Some(at) => {
-            let (lat7, lon7) = (at.lat7(), at.lon7());
-            Ok(format!(in alloc; "first {lat7} {lon7}\n")?)
-        }
+        Some(at) => position_line(alloc, at),
         None => Ok(String::from_str(alloc, "first none\n")?),
     }
 }
@@ -30,9 +35,7 @@ fn count_lines(alloc: Global, figures: &Figures) -> Result<String, Memory>
         relations,
         ..
     } = *figures;
-    Ok(
-        format!(in alloc; "entries {entries}\nnodes {nodes}\nways {ways}\nrelations {relations}\n")?,
-    )
+    Ok(format!(in alloc; "entries {entries}\nnodes {nodes}\nways {ways}\nrelations {relations}\n")?)
 }
 
 #[tactic(auto, unfolding(crate::specs::Summary::load_lines))]
@@ -53,7 +56,9 @@ fn reply_lines(alloc: Global, run: &Run) -> Result<String, Memory>
     ensures { IfOk result (λ text. string_bytes text ≡ reply_lines run.now) }
 {
     let Run {
-        replies, refused, ..
+        replies,
+        refused,
+        ..
     } = *run;
     Ok(format!(in alloc; "replies {replies}\nrefused {refused}\n")?)
 }

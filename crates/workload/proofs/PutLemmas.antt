@@ -1,5 +1,5 @@
 -- Pieces put behind one another.
-use Rattle.std.proofs.Common.{◌≡◌, ℕ, List, ◌++◌, Result, Ok, Err, OnOk, refl, sym, ap, ◌∙◌, append_assoc}
+use Rattle.std.proofs.Common.{◌≡◌, ℕ, List, ◌++◌, Result, Ok, Err, OnOk, ap, ◌∙◌, append_assoc}
 use Rattle.std.specs.Prelude.{codes, decimal}
 use Rattle.osm_base.specs.declared.memory.Memory.{Memory}
 use Rattle.workload.specs.Numbers.{lat7_of, lon7_of}

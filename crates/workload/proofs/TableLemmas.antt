@@ -112,8 +112,13 @@ text_is_ascii first (suc n) low high =
 text_is_short : (first n : ℕ) → 1 ≤ first → first + n ≤ 65 → length (text_from first n) ≤ n * 16
 text_is_short first zero low high = omega arith
 text_is_short first (suc n) low high =
-    omega (arith, ap length (text_from-suc first n), length-append (user_line first) (10 ∷ text_from (first + 1) n),
-    (line_is_plain first low (omega arith)).short, text_is_short (first + 1) n (omega arith) (omega arith))
+    omega (
+      arith,
+      ap length (text_from-suc first n),
+      length-append (user_line first) (10 ∷ text_from (first + 1) n),
+      (line_is_plain first low (omega arith)).short,
+      text_is_short (first + 1) n (omega arith) (omega arith),
+    )
 
 -- ---- the table
 abbrev user_lines : ℕ → List (List ℕ)
@@ -162,5 +167,5 @@ users_read sessions few =
     let short : length (text_from 1 sessions) ≤ USERS_LIMIT = omega (arith, text_is_short 1 sessions (omega arith) (omega arith)) in (
       read.0,
       ap table_of (users_text_is sessions) ∙ table_of-lines (text_from 1 sessions) short utf8
-      ∙ ap (with_lines 1 []) (lines-text_from 1 sessions (omega arith) (omega arith)) ∙ read.1,
+          ∙ ap (with_lines 1 []) (lines-text_from 1 sessions (omega arith) (omega arith)) ∙ read.1,
     )

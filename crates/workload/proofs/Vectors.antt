@@ -1,8 +1,8 @@
 -- Worked rows: the definitions compute what they should.
-use Rattle.std.proofs.Common.{◌≡◌, ◌+◌, length, codes, [], ◌∷◌, ◌++◌, refl}
+use Rattle.std.proofs.Common.{◌≡◌, codes, [], ◌∷◌, refl}
 use Rattle.std.specs.Fmt.{digits}
 use Rattle.workload.specs.Numbers.{next_number, number_after, lat7_of, lon7_of}
-use Rattle.workload.specs.Upload.{body, nodes_text, node_text}
+use Rattle.workload.specs.Upload.{nodes_text, node_text}
 use Rattle.workload.specs.Request.{creation, creation_bytes, upload_head, upload, uploads, requests}
 use Rattle.workload.specs.Users.{users_text, user_line}
 

@@ -1,5 +1,5 @@
 -- The users text of a load: user n of as many as there are sessions has the token `tn` and the name `mn`.
-use Rattle.std.specs.Prelude.{ℕ, List, [], ◌∷◌, ◌++◌, codes, decimal, flat_map}
+use Rattle.std.specs.Prelude.{ℕ, List, ◌++◌, codes, decimal, flat_map}
 use Rattle.std.specs.List.{range_with_len}
 
 -- the line of a user

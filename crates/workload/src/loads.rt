@@ -48,11 +48,7 @@ fn put_upload_head(bytes: &mut Vec<u8>, user: u32) -> Result<(), Memory>
     ensures { OnOk result (bytes.new.items ≡ bytes.old.items ++ upload_head user user BODY_LENGTH) }
 {
     put_with_number(bytes, b"POST /api/0.6/changeset/", user)?;
-    put_with_number(
-        bytes,
-        b"/upload HTTP/1.1\r\nAuthorization: Bearer t",
-        user,
-    )?;
+    put_with_number(bytes, b"/upload HTTP/1.1\r\nAuthorization: Bearer t", user)?;
     put_with_number(bytes, b"\r\nContent-Length: ", BODY_LENGTH)?;
     put(bytes, b"\r\n\r\n")
 }
@@ -143,12 +139,7 @@ impl Load {
 
 /// All requests of a load. The bytes of an upload are some 770, so a long load is better asked for
 /// its requests one at a time.
-pub fn requests(
-    alloc: Global,
-    seed: u64,
-    sessions: u32,
-    uploads: u32,
-) -> Result<Vec<Sent>, Memory>
+pub fn requests(alloc: Global, seed: u64, sessions: u32, uploads: u32) -> Result<Vec<Sent>, Memory>
     requires some { 0 < sessions }
     requires few { sessions ≤ SESSION_LIMIT }
     ensures { IfOk result (λ made. made.items ≡ requests seed sessions uploads) }

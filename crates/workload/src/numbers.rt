@@ -4,6 +4,7 @@ ghost use Rattle.workload.specs.Numbers.{next_number, lat7_of, lon7_of};
 
 /// The factor of the linear congruential generator MMIX (D. Knuth), and what it adds.
 const FACTOR: u64 = 6_364_136_223_846_793_005;
+
 const ADDEND: u64 = 1_442_695_040_888_963_407;
 
 pub fn next_number(number: u64) -> u64

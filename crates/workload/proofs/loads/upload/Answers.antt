@@ -1,5 +1,4 @@
 use Rattle.std.proofs.Common.{ap, ◌∙◌}
-use Rattle.workload.specs.declared.sent.Sent.{Sent}
 use Rattle.workload.proofs.Lengths.{upload_made}
 use Rattle.workload.proofs.loads.upload.Goals as goal
 

@@ -1,0 +1,59 @@
+use load_summary::{figures_of, replay_summary};
+use osm_element::Elements;
+use std::test::Fail;
+use user_table::{UserTable, Who};
+use workload::{Load, requests, users_text};
+
+#[test]
+fn the_first_request_creates_a_changeset(rt: HostRuntime) -> Result<(), Fail> {
+    let mut load = Load::new(1, 3, 1_000);
+    let Some(first) = load.next_request(rt.alloc())? else {
+        return Err("no request".into());
+    };
+    let expected: &[u8] =
+        b"PUT /api/0.6/changeset/create HTTP/1.1\r\nAuthorization: Bearer t1\r\n\r\n";
+    assert_eq!(rt; first.bytes.as_slice(), expected);
+    assert_eq!(rt; load.len(), 1_002);
+    Ok(())
+}
+
+#[test]
+fn the_first_upload_of_seed_1(rt: HostRuntime) -> Result<(), Fail> {
+    let sent = requests(rt.alloc(), 1, 1, 1)?;
+    let Some(upload) = sent.get(1) else {
+        return Err("no upload".into());
+    };
+    let expected: &[u8] = b"POST /api/0.6/changeset/1/upload HTTP/1.1\r\n\
+        Authorization: Bearer t1\r\nContent-Length: 673\r\n\r\n{\"osmChange\":[{\"create\":[\
+        {\"type\":\"node\",\"id\":-1,\"lat7\":480100271,\"lon7\":110469695},\
+        {\"type\":\"node\",\"id\":-2,\"lat7\":480546438,\"lon7\":110507620},\
+        {\"type\":\"node\",\"id\":-3,\"lat7\":480877665,\"lon7\":110082249},\
+        {\"type\":\"node\",\"id\":-4,\"lat7\":480423381,\"lon7\":110995417},\
+        {\"type\":\"node\",\"id\":-5,\"lat7\":480345398,\"lon7\":110793480},\
+        {\"type\":\"node\",\"id\":-6,\"lat7\":480397185,\"lon7\":110604259},\
+        {\"type\":\"node\",\"id\":-7,\"lat7\":480293493,\"lon7\":110932794},\
+        {\"type\":\"node\",\"id\":-8,\"lat7\":480097553,\"lon7\":110707148},\
+        {\"type\":\"node\",\"id\":-9,\"lat7\":480088266,\"lon7\":110947275},\
+        {\"type\":\"node\",\"id\":-10,\"lat7\":480329271,\"lon7\":110151398},\
+        {\"type\":\"way\",\"id\":-1,\"nodes\":[-1,-2,-3,-4,-5,-6,-7,-8,-9,-10]}]}]}";
+    assert_eq!(rt; upload.bytes.as_slice(), expected);
+    Ok(())
+}
+
+#[test]
+fn the_last_user_is_known(rt: HostRuntime) -> Result<(), Fail> {
+    let text = users_text(rt.alloc(), 64)?;
+    let table = UserTable::read(rt.alloc(), text.as_slice())?;
+    assert_eq!(rt; table.who(Some(b"Bearer t64")), Who::Known(63));
+    assert_eq!(rt; table.who(Some(b"Bearer t65")), Who::Unknown);
+    Ok(())
+}
+
+#[test]
+fn nothing_is_replayed(rt: HostRuntime) -> Result<(), Fail> {
+    let figures = figures_of(&Elements::empty(rt.alloc()), 0);
+    let text = replay_summary(rt.alloc(), &figures)?;
+    let expected = "entries 0\nnodes 0\nways 0\nrelations 0\nfirst none\n";
+    assert_eq!(rt; text.as_str(), expected);
+    Ok(())
+}
