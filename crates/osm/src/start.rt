@@ -3,7 +3,9 @@ ghost use Rattle.std.specs.Prelude.{◌≡◌, IfOk, MatchResult, map, string_by
 ghost use Rattle.std.specs.IoError.{error_kind};
 ghost use Rattle.std.specs.Process.{exit_status};
 ghost use Rattle.std.specs.Vec.Iter.{into_iter_items};
-ghost use Rattle.osm.specs.Program.{EndsOn, IsUnserved, lacking_status};
+ghost use Rattle.osm_words.specs.Words.{reading_of};
+ghost use Rattle.osm_serve.specs.Run.{Runs, IsUnserved};
+ghost use Rattle.osm.specs.Program.{lacking_status};
 
 use osm_outside::{Host, Link};
 use osm_serve::run;
@@ -31,7 +33,7 @@ fn lacking_status(why: &io::Error) -> u8
 
 /// The status of `run` on the words, or 5 where there is no memory for their list.
 fn status_on<H: Host, L: Link>(alloc: Global, args: Args, host: &mut H, standard: &mut L) -> u8
-    ensures { EndsOn (map string_bytes (into_iter_items args)) (H.told host.old) (H.told host.new)
+    ensures { Runs (reading_of (map string_bytes (into_iter_items args))) (H.told host.old) (H.told host.new)
         (L.told standard.old) (L.told standard.new) result }
 {
     match words_of(alloc, args) {
@@ -49,7 +51,7 @@ pub fn program<H: Host, L: Link>(
     standard: &mut L,
 ) -> ExitCode
     ensures { MatchResult args
-        (λ words. EndsOn (map string_bytes (into_iter_items words)) (H.told host.old) (H.told host.new)
+        (λ words. Runs (reading_of (map string_bytes (into_iter_items words))) (H.told host.old) (H.told host.new)
         (L.told standard.old) (L.told standard.new) (exit_status result))
         (λ why. IsUnserved (lacking_status (error_kind why)) (H.told host.old) (H.told host.new)
         (L.told standard.old) (L.told standard.new) (exit_status result)) }

@@ -1,5 +1,3 @@
-pub mod Words
-pub mod Shown
 pub mod Serve
 pub mod Users
 pub mod Run

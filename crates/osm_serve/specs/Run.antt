@@ -5,7 +5,7 @@ use Rattle.http_link.specs.declared.end.LinkEnd.{LinkEnd}
 use Rattle.http_link.specs.declared.end.LinkEnd.TheVariants.{Ended, Closed, Budget, Refused, ReadFault, WriteFault, Memory}
 use Rattle.user_table.specs.Rows.{Row}
 use Rattle.user_table.specs.Users.{table_of}
-use Rattle.osm_serve.specs.Words.{Reading}
+use Rattle.osm_words.specs.Words.{Reading, pipe, measure, export, replay}
 use Rattle.osm_serve.specs.Serve.{ServesPipe}
 use Rattle.osm_serve.specs.Users.{IsTextOf, IsRefused}
 
@@ -33,12 +33,12 @@ pub record ServesFrom (users : List Row) (at : Option ℕ) (before after : Told)
   pub status_is : status ≡ status_of end
 
 -- The users text was read and accepted, and the link served.
-pub record Serves (reading : Reading) (host : HostTold) (before after : Told) (status : ℕ) : Type 0 where
+pub record Serves (at : Option ℕ) (host : HostTold) (before after : Told) (status : ℕ) : Type 0 where
   pub text : List ℕ
   pub told : IsTextOf host text
   pub users : List Row
   pub table : table_of text ≡ Ok users
-  pub serves : ServesFrom users reading.at before after status
+  pub serves : ServesFrom users at before after status
 
 -- The users text was read and refused, and the link left alone.
 pub record RefusesUsers (host : HostTold) (before after : Told) (status : ℕ) : Type 0 where
@@ -59,16 +59,30 @@ pub record LacksRoom (before after : Told) (status : ℕ) : Type 0 where
   pub unserved : after ≡ before
   pub status_is : status ≡ 5
 
--- what `pipe` comes to
-pub record RunsPipe (reading : Reading) (host host' : HostTold) (before after : Told) (status : ℕ) : Type 0 where
+-- what `pipe` comes to, with the clock fixed at that moment where one is given
+pub record RunsPipe (at : Option ℕ) (host host' : HostTold) (before after : Told) (status : ℕ) : Type 0 where
   pub keeps : OnlyFaults host host'
   pub comes_to :
-      Serves reading host before after status
+      Serves at host before after status
       ⊎ RefusesUsers host before after status
       ⊎ LacksUsers host host' before after status
       ⊎ LacksRoom before after status
 
--- words without a reading are status 1, and nothing is read or written
+-- The host and the link were left alone, and the program ended with that status.
+pub record IsUnserved (wanted : ℕ) (host host' : HostTold) (before after : Told) (status : ℕ) : Type 0 where
+  pub host_stays : host' ≡ host
+  pub link_stays : after ≡ before
+  pub status_is : status ≡ wanted
+
+-- what words come to: those without a reading are status 1, and so are those of a command that isn't built yet
+abbrev pub ComesTo : Option Reading → HostTold → HostTold → Told → Told → ℕ → Type 0
+ComesTo None = IsUnserved 1
+ComesTo (Some (pipe users at)) = RunsPipe at
+ComesTo (Some (measure load)) = IsUnserved 1
+ComesTo (Some (export load)) = IsUnserved 1
+ComesTo (Some replay) = IsUnserved 1
+
+-- the same, or there was no memory for reading the words
 abbrev pub Runs : Option Reading → HostTold → HostTold → Told → Told → ℕ → Type 0
-Runs None host host' before after status = (status ≡ 1) × (host' ≡ host) × (after ≡ before)
-Runs (Some reading) host host' before after status = RunsPipe reading host host' before after status
+Runs reading host host' before after status =
+    ComesTo reading host host' before after status ⊎ IsUnserved 5 host host' before after status

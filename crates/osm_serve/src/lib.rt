@@ -4,7 +4,5 @@
 mod serve;
 mod top;
 mod users;
-mod words;
 
 pub use top::run;
-pub use words::{Pipe, read_words};

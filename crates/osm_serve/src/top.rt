@@ -1,14 +1,13 @@
 //! The top call.
 ghost use Rattle.std.specs.Prelude.{◌≡◌, map, string_bytes};
-ghost use Rattle.osm_serve.specs.Words.{reading_of};
-ghost use Rattle.osm_serve.specs.Shown.{shown};
+ghost use Rattle.osm_words.specs.Words.{reading_of};
 ghost use Rattle.osm_serve.specs.Run.{Runs, RunsPipe, ServesFrom, IsStarted, status_of};
 
 use crate::serve::serve_pipe;
 use crate::users::{NoUsers, read_users};
-use crate::words::{Pipe, read_words};
 use http_link::LinkEnd;
 use osm_outside::{Clock, Host, Link, Outside};
+use osm_words::{Words, WordsFault, read_words};
 use std::alloc::Global;
 use user_table::UserTable;
 
@@ -42,12 +41,18 @@ fn serve<L: Link>(alloc: Global, users: &UserTable, at: Option<u64>, standard: &
     status_of(serve_pipe(alloc, users, standard))
 }
 
-fn run_pipe<H: Host, L: Link>(alloc: Global, pipe: &Pipe<'_>, host: &mut H, standard: &mut L) -> u8
-    ensures { RunsPipe (shown pipe.now) (H.told host.old) (H.told host.new)
+fn run_pipe<H: Host, L: Link>(
+    alloc: Global,
+    users: &str,
+    at: Option<u64>,
+    host: &mut H,
+    standard: &mut L,
+) -> u8
+    ensures { RunsPipe at (H.told host.old) (H.told host.new)
         (L.told standard.old) (L.told standard.new) result }
 {
-    match read_users(alloc, pipe.users, host) {
-        Ok(users) => serve(alloc, &users, pipe.at, standard),
+    match read_users(alloc, users, host) {
+        Ok(users) => serve(alloc, &users, at, standard),
         Err(NoUsers::Failed) => 3,
         Err(NoUsers::Refused) => 2,
         Err(NoUsers::Memory) => 5,
@@ -62,8 +67,11 @@ pub fn run<H: Host, L: Link>(alloc: Global, words: &[String], host: &mut H, stan
     ensures { Runs (reading_of (map string_bytes words.now)) (H.told host.old) (H.told host.new)
         (L.told standard.old) (L.told standard.new) result }
 {
-    match read_words(words) {
-        Some(pipe) => run_pipe(alloc, &pipe, host, standard),
-        None => 1,
+    match read_words(alloc, words) {
+        Ok(Words::Pipe { users, at }) => run_pipe(alloc, users, at, host, standard),
+        // Not built yet, so these have no reading here.
+        Ok(Words::Measure(_) | Words::Export(_) | Words::Replay) => 1,
+        Err(WordsFault::NoReading) => 1,
+        Err(WordsFault::Memory) => 5,
     }
 }

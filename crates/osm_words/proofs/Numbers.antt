@@ -6,7 +6,7 @@ use Rattle.std.specs.Result.{OkIff}
 use Rattle.std.proofs.lemmas.Bool.{and_parts, cases_Bool, ltb-true, lt-ltb}
 use Rattle.std.proofs.lemmas.Str.Parse.{parse_digits}
 use Rattle.osm_base.proofs.NumberLemmas.{digits_model}
-use Rattle.osm_serve.specs.Words.{is_digits, seconds_of}
+use Rattle.osm_words.specs.Values.{is_digits, number_of}
 
 chosen : (digits fits : Bool) (n : ℕ) → digits ≡ true → fits ≡ true → Some n ≡ (if digits && fits then Some n else None)
 chosen digits fits n d f = sym (ap (λ (a : Bool). if a && fits then Some n else None) d ∙ ap (λ (b : Bool). if true && b then Some n else None) f)
@@ -19,15 +19,15 @@ parsed : (E : Type 0) (text : List ℕ) (r : Result ℕ E) → ParsesUnsigned 64
 parsed E text r gives digits = parse_digits digits_model 64 text r gives (and_parts _ _ digits).1
 
 -- the number, where it is read
-pub seconds_read : (E : Type 0) (text : List ℕ) (n : ℕ) → ParsesUnsigned {E = E} 64 10 text (Ok n) → is_digits text ≡ true → Some n ≡ seconds_of text
-seconds_read E text n gives digits =
+pub number_read : (E : Type 0) (text : List ℕ) (n : ℕ) → ParsesUnsigned {E = E} 64 10 text (Ok n) → is_digits text ≡ true → Some n ≡ number_of text
+number_read E text n gives digits =
     let read : ((0 < length text) × (digits_value 10 text < 2 ^ 64)) × (n ≡ digits_value 10 text) = parsed E text (Ok n) gives digits in
     ap (λ (k : ℕ). Some k) read.1
     ∙ chosen (is_digits text) (nat_lt (digits_value 10 text) (2 ^ 64)) (digits_value 10 text) digits (lt-ltb (digits_value 10 text) (2 ^ 64) read.0.1)
 
 -- no number, where it doesn't fit
-pub seconds_unread : (E : Type 0) (text : List ℕ) (e : E) → ParsesUnsigned {E = E} 64 10 text (Err e) → is_digits text ≡ true → None ≡ seconds_of text
-seconds_unread E text e gives digits =
+pub number_unread : (E : Type 0) (text : List ℕ) (e : E) → ParsesUnsigned {E = E} 64 10 text (Err e) → is_digits text ≡ true → None ≡ number_of text
+number_unread E text e gives digits =
     let unread : ¬ ((0 < length text) × (digits_value 10 text < 2 ^ 64)) = parsed E text (Err e) gives digits in
     let some : 0 < length text = ltb-true 0 (length text) (and_parts _ _ digits).0 in
     ⊎_elim

@@ -1,0 +1,96 @@
+-- How the words of the command line are read.
+use Rattle.std.specs.Prelude.{◌≡◌, ⊤, ℕ, Bool, List, [], ◌∷◌, codes, Option, Some, None, Result, Ok, Err, if◌then◌else◌}
+use Rattle.std.specs.Option.{option_map, option_and_then}
+use Rattle.std.specs.List.{list_any}
+use Rattle.std.specs.Str.{bytes_eq}
+use Rattle.clap.specs.Words.{Row, Text, first_of}
+use Rattle.osm_base.specs.declared.limits.TheConstants.{SESSION_LIMIT}
+use Rattle.osm_words.specs.declared.words.TheConstants.{UPLOAD_LIMIT}
+use Rattle.osm_words.specs.declared.words.Load.{Load}
+use Rattle.osm_words.specs.declared.words.Words.{Words}
+use Rattle.osm_words.specs.declared.words.Words.TheVariants.{Pipe, Measure, Export, Replay}
+use Rattle.osm_words.specs.declared.words.WordsFault.{WordsFault}
+use Rattle.osm_words.specs.declared.words.WordsFault.TheVariants.{NoReading, Memory}
+use Rattle.osm_words.specs.Values.{path_of, number_of, number_in, fitting}
+use Rattle.osm_words.specs.Commands.{pipe_app, load_app, plain, found}
+
+-- a command of the program, with its options
+pub data Reading : Type 0 where
+  -- the path of the users text, and the moment at which the clock is fixed
+  pipe : Text → Option ℕ → Reading
+  measure : Load → Reading
+  export : Load → Reading
+  replay : Reading
+
+-- what was read, without where it lies in memory
+abbrev pub shown : Words → Reading
+shown (Pipe users at) = pipe users.now at
+shown (Measure load) = measure load
+shown (Export load) = export load
+shown Replay = replay
+
+-- ---- the options in what `clap` found
+
+-- the moment may be missing, and has to be a number where it isn't
+abbrev pub pipe_at : Text → Option Text → Option Reading
+pipe_at users None = Some (pipe users None)
+pipe_at users (Some text) = option_map (λ at. pipe users (Some at)) (number_of text)
+
+abbrev pub pipe_of : List Row → Option Reading
+pipe_of rows =
+    option_and_then (λ users. pipe_at users (first_of (codes "at") rows))
+    (option_and_then path_of (first_of (codes "users") rows))
+
+abbrev pub load_of : List Row → Option Load
+load_of rows =
+    option_and_then (λ seed. option_and_then (λ sessions. option_and_then (λ uploads. fitting seed sessions uploads)
+    (option_and_then (number_in 0 UPLOAD_LIMIT) (first_of (codes "uploads") rows)))
+    (option_and_then (number_in 1 SESSION_LIMIT) (first_of (codes "sessions") rows)))
+    (option_and_then number_of (first_of (codes "seed") rows))
+
+-- ---- the words
+
+-- of a command's name with its options
+abbrev pub pipe_reading : List Text → Option Reading
+pipe_reading words = option_and_then pipe_of (found pipe_app words)
+
+abbrev pub load_reading : Text → List Text → Option Load
+load_reading name words = option_and_then load_of (found (load_app name) words)
+
+abbrev pub replay_reading : List Text → Option Reading
+replay_reading words = option_map (λ _. replay) (found (plain (codes "replay")) words)
+
+-- of the command of that name
+abbrev pub command_reading : Text → List Text → Option Reading
+command_reading name words =
+    if bytes_eq name (codes "pipe") then pipe_reading words
+    else (if bytes_eq name (codes "measure") then option_map measure (load_reading (codes "measure") words)
+    else (if bytes_eq name (codes "export") then option_map export (load_reading (codes "export") words)
+    else (if bytes_eq name (codes "replay") then replay_reading words
+    else None)))
+
+-- behind the program's name
+abbrev pub named_reading : List Text → Option Reading
+named_reading (program ∷ name ∷ options) = command_reading name (name ∷ options)
+named_reading _ = None
+
+-- `--` stands among the words
+abbrev pub has_end_mark : List Text → Bool
+has_end_mark words = list_any (λ word. bytes_eq word (codes "--")) words
+
+-- the reading of the words, the program's name first
+abbrev pub reading_of : List Text → Option Reading
+reading_of words = if has_end_mark words then None else named_reading words
+
+-- ---- what reading answers
+
+-- the reading, and no reading only where there is none; want of memory is told apart, and may come at any time
+abbrev pub Gives : Option Reading → Result Words WordsFault → Type 0
+Gives expected (Ok words) = expected ≡ Some (shown words)
+Gives expected (Err NoReading) = expected ≡ None
+Gives expected (Err Memory) = ⊤
+
+abbrev pub GivesLoad : Option Load → Result Load WordsFault → Type 0
+GivesLoad expected (Ok load) = expected ≡ Some load
+GivesLoad expected (Err NoReading) = expected ≡ None
+GivesLoad expected (Err Memory) = ⊤

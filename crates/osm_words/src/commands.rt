@@ -1,0 +1,67 @@
+//! What `clap` is told of each command, and what it finds in words.
+ghost use Rattle.std.specs.Prelude.{◌≡◌, IfOk, map, string_bytes, true, false};
+ghost use Rattle.clap.specs.Words.{app_of, rule_of, is_simple_and_free, kind_of};
+ghost use Rattle.osm_words.specs.Commands.{option, plain, pipe_app, load_app, found};
+ghost use Rattle.osm_words.specs.Found.{Finds, Tells};
+
+use crate::words::WordsFault;
+use clap::error::ErrorKind;
+use clap::{Arg, ArgMatches, Command, Error};
+use std::alloc::{AllocError, Global};
+
+/// An option with one value, which may be given once.
+fn option<'a>(alloc: Global, name: &'a str, is_needed: bool) -> Arg<'a>
+    ensures rule { rule_of result ≡ option name.entry.now is_needed }
+    ensures local { result.global ≡ false }
+{
+    Arg::new(alloc, name).long(name).required(is_needed)
+}
+
+/// A command without options. The flags for help and version that `clap` would add have no reading.
+pub fn plain<'a>(alloc: Global, name: &'a str) -> Command<'a>
+    ensures { app_of result ≡ plain name.entry.now }
+{
+    Command::new(alloc, name)
+        .disable_help_flag(true)
+        .disable_version_flag(true)
+}
+
+/// `pipe --users FILE [--at SECONDS]`.
+pub fn pipe<'a>(alloc: Global) -> Result<Command<'a>, AllocError>
+    ensures { IfOk result (λ command. app_of command ≡ pipe_app) }
+{
+    plain(alloc, "pipe")
+        .arg(option(alloc, "users", true))?
+        .arg(option(alloc, "at", false))
+}
+
+/// `NAME --seed N --sessions N --uploads N`.
+pub fn load<'a>(alloc: Global, name: &'a str) -> Result<Command<'a>, AllocError>
+    ensures { IfOk result (λ command. app_of command ≡ load_app name.entry.now) }
+{
+    plain(alloc, name)
+        .arg(option(alloc, "seed", true))?
+        .arg(option(alloc, "sessions", true))?
+        .arg(option(alloc, "uploads", true))
+}
+
+/// Words that are refused have no reading, but for want of memory.
+fn fault_of(error: &Error) -> WordsFault
+    ensures { Tells (kind_of error.now) result }
+{
+    match error.kind() {
+        ErrorKind::OutOfMemory => WordsFault::Memory,
+        _ => WordsFault::NoReading,
+    }
+}
+
+/// What the command finds in the words, of which the first is its name.
+pub fn find<'a>(command: Command<'a>, words: &'a [String]) -> Result<ArgMatches<'a>, WordsFault>
+    requires { is_simple_and_free (app_of command) ≡ true }
+    ensures { Finds (found (app_of command.entry) (map string_bytes words.entry.now)) result }
+{
+    match command.try_get_matches_from(words) {
+        Ok(matches) => Ok(matches),
+        Err(error) => Err(fault_of(&error)),
+    }
+}

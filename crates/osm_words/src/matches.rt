@@ -1,0 +1,58 @@
+//! The options in what `clap` found.
+ghost use Rattle.std.specs.Prelude.{◌≡◌, option_map, option_and_then, codes};
+ghost use Rattle.clap.specs.Words.{first_of, found_of, rows_of};
+ghost use Rattle.osm_words.specs.Values.{path_of, number_of, number_in};
+ghost use Rattle.osm_words.specs.Words.{shown, pipe_of, load_of};
+
+use crate::values::{checked, fitting, is_path, number_of};
+use crate::words::{Load, UPLOAD_LIMIT, Words};
+use clap::ArgMatches;
+use osm_base::SESSION_LIMIT;
+
+fn value_of<'a>(matches: &ArgMatches<'a>, name: &str) -> Option<&'a str>
+    ensures { option_map (λ text. text.now) result ≡ first_of name.now (rows_of (found_of matches.now)) }
+{
+    matches.get_str(name)
+}
+
+fn number_at(matches: &ArgMatches<'_>, name: &str) -> Option<u64>
+    ensures { result ≡ option_and_then number_of (first_of name.now (rows_of (found_of matches.now))) }
+{
+    number_of(value_of(matches, name)?)
+}
+
+fn number_in(matches: &ArgMatches<'_>, name: &str, least: u32, most: u32) -> Option<u32>
+    ensures { result ≡ option_and_then (number_in least most) (first_of name.now (rows_of (found_of matches.now))) }
+{
+    checked(number_at(matches, name)?, least, most)
+}
+
+fn path_of<'a>(matches: &ArgMatches<'a>) -> Option<&'a str>
+    ensures { option_map (λ text. text.now) result
+        ≡ option_and_then path_of (first_of (codes "users") (rows_of (found_of matches.now))) }
+{
+    let text = value_of(matches, "users")?;
+    if is_path(text) { Some(text) } else { None }
+}
+
+/// What `pipe` is to do.
+pub fn pipe_of<'a>(matches: &ArgMatches<'a>) -> Option<Words<'a>>
+    ensures { option_map shown result ≡ pipe_of (rows_of (found_of matches.now)) }
+{
+    let users = path_of(matches)?;
+    let at = match value_of(matches, "at") {
+        Some(text) => Some(number_of(text)?),
+        None => None,
+    };
+    Some(Words::Pipe { users, at })
+}
+
+/// The load that is asked for.
+pub fn load_of(matches: &ArgMatches<'_>) -> Option<Load>
+    ensures { result ≡ load_of (rows_of (found_of matches.now)) }
+{
+    let seed = number_at(matches, "seed")?;
+    let sessions = number_in(matches, "sessions", 1, SESSION_LIMIT)?;
+    let uploads = number_in(matches, "uploads", 0, UPLOAD_LIMIT)?;
+    fitting(seed, sessions, uploads)
+}

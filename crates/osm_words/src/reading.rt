@@ -1,0 +1,71 @@
+//! Reading the words.
+ghost use Rattle.std.specs.Prelude.{◌≡◌, map, string_bytes};
+ghost use Rattle.osm_words.specs.Words.{Gives, GivesLoad, reading_of, command_reading, pipe_reading, load_reading, replay_reading, has_end_mark};
+
+use crate::commands::{find, load, pipe, plain};
+use crate::matches::{load_of, pipe_of};
+use crate::words::{Load, Words, WordsFault};
+use std::alloc::Global;
+
+fn read_pipe<'a>(alloc: Global, words: &'a [String]) -> Result<Words<'a>, WordsFault>
+    ensures { Gives (pipe_reading (map string_bytes words.entry.now)) result }
+{
+    let matches = find(pipe(alloc)?, words)?;
+    pipe_of(&matches).ok_or(WordsFault::NoReading)
+}
+
+fn read_load<'a>(alloc: Global, name: &'a str, words: &'a [String]) -> Result<Load, WordsFault>
+    ensures { GivesLoad (load_reading name.entry.now (map string_bytes words.entry.now)) result }
+{
+    let matches = find(load(alloc, name)?, words)?;
+    load_of(&matches).ok_or(WordsFault::NoReading)
+}
+
+fn read_replay<'a>(alloc: Global, words: &'a [String]) -> Result<Words<'a>, WordsFault>
+    ensures { Gives (replay_reading (map string_bytes words.entry.now)) result }
+{
+    let _matches = find(plain(alloc, "replay"), words)?;
+    Ok(Words::Replay)
+}
+
+/// The words from the command's name on.
+fn read_command<'a>(alloc: Global, name: &str, words: &'a [String]) -> Result<Words<'a>, WordsFault>
+    ensures { Gives (command_reading name.now (map string_bytes words.entry.now)) result }
+{
+    if name == "pipe" {
+        read_pipe(alloc, words)
+    } else if name == "measure" {
+        Ok(Words::Measure(read_load(alloc, "measure", words)?))
+    } else if name == "export" {
+        Ok(Words::Export(read_load(alloc, "export", words)?))
+    } else if name == "replay" {
+        read_replay(alloc, words)
+    } else {
+        Err(WordsFault::NoReading)
+    }
+}
+
+/// Whether `--` stands among the words.
+fn has_end_mark(words: &[String]) -> bool
+    ensures { result ≡ has_end_mark (map string_bytes words.now) }
+{
+    words.iter().any(|word| word.as_str() == "--")
+}
+
+/// Reads the words of the command line: the program's name, a command's name, and the command's
+/// options as `--name VALUE` or `--name=VALUE`, in any order and each at most once.
+///
+/// `pipe` needs `users`, a path, and may have `at`. `measure` and `export` need `seed`, `sessions`
+/// from 1 to 64, and `uploads`, at most 909 for each session. `replay` has no options. Numbers are
+/// digits alone, below 2^64. All other words have no reading.
+pub fn read_words<'a>(alloc: Global, words: &'a [String]) -> Result<Words<'a>, WordsFault>
+    ensures { Gives (reading_of (map string_bytes words.entry.now)) result }
+{
+    if has_end_mark(words) {
+        return Err(WordsFault::NoReading);
+    }
+    match words {
+        [_, name, ..] => read_command(alloc, name.as_str(), &words[1..]),
+        _ => Err(WordsFault::NoReading),
+    }
+}

@@ -1,0 +1,58 @@
+//! What the words of the command line ask for.
+use osm_base::SESSION_LIMIT;
+use std::alloc::AllocError;
+
+/// The most uploads of a generated load for each of its sessions. An upload has eleven changes, so
+/// no changeset of a load is filled.
+pub const UPLOADS_A_SESSION: u32 = 909;
+
+/// The most uploads of a generated load.
+pub const UPLOAD_LIMIT: u32 = 58_176;
+
+// A limit that is changed by mistake is refused here.
+const _: () = prove!(UPLOADS_A_SESSION == 909);
+
+const _: () = prove!(UPLOAD_LIMIT == SESSION_LIMIT * UPLOADS_A_SESSION);
+
+/// A generated load: what its positions begin with, how many sessions send it, and how many uploads
+/// they send in all, at most `UPLOADS_A_SESSION` for each session.
+#[derive(Clone, Copy, Debug, PartialEq, Eq)]
+pub struct Load {
+    pub seed: u64,
+    pub sessions: u32,
+    pub uploads: u32,
+}
+
+/// A command of the program, with its options.
+#[derive(Clone, Copy, Debug)]
+pub enum Words<'a> {
+    /// To serve the standard link, with the users of the text at that path, and with the clock fixed
+    /// at that moment where one is given, in seconds since 1970.
+    Pipe { users: &'a str, at: Option<u64> },
+    /// To send a load and tell what came of it.
+    Measure(Load),
+    /// To send a load and write the journal's text.
+    Export(Load),
+    /// To read a journal's text and tell of its map.
+    Replay,
+}
+
+/// Why words give no command.
+#[derive(Clone, Copy, Debug, PartialEq, Eq)]
+pub enum WordsFault {
+    /// The words have no reading.
+    NoReading,
+    /// Memory ran out.
+    Memory,
+}
+
+impl From<AllocError> for WordsFault {
+    ghost use Rattle.std.specs.Prelude.{◌≡◌};
+    ghost use Rattle.osm_words.specs.declared.words.WordsFault.{WordsFault};
+
+    ghost from_gives = { λ _ fault. fault ≡ WordsFault.Memory };
+
+    fn from(_: AllocError) -> WordsFault {
+        WordsFault::Memory
+    }
+}
