@@ -70,7 +70,9 @@ pub fn run<H: Host, L: Link>(alloc: Global, words: &[String], host: &mut H, stan
     match read_words(alloc, words) {
         Ok(Words::Pipe { users, at }) => run_pipe(alloc, users, at, host, standard),
         // Not built yet, so these have no reading here.
-        Ok(Words::Measure(_) | Words::Export(_) | Words::Replay) => 1,
+        Ok(Words::Measure(_)) => 1,
+        Ok(Words::Export(_)) => 1,
+        Ok(Words::Replay) => 1,
         Err(WordsFault::NoReading) => 1,
         Err(WordsFault::Memory) => 5,
     }
