@@ -1,4 +1,4 @@
--- The requests of a load, as the bytes that a client sends (RFC 9112, section 3).
+-- The requests of a load, as the bytes of HTTP/1.1 messages (RFC 9112, section 2.1). The server asks for no Host field, so none is sent.
 use Rattle.std.specs.Prelude.{ℕ, zero, suc, ◌+◌, ◌%◌, List, [], ◌∷◌, ◌++◌, length, map, codes, decimal}
 use Rattle.std.specs.List.{range_with_len}
 use Rattle.workload.specs.declared.sent.Sent.{Sent}
