@@ -1,0 +1,5 @@
+mod Counts
+mod Columns
+mod Between
+mod Found
+mod Touched

@@ -1,0 +1,4 @@
+pub mod Cell
+pub mod Tile
+pub mod Grid
+pub mod Told
