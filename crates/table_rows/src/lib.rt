@@ -1,5 +1,5 @@
 //! Rows for the tables of the server: users by their tokens, placeholders, the users of an element,
-//! changesets and redactions. It calls public functions alone.
+//! nodes by cell, changesets and redactions. It calls public functions alone.
 #![tactic(auto)]
 
 #[cfg(test)]
@@ -12,5 +12,7 @@ mod placeholders;
 mod redactions;
 #[cfg(test)]
 mod references;
+#[cfg(test)]
+mod tiles;
 #[cfg(test)]
 mod tokens;
