@@ -8,7 +8,7 @@ returns-in-Ok-Pipe g c =
     let is = rw c.in-Ok-Pipe.field-0-is at c.in-Ok-Pipe.ensures in
     subst
     (λ (r : Option Reading).
-        Runs r (g.H.Host.told c.args.host.now) (g.H.Host.told c.run_pipe.new.host) (g.L.Outside.told c.args.standard.now) (g.L.Outside.told c.run_pipe.new.standard) c.run_pipe.result)
+    Runs r (g.H.Host.told c.args.host.now) (g.H.Host.told c.run_pipe.new.host) (g.L.Outside.told c.args.standard.now) (g.L.Outside.told c.run_pipe.new.standard) c.run_pipe.result)
     (sym is)
     (inl c.run_pipe.ensures)
 
@@ -17,7 +17,7 @@ returns-in-Ok-Measure g c =
     let is = rw c.in-Ok-Measure.field-0-is at c.in-Ok-Measure.ensures in
     subst
     (λ (r : Option Reading).
-        Runs r (g.H.Host.told c.args.host.now) (g.H.Host.told c.args.host.now) (g.L.Outside.told c.args.standard.now) (g.L.Outside.told c.args.standard.now) 1)
+    Runs r (g.H.Host.told c.args.host.now) (g.H.Host.told c.args.host.now) (g.L.Outside.told c.args.standard.now) (g.L.Outside.told c.args.standard.now) 1)
     (sym is)
     (inl (record { host_stays = refl; link_stays = refl; status_is = refl }))
 
@@ -26,7 +26,7 @@ returns-in-Ok-Export g c =
     let is = rw c.in-Ok-Export.field-0-is at c.in-Ok-Export.ensures in
     subst
     (λ (r : Option Reading).
-        Runs r (g.H.Host.told c.args.host.now) (g.H.Host.told c.args.host.now) (g.L.Outside.told c.args.standard.now) (g.L.Outside.told c.args.standard.now) 1)
+    Runs r (g.H.Host.told c.args.host.now) (g.H.Host.told c.args.host.now) (g.L.Outside.told c.args.standard.now) (g.L.Outside.told c.args.standard.now) 1)
     (sym is)
     (inl (record { host_stays = refl; link_stays = refl; status_is = refl }))
 
@@ -35,7 +35,7 @@ returns-in-Ok-Replay g c =
     let is = rw c.in-Ok-Replay.field-0-is at c.in-Ok-Replay.ensures in
     subst
     (λ (r : Option Reading).
-        Runs r (g.H.Host.told c.args.host.now) (g.H.Host.told c.args.host.now) (g.L.Outside.told c.args.standard.now) (g.L.Outside.told c.args.standard.now) 1)
+    Runs r (g.H.Host.told c.args.host.now) (g.H.Host.told c.args.host.now) (g.L.Outside.told c.args.standard.now) (g.L.Outside.told c.args.standard.now) 1)
     (sym is)
     (inl (record { host_stays = refl; link_stays = refl; status_is = refl }))
 
@@ -44,6 +44,6 @@ returns-in-Err-NoReading g c =
     let is = rw c.in-Err-NoReading.field-0-is at c.in-Err-NoReading.ensures in
     subst
     (λ (r : Option Reading).
-        Runs r (g.H.Host.told c.args.host.now) (g.H.Host.told c.args.host.now) (g.L.Outside.told c.args.standard.now) (g.L.Outside.told c.args.standard.now) 1)
+    Runs r (g.H.Host.told c.args.host.now) (g.H.Host.told c.args.host.now) (g.L.Outside.told c.args.standard.now) (g.L.Outside.told c.args.standard.now) 1)
     (sym is)
     (inl (record { host_stays = refl; link_stays = refl; status_is = refl }))
