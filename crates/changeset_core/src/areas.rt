@@ -4,7 +4,7 @@ ghost use Rattle.changeset_core.specs.Changeset.{join_areas, widen};
 use osm_base::{Box7, Coord};
 
 /// The least box that holds this one, if there is one, and the position.
-pub(crate) fn widened(area: Option<Box7>, at: Coord) -> Option<Box7>
+pub fn widened(area: Option<Box7>, at: Coord) -> Option<Box7>
     ensures { result ≡ widen area at }
 {
     match area {

@@ -1,9 +1,9 @@
 ghost use Rattle.std.specs.Prelude.{◌≡◌, ◌+◌, ◌-◌, ◌<◌, ◌≤◌, ◌∷◌, [], ◌++◌, length, Some, None, true, is_ok, if◌then◌else◌};
 ghost use Rattle.osm_base.specs.declared.limits.TheConstants.{MOMENT_LIMIT};
-ghost use Rattle.changeset_core.specs.Changeset.{closes, first_record, is_open, retagged, ended_at, widen};
+ghost use Rattle.changeset_core.specs.Changeset.{closes, first_record, is_open, retagged, ended_at, widen, join_areas};
 ghost use Rattle.changeset_core.specs.Timely.{IsTimelyMoment, IsTimelyRecord};
 
-use crate::areas::widened;
+use crate::areas::{join_boxes, widened};
 use crate::lives::closes;
 use crate::records::Work;
 use osm_base::{Box7, Coord, Key, Memory, Owner, Roomy, Stamp};
@@ -166,6 +166,13 @@ impl Changeset {
         ensures { self.new ≡ record self.old { kept = record self.old.kept { touched = widen self.old.kept.touched at } } }
     {
         self.touched = widened(self.touched, at);
+    }
+
+    /// Takes a box into the box of what its changes touched.
+    pub fn join(&mut self, area: Option<Box7>)
+        ensures { self.new ≡ record self.old { kept = record self.old.kept { touched = join_areas self.old.kept.touched area } } }
+    {
+        self.touched = join_boxes(self.touched, area);
     }
 
     /// Notes activity at a stamp.

@@ -10,7 +10,7 @@ mod lives;
 mod records;
 mod touched;
 
-pub use areas::join_boxes;
+pub use areas::{join_boxes, widened};
 pub use changesets::Changeset;
 pub use law::{boxes_are_joined, ends_are_bounded, records_stay_timely};
 pub use records::{ChangesetRecord, Work};
