@@ -29,10 +29,10 @@ use Rattle.osm_model.proofs.Told.{stamp_timely}
 -- ---- one entry
 
 -- what an entry leaves
-record Leads (P Q : State) : Type 0 where
-  kept : Keeps P.elements Q.elements
-  timely : IsTimely P → IsTimely Q
-  attributed : IsAttributed P → IsAttributed Q
+pub record Leads (P Q : State) : Type 0 where
+  pub kept : Keeps P.elements Q.elements
+  pub timely : IsTimely P → IsTimely Q
+  pub attributed : IsAttributed P → IsAttributed Q
 
 leads-refl : (P : State) → Leads P P
 leads-refl P = record { kept = keeps-refl P.elements; timely = λ was. was; attributed = λ was. was }
@@ -65,7 +65,7 @@ leads-settled P t (Ok done) at each =
       attributed = λ was. let is = now.attributed was in record { versions = is.versions; changesets = is.changesets };
     }
 
-leads-after : (P : State) (e : Entry) → Leads P (after P e)
+pub leads-after : (P : State) (e : Entry) → Leads P (after P e)
 leads-after P e =
     let t : ℕ = stamp_after P.last e.stamp in
     leads-settled P t (judge P e.user t e.command) (λ was. stamp_timely P.last e.stamp was.last) (judge-advances P e.user t e.command)

@@ -16,7 +16,7 @@ ghost use Rattle.osm_model.specs.Answered.{map_at};
 ghost use Rattle.osm_model.specs.Ask.{ask};
 ghost use Rattle.osm_model.specs.Attributed.{IsAttributed};
 ghost use Rattle.osm_model.specs.Fold.{upload, made, all_pushed};
-ghost use Rattle.osm_model.specs.Journal.{IsLegal, Later, replay, takes, entry_of};
+ghost use Rattle.osm_model.specs.Journal.{IsLegal, Later, after, replay, takes, entry_of};
 ghost use Rattle.osm_model.specs.Timely.{IsTimely};
 
 /// At every point of a legal journal, visible ways and relations name only visible elements.
@@ -38,6 +38,13 @@ pub fn versions_are_attributed()
 /// Later entries take no id back, keep what versions hold, and leave consistent elements consistent.
 pub fn later_maps_keep()
     ensures { (earlier later : State) → Later earlier later → Keeps earlier.elements later.elements }
+{}
+
+/// What all maps have that entries make, a map keeps with one entry more, taken or not.
+pub fn entries_keep_maps()
+    ensures elements { (map : State) (entry : Entry) → Keeps map.elements (after map entry).elements }
+    ensures moments { (map : State) (entry : Entry) → IsTimely map → IsTimely (after map entry) }
+    ensures attributed { (map : State) (entry : Entry) → IsAttributed map → IsAttributed (after map entry) }
 {}
 
 /// What a map accepts at a moment makes an entry that this map takes, whatever session and call

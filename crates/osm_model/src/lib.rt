@@ -25,7 +25,8 @@ pub use faults::Fault;
 pub use fold::upload;
 pub use journals::{Journal, Judgement};
 pub use law::{
-    accepted_entries_are_taken, answers_have_moments, later_maps_keep, moments_are_bounded,
+    accepted_entries_are_taken, answers_have_moments, entries_keep_maps, later_maps_keep,
+    moments_are_bounded,
     points_are_consistent, uploads_push_what_they_made, versions_are_attributed,
 };
 pub use queries::Query;
