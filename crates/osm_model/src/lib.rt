@@ -26,8 +26,8 @@ pub use fold::upload;
 pub use journals::{Journal, Judgement};
 pub use law::{
     accepted_entries_are_taken, answers_have_moments, entries_keep_maps, later_maps_keep,
-    moments_are_bounded,
-    points_are_consistent, uploads_push_what_they_made, versions_are_attributed,
+    moments_are_bounded, points_are_consistent, uploads_push_what_they_made,
+    versions_are_attributed,
 };
 pub use queries::Query;
 pub use states::State;

@@ -1,0 +1,5 @@
+mod Indexing
+mod UseSteps
+mod Moved
+mod WidenBy
+mod Empty

@@ -1,0 +1,231 @@
+-- The uses of one element end and begin.
+use Rattle.std.proofs.Common.{◌≡◌, ℕ, ◌+◌, ◌<◌, ◌≤◌, Bool, true, false, cond, ◌&&◌, ◌||◌, ⊎_elim, List, [], ◌∷◌, length, take, get_or, refl, sym, ap, ◌∙◌, arith}
+use Rattle.std.specs.Prelude.{not, if◌then◌else◌}
+use Rattle.std.specs.List.{list_any}
+use Rattle.std.proofs.lemmas.Bool.{cases_Bool}
+use Rattle.std.proofs.lemmas.List.Folds.{list_any_more}
+use Rattle.std.proofs.lemmas.List.Sums.{count_by_more_yes, count_by_more_no, sum_by-take-le}
+use Rattle.osm_base.specs.Key.{key_eq, lists_key, insert_key, without_key}
+use Rattle.osm_base.specs.declared.keys.Key.{Key}
+use Rattle.osm_base.proofs.KeyOrder.{key_eq-same, key_eq-refl, key_eq-sym}
+use Rattle.osm_base.proofs.KeyLists.{lists-insert, lists-without}
+use Rattle.reverse_refs.specs.Users.{UserRows, users_in}
+use Rattle.indexed_map.specs.Indexed.{times_listed}
+
+-- -- uses end
+
+abbrev pub Ends : UserRows → UserRows → Key → Key → List Key → Type 0
+Ends old new user used listed = (a b : Key) → lists_key (users_in new b) a ≡ lists_key (users_in old b) a && not (key_eq used b && (key_eq user a && not (lists_key listed b)))
+
+and-true : (p : Bool) → p ≡ p && true
+and-true true = refl
+and-true false = refl
+
+-- one that was there, and isn't listed
+pub taken :
+    (old new : UserRows) (user used : Key) (listed : List Key)
+    → lists_key listed used ≡ false
+    → ((k : Key) → users_in new k ≡ (if key_eq k used then without_key (users_in old k) user else users_in old k))
+    → Ends old new user used listed
+taken old new user used listed gone took a b =
+    ap (λ (ks : List Key). lists_key ks a) (took b)
+    ∙ ⊎_elim
+    (λ t. let here : used ≡ b = sym (key_eq-same b used t) in
+    ap (λ (p : Bool). lists_key (if p then without_key (users_in old b) user else users_in old b) a) t
+    ∙ lists-without (users_in old b) user a
+    ∙ ap (λ (p : Bool). lists_key (users_in old b) a && not p) (key_eq-sym a user)
+    ∙ ap (λ (p : Bool). lists_key (users_in old b) a && not p) (and-true (key_eq user a))
+    ∙ ap (λ (p : Bool). lists_key (users_in old b) a && not (key_eq user a && not p)) (sym (ap (lists_key listed) (sym here) ∙ gone))
+    ∙ ap (λ (p : Bool). lists_key (users_in old b) a && not (p && (key_eq user a && not (lists_key listed b)))) (sym (key_eq-sym used b ∙ t)))
+    (λ f. ap (λ (p : Bool). lists_key (if p then without_key (users_in old b) user else users_in old b) a) f
+    ∙ and-true (lists_key (users_in old b) a)
+    ∙ ap (λ (p : Bool). lists_key (users_in old b) a && not (p && (key_eq user a && not (lists_key listed b)))) (sym (key_eq-sym used b ∙ f)))
+    (cases_Bool (key_eq b used))
+
+-- one that is listed still
+pub still_listed : (old : UserRows) (user used : Key) (listed : List Key) → lists_key listed used ≡ true → Ends old old user used listed
+still_listed old user used listed there a b =
+    ⊎_elim
+    (λ t. let here : used ≡ b = key_eq-same used b t in
+    sym (ap (λ (p : Bool). lists_key (users_in old b) a && not (key_eq used b && (key_eq user a && not p))) (ap (lists_key listed) (sym here) ∙ there)
+    ∙ none (lists_key (users_in old b) a) (key_eq used b) (key_eq user a)))
+    (λ f. and-true (lists_key (users_in old b) a)
+    ∙ ap (λ (p : Bool). lists_key (users_in old b) a && not (p && (key_eq user a && not (lists_key listed b)))) (sym f))
+    (cases_Bool (key_eq used b))
+  where
+    none : (o p q : Bool) → (o && not (p && (q && false))) ≡ o
+    none true true true = refl
+    none true true false = refl
+    none true false q = refl
+    none false p q = refl
+
+-- one that wasn't there
+pub not_there : (old : UserRows) (user used : Key) (listed : List Key) → lists_key (users_in old used) user ≡ false → Ends old old user used listed
+not_there old user used listed absent a b =
+    ⊎_elim
+    (λ t. ⊎_elim
+    (λ u. let none : lists_key (users_in old b) a ≡ false
+    = ap (λ (k : Key). lists_key (users_in old k) a) (sym (key_eq-same used b t)) ∙ ap (lists_key (users_in old used)) (sym (key_eq-same user a u)) ∙ absent in
+    none ∙ sym (ap (λ (p : Bool). p && not (key_eq used b && (key_eq user a && not (lists_key listed b)))) none))
+    (λ v. and-true (lists_key (users_in old b) a)
+    ∙ ap (λ (p : Bool). lists_key (users_in old b) a && not p) (sym (no_user (key_eq used b) (lists_key listed b)))
+    ∙ ap (λ (p : Bool). lists_key (users_in old b) a && not (key_eq used b && (p && not (lists_key listed b)))) (sym v))
+    (cases_Bool (key_eq user a)))
+    (λ f. and-true (lists_key (users_in old b) a)
+    ∙ ap (λ (p : Bool). lists_key (users_in old b) a && not (p && (key_eq user a && not (lists_key listed b)))) (sym f))
+    (cases_Bool (key_eq used b))
+  where
+    no_user : (p q : Bool) → (p && (false && not q)) ≡ false
+    no_user true q = refl
+    no_user false q = refl
+
+-- one use more of a list
+pub ends_more : (n o p t x : Bool) (m : Bool) → n ≡ (m && not (t && x)) → m ≡ (o && not (p && x)) → n ≡ (o && not ((p || t) && x))
+ends_more n o p t x m next now = next ∙ ap (λ (y : Bool). y && not (t && x)) now ∙ both o p t x
+  where
+    both : (o p t x : Bool) → ((o && not (p && x)) && not (t && x)) ≡ o && not ((p || t) && x)
+    both false p t x = refl
+    both true true true true = refl
+    both true true true false = refl
+    both true true false true = refl
+    both true true false false = refl
+    both true false t x = refl
+
+pub ends_next :
+    {X : Type 0} (f : X → Key) (xs : List X) (i : ℕ) (d : X) (old now next : UserRows) (user : Key) (listed : List Key)
+    → i < length xs
+    → ((a b : Key) → lists_key (users_in now b) a ≡ lists_key (users_in old b) a && not (list_any (λ x. key_eq (f x) b) (take i xs) && (key_eq user a && not (lists_key listed b))))
+    → Ends now next user (f (get_or xs i d)) listed
+    → (a b : Key)
+    → lists_key (users_in next b) a ≡ lists_key (users_in old b) a && not (list_any (λ x. key_eq (f x) b) (take (i + 1) xs) && (key_eq user a && not (lists_key listed b)))
+ends_next {X = X} f xs i d old now next user listed within so_far ends a b =
+    ends_more (lists_key (users_in next b) a) (lists_key (users_in old b) a) (list_any (λ (x : X). key_eq (f x) b) (take i xs)) (key_eq (f (get_or xs i d)) b) (key_eq user a && not (lists_key listed b)) (lists_key (users_in now b) a)
+    (ends a b)
+    (so_far a b)
+    ∙ ap (λ (p : Bool). lists_key (users_in old b) a && not (p && (key_eq user a && not (lists_key listed b)))) (sym (list_any_more (λ (x : X). key_eq (f x) b) xs i d within))
+
+-- -- uses begin
+
+abbrev pub Begins : UserRows → UserRows → Key → Key → Type 0
+Begins old new user used = (a b : Key) → lists_key (users_in new b) a ≡ (key_eq used b && (key_eq user a && not (key_eq user b))) || lists_key (users_in old b) a
+
+pub added :
+    (old new : UserRows) (user used : Key)
+    → key_eq user used ≡ false
+    → ((k : Key) → users_in new k ≡ (if key_eq k used then insert_key (users_in old k) user else users_in old k))
+    → Begins old new user used
+added old new user used other put a b =
+    ap (λ (ks : List Key). lists_key ks a) (put b)
+    ∙ ⊎_elim
+    (λ t. let here : used ≡ b = sym (key_eq-same b used t) in
+    ap (λ (p : Bool). lists_key (if p then insert_key (users_in old b) user else users_in old b) a) t
+    ∙ lists-insert (users_in old b) user a
+    ∙ ap (λ (p : Bool). p || lists_key (users_in old b) a) (and-true (key_eq user a))
+    ∙ ap (λ (p : Bool). (key_eq user a && not p) || lists_key (users_in old b) a) (sym (ap (key_eq user) (sym here) ∙ other))
+    ∙ ap (λ (p : Bool). (p && (key_eq user a && not (key_eq user b))) || lists_key (users_in old b) a) (sym (key_eq-sym used b ∙ t)))
+    (λ f. ap (λ (p : Bool). lists_key (if p then insert_key (users_in old b) user else users_in old b) a) f
+    ∙ ap (λ (p : Bool). (p && (key_eq user a && not (key_eq user b))) || lists_key (users_in old b) a) (sym (key_eq-sym used b ∙ f)))
+    (cases_Bool (key_eq b used))
+
+-- it doesn't use itself
+pub itself : (old : UserRows) (user used : Key) → key_eq user used ≡ true → Begins old old user used
+itself old user used same a b =
+    ⊎_elim
+    (λ t. let here : used ≡ b = key_eq-same used b t in
+    sym (ap (λ (p : Bool). (key_eq used b && (key_eq user a && not p)) || lists_key (users_in old b) a) (ap (key_eq user) (sym here) ∙ same)
+    ∙ none (key_eq used b) (key_eq user a) (lists_key (users_in old b) a)))
+    (λ f. ap (λ (p : Bool). (p && (key_eq user a && not (key_eq user b))) || lists_key (users_in old b) a) (sym f))
+    (cases_Bool (key_eq used b))
+  where
+    none : (p q o : Bool) → ((p && (q && false)) || o) ≡ o
+    none true true o = refl
+    none true false o = refl
+    none false q o = refl
+
+-- it was a user already
+pub there_already : (old : UserRows) (user used : Key) → lists_key (users_in old used) user ≡ true → Begins old old user used
+there_already old user used there a b =
+    ⊎_elim
+    (λ t. ⊎_elim
+    (λ u. let listed : lists_key (users_in old b) a ≡ true
+    = ap (λ (k : Key). lists_key (users_in old k) a) (sym (key_eq-same used b t)) ∙ ap (lists_key (users_in old used)) (sym (key_eq-same user a u)) ∙ there in
+    listed ∙ sym (ap (λ (p : Bool). (key_eq used b && (key_eq user a && not (key_eq user b))) || p) listed ∙ or-true (key_eq used b && (key_eq user a && not (key_eq user b)))))
+    (λ v. sym (ap (λ (p : Bool). (key_eq used b && (p && not (key_eq user b))) || lists_key (users_in old b) a) v ∙ no_user (key_eq used b) (key_eq user b) (lists_key (users_in old b) a)))
+    (cases_Bool (key_eq user a)))
+    (λ f. ap (λ (p : Bool). (p && (key_eq user a && not (key_eq user b))) || lists_key (users_in old b) a) (sym f))
+    (cases_Bool (key_eq used b))
+  where
+    or-true : (p : Bool) → (p || true) ≡ true
+    or-true true = refl
+    or-true false = refl
+
+    no_user : (p q o : Bool) → ((p && (false && not q)) || o) ≡ o
+    no_user true q o = refl
+    no_user false q o = refl
+
+pub begins_next :
+    (listed : List Key) (i : ℕ) (d : Key) (old now next : UserRows) (user : Key)
+    → i < length listed
+    → ((a b : Key) → lists_key (users_in now b) a ≡ (lists_key (take i listed) b && (key_eq user a && not (key_eq user b))) || lists_key (users_in old b) a)
+    → Begins now next user (get_or listed i d)
+    → (a b : Key)
+    → lists_key (users_in next b) a ≡ (lists_key (take (i + 1) listed) b && (key_eq user a && not (key_eq user b))) || lists_key (users_in old b) a
+begins_next listed i d old now next user within so_far begins a b =
+    begins a b
+    ∙ ap (λ (p : Bool). (key_eq (get_or listed i d) b && (key_eq user a && not (key_eq user b))) || p) (so_far a b)
+    ∙ both (lists_key (users_in old b) a) (lists_key (take i listed) b) (key_eq (get_or listed i d) b) (key_eq user a && not (key_eq user b))
+    ∙ ap (λ (p : Bool). (p && (key_eq user a && not (key_eq user b))) || lists_key (users_in old b) a) (sym (list_any_more (λ (x : Key). key_eq x b) listed i d within))
+  where
+    both : (o p t y : Bool) → ((t && y) || ((p && y) || o)) ≡ ((p || t) && y) || o
+    both o true true true = refl
+    both o true true false = refl
+    both o true false y = refl
+    both o false t y = refl
+
+-- -- how often
+
+pub times_more : (ks : List Key) (i : ℕ) (d b : Key) → i < length ks → times_listed (take (i + 1) ks) b ≡ times_listed (take i ks) b + (if key_eq b (get_or ks i d) then 1 else 0)
+times_more ks i d b within =
+    ⊎_elim
+    (λ t. count_by_more_yes (λ (x : Key). key_eq b x) ks i d within t ∙ ap (λ (p : Bool). times_listed (take i ks) b + (if p then 1 else 0)) (sym t))
+    (λ f. let none : times_listed (take i ks) b ≡ times_listed (take i ks) b + 0 = omega arith in
+    count_by_more_no (λ (x : Key). key_eq b x) ks i d within f ∙ none ∙ ap (λ (p : Bool). times_listed (take i ks) b + (if p then 1 else 0)) (sym f))
+    (cases_Bool (key_eq b (get_or ks i d)))
+
+-- the keys before one of a list, and that one, are no more than all
+pub times_before : (ks : List Key) (i : ℕ) (d : Key) → i < length ks → times_listed (take i ks) (get_or ks i d) + 1 ≤ times_listed ks (get_or ks i d)
+times_before ks i d within =
+    let f : Key → Bool = λ x. key_eq (get_or ks i d) x in
+    omega (arith, count_by_more_yes f ks i d within (key_eq-refl (get_or ks i d)), sum_by-take-le (λ x. cond (f x) 1 0) ks (i + 1))
+
+-- -- promises taken back
+
+-- one more of a list: what is promised for whatever passes a test
+pub forgotten_any :
+    {X : Type 0} (f : X → Bool) (xs : List X) (i : ℕ) (d : X) (was now next : ℕ)
+    → i < length xs
+    → next ≡ (if f (get_or xs i d) then 0 else now)
+    → now ≡ (if list_any f (take i xs) then 0 else was)
+    → next ≡ (if list_any f (take (i + 1) xs) then 0 else was)
+forgotten_any f xs i d was now next within step so_far =
+    step
+    ∙ ap (λ (n : ℕ). if f (get_or xs i d) then 0 else n) so_far
+    ∙ both (f (get_or xs i d)) (list_any f (take i xs))
+    ∙ ap (λ (p : Bool). if p then 0 else was) (sym (list_any_more f xs i d within))
+  where
+    both : (p q : Bool) → (if p then 0 else if q then 0 else was) ≡ (if q || p then 0 else was)
+    both true true = refl
+    both true false = refl
+    both false true = refl
+    both false false = refl
+
+pub forgotten_more :
+    (ks : List Key) (i : ℕ) (d b : Key) (was now next : ℕ)
+    → i < length ks
+    → next ≡ (if key_eq b (get_or ks i d) then 0 else now)
+    → now ≡ (if lists_key (take i ks) b then 0 else was)
+    → next ≡ (if lists_key (take (i + 1) ks) b then 0 else was)
+forgotten_more ks i d b was now next within step so_far =
+    forgotten_any (λ (x : Key). key_eq x b) ks i d was now next within
+    (step ∙ ap (λ (p : Bool). if p then 0 else now) (key_eq-sym b (get_or ks i d)))
+    so_far

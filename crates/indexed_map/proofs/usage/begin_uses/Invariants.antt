@@ -1,0 +1,14 @@
+use Rattle.std.proofs.Common.{◌≡◌, ◌+◌, ◌≤◌, ◌&&◌, ◌||◌, take}
+use Rattle.std.specs.Prelude.{not}
+use Rattle.osm_base.specs.Key.{key_eq, lists_key}
+use Rattle.osm_base.specs.declared.keys.Key.{Key}
+use Rattle.reverse_refs.specs.Users.{users_in, free_in}
+use Rattle.indexed_map.specs.Indexed.{times_listed}
+use Rattle.indexed_map.proofs.usage.begin_uses.Given as goal
+
+abbrev pub invariant-loop-used : goal.invariant-loop-used
+invariant-loop-used l = record {
+  users : (a b : Key) → lists_key (users_in l.users b) a ≡ (lists_key (take l.used-index l.listed) b && (key_eq l.user a && not (key_eq l.user b))) || lists_key (users_in l.fn.users b) a;
+  room : (b : Key) → free_in l.fn.users b ≤ free_in l.users b + times_listed (take l.used-index l.listed) b;
+  no_more : (b : Key) → free_in l.users b ≤ free_in l.fn.users b;
+}

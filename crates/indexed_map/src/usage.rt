@@ -1,0 +1,106 @@
+ghost use Rattle.std.specs.Prelude.{◌≡◌, false, ◌+◌, ◌<◌, ◌≤◌, ◌&&◌, ◌||◌, not, if◌then◌else◌, option_copied};
+ghost use Rattle.std.specs.List.{list_any};
+ghost use Rattle.osm_base.specs.Key.{key_eq, lists_key, IsRising};
+ghost use Rattle.osm_base.specs.declared.keys.Key.{Key};
+ghost use Rattle.osm_element.specs.Elements.{key, key_of_member, refs, refs_of, content_of};
+ghost use Rattle.reverse_refs.specs.Users.{users_in, free_in};
+ghost use Rattle.indexed_map.specs.Indexed.{times_listed};
+
+use history_store::Store;
+use osm_base::{Key, Kind, is_listed};
+use osm_element::{Content, Member};
+use reverse_refs::{Pair, UserIndex};
+
+/// An element no longer uses another, unless that is still listed.
+fn end_use(users: &mut UserIndex, user: Key, used: Key, listed: &[Key])
+    requires { IsRising listed.now }
+    ensures users { (a b : Key) → lists_key (users_in users.new b) a ≡ lists_key (users_in users.old b) a && not (key_eq used b && (key_eq user a && not (lists_key listed.now b))) }
+    ensures room { (b : Key) → free_in users.new b ≡ free_in users.old b }
+{
+    if !is_listed(listed, used) && is_listed(users.users(used), user) {
+        users.take_out(Pair { user, used });
+    }
+}
+
+fn end_node_uses(users: &mut UserIndex, user: Key, nodes: &[u64], listed: &[Key])
+    requires { IsRising listed.now }
+    ensures users { (a b : Key) → lists_key (users_in users.new b) a ≡ lists_key (users_in users.old b) a && not (list_any (λ id. key_eq (key Kind.Node id) b) nodes.now && (key_eq user a && not (lists_key listed.now b))) }
+    ensures room { (b : Key) → free_in users.new b ≡ free_in users.old b }
+{
+    for id in nodes {
+        let used = Key {
+            kind: Kind::Node,
+            id: *id,
+        };
+        end_use(users, user, used, listed);
+    }
+}
+
+fn end_member_uses(users: &mut UserIndex, user: Key, members: &[Member<u64>], listed: &[Key])
+    requires { IsRising listed.now }
+    ensures users { (a b : Key) → lists_key (users_in users.new b) a ≡ lists_key (users_in users.old b) a && not (list_any (λ m. key_eq (key_of_member m) b) members.now && (key_eq user a && not (lists_key listed.now b))) }
+    ensures room { (b : Key) → free_in users.new b ≡ free_in users.old b }
+{
+    for member in members {
+        end_use(users, user, member.key(), listed);
+    }
+}
+
+/// An element no longer uses what its content lists, unless that is still listed.
+#[tactic(auto, using(osm_element::proofs::Listed::lists_node_mapped, osm_element::proofs::Listed::lists_member_mapped))]
+fn end_uses_in(users: &mut UserIndex, user: Key, content: &Content<u64>, listed: &[Key])
+    requires { IsRising listed.now }
+    ensures users { (a b : Key) → lists_key (users_in users.new b) a ≡ lists_key (users_in users.old b) a && not (lists_key (refs content.now) b && (key_eq user a && not (lists_key listed.now b))) }
+    ensures room { (b : Key) → free_in users.new b ≡ free_in users.old b }
+{
+    match content {
+        Content::Node(_) => {}
+        Content::Way(nodes) => end_node_uses(users, user, nodes.items(), listed),
+        Content::Relation(members) => end_member_uses(users, user, members.items(), listed),
+    }
+}
+
+/// An element no longer uses what it lists now, unless that is still listed.
+pub fn end_uses(store: &Store, users: &mut UserIndex, user: Key, listed: &[Key])
+    requires { IsRising listed.now }
+    ensures users { (a b : Key) → lists_key (users_in users.new b) a ≡ lists_key (users_in users.old b) a && not (lists_key (refs_of store.now.elements user) b && (key_eq user a && not (lists_key listed.now b))) }
+    ensures room { (b : Key) → free_in users.new b ≡ free_in users.old b }
+{
+    if let Some(content) = current_content(store, user) {
+        end_uses_in(users, user, content, listed);
+    }
+}
+
+/// What an element holds, where it is visible.
+pub fn current_content(store: &Store, key: Key) -> Option<&Content<u64>>
+    ensures { option_copied result ≡ content_of store.now.elements key }
+{
+    match store.current(key) {
+        Some(version) => version.content.as_ref(),
+        None => None,
+    }
+}
+
+/// An element uses another, which may be itself or used already.
+fn begin_use(users: &mut UserIndex, user: Key, used: Key)
+    requires { 0 < free_in users.old used }
+    ensures users { (a b : Key) → lists_key (users_in users.new b) a ≡ (key_eq used b && (key_eq user a && not (key_eq user b))) || lists_key (users_in users.old b) a }
+    ensures room { (b : Key) → free_in users.old b ≤ free_in users.new b + (if key_eq b used then 1 else 0) }
+    ensures no_more { (b : Key) → free_in users.new b ≤ free_in users.old b }
+{
+    if !user.is(used) && !is_listed(users.users(used), user) {
+        users.add(Pair { user, used });
+    }
+}
+
+/// An element uses what is listed, itself left out.
+pub fn begin_uses(users: &mut UserIndex, user: Key, listed: &[Key])
+    requires { (b : Key) → times_listed listed.now b ≤ free_in users.old b }
+    ensures users { (a b : Key) → lists_key (users_in users.new b) a ≡ (lists_key listed.now b && (key_eq user a && not (key_eq user b))) || lists_key (users_in users.old b) a }
+    ensures room { (b : Key) → free_in users.old b ≤ free_in users.new b + times_listed listed.now b }
+    ensures no_more { (b : Key) → free_in users.new b ≤ free_in users.old b }
+{
+    for used in listed {
+        begin_use(users, user, *used);
+    }
+}
