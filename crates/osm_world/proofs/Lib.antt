@@ -1,0 +1,9 @@
+mod Operations
+mod Going
+mod Midway
+mod Uploaded
+mod Judging
+mod Planned
+mod Moved
+mod Replaced
+mod Applied

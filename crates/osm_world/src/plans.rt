@@ -1,0 +1,254 @@
+ghost use Rattle.std.specs.Prelude.{◌≡◌, ◌+◌, ◌≤◌, [], if◌then◌else◌, length, map, IfOk, OnOk};
+ghost use Rattle.osm_base.specs.Key.{key_eq, lists_key, IsRising};
+ghost use Rattle.osm_base.specs.Place.{Position};
+ghost use Rattle.osm_base.specs.declared.keys.Key.{Key};
+ghost use Rattle.osm_element.specs.Elements.{key, refs};
+ghost use Rattle.osm_model.specs.Names.{id_of, with_ids};
+ghost use Rattle.history_store.specs.Store.{free};
+ghost use Rattle.reverse_refs.specs.Users.{free_in};
+ghost use Rattle.tile_grid.specs.Grid.{free_at};
+ghost use Rattle.indexed_map.specs.Indexed.{times_listed};
+ghost use Rattle.indexed_map.specs.Placed.{enters};
+ghost use Rattle.osm_world.specs.Beds.{first_ids, id_for, one_more, ids_after, place_in, place_of_op, HasPlaces, IsBedOf, IsLaidFor, AreBedsOf, made, begun, entered};
+
+use crate::beds::{Bed, Laid};
+use crate::uploads::id_of;
+use indexed_map::IndexedMap;
+use osm_base::{Coord, Items, Key, Kind, Memory, Roomy};
+use osm_change::{FirstIds, Name, Op, kind_of};
+use osm_element::{Content, Member};
+use rising_lists::keys_sorted_once;
+use std::alloc::{AllocError, Global};
+
+fn node_key(keys: &[Key], name: Name) -> Key
+    ensures { result ≡ key Kind.Node (id_of keys.now name) }
+{
+    Key {
+        kind: Kind::Node,
+        id: id_of(keys, name),
+    }
+}
+
+fn node_keys(alloc: Global, keys: &[Key], nodes: &[Name]) -> Result<Vec<Key>, AllocError>
+    ensures { IfOk result (λ made. made.items ≡ map (λ name. key Kind.Node (id_of keys.now name)) nodes.now) }
+{
+    nodes
+        .iter()
+        .map(|name| node_key(keys, *name))
+        .collect(alloc)
+}
+
+fn member_key(keys: &[Key], member: &Member<Name>) -> Key
+    ensures { result ≡ key member.now.kind (id_of keys.now member.now.name) }
+{
+    Key {
+        kind: member.kind,
+        id: id_of(keys, member.name),
+    }
+}
+
+fn member_keys(
+    alloc: Global,
+    keys: &[Key],
+    members: &[Member<Name>],
+) -> Result<Vec<Key>, AllocError>
+    ensures { IfOk result (λ made. made.items ≡ map (λ m. key m.kind (id_of keys.now m.name)) members.now) }
+{
+    members
+        .iter()
+        .map(|member| member_key(keys, member))
+        .collect(alloc)
+}
+
+#[tactic(auto, using(crate::proofs::Planned::nodes_named, crate::proofs::Planned::members_named))]
+fn keys_listed(alloc: Global, keys: &[Key], content: &Content<Name>) -> Result<Vec<Key>, Memory>
+    ensures { IfOk result (λ made. made.items ≡ refs (with_ids keys.now content.now)) }
+{
+    match content {
+        Content::Node(_) => Ok(Vec::new(alloc)),
+        Content::Way(nodes) => Ok(node_keys(alloc, keys, nodes.items())?),
+        Content::Relation(members) => Ok(member_keys(alloc, keys, members.items())?),
+    }
+}
+
+/// The elements that a content lists, in order, each once.
+fn listed_by(alloc: Global, keys: &[Key], content: &Content<Name>) -> Result<Items<Key>, Memory>
+    ensures rising { IfOk result (λ made. IsRising made) }
+    ensures same { IfOk result (λ made. (b : Key) → lists_key made b ≡ lists_key (refs (with_ids keys.now content.now)) b) }
+{
+    let listed = keys_listed(alloc, keys, content)?;
+    Ok(Items::of(keys_sorted_once(listed)))
+}
+
+type Places = (Roomy<u64>, Roomy<Member<u64>>);
+
+fn places_for(alloc: Global, content: &Content<Name>) -> Result<Places, Memory>
+    ensures { IfOk result (λ made. HasPlaces content.now made.0 made.1) }
+{
+    let mut ids = Roomy::none(alloc);
+    let mut named = Roomy::none(alloc);
+    match content {
+        Content::Node(_) => Ok((ids, named)),
+        Content::Way(nodes) => {
+            ids.promise(nodes.len())?;
+            Ok((ids, named))
+        }
+        Content::Relation(members) => {
+            named.promise(members.len())?;
+            Ok((ids, named))
+        }
+    }
+}
+
+fn lay_content(
+    alloc: Global,
+    keys: &[Key],
+    key: Key,
+    content: &Content<Name>,
+) -> Result<Bed, Memory>
+    ensures { IfOk result (λ bed. IsLaidFor keys.now key content.now bed) }
+{
+    let listed = listed_by(alloc, keys, content)?;
+    let (ids, members) = places_for(alloc, content)?;
+    Ok(Bed {
+        key,
+        listed,
+        ids,
+        members,
+    })
+}
+
+fn id_for(ids: FirstIds, kind: Kind) -> u64
+    ensures { result ≡ id_for ids kind }
+{
+    match kind {
+        Kind::Node => ids.node,
+        Kind::Way => ids.way,
+        Kind::Relation => ids.relation,
+    }
+}
+
+fn one_more(ids: FirstIds, kind: Kind) -> Result<FirstIds, Memory>
+    ensures { IfOk result (λ next. next ≡ one_more ids kind) }
+{
+    let Some(id) = id_for(ids, kind).checked_add(1) else {
+        return Err(Memory);
+    };
+    match kind {
+        Kind::Node => Ok(FirstIds { node: id, ..ids }),
+        Kind::Way => Ok(FirstIds { way: id, ..ids }),
+        Kind::Relation => Ok(FirstIds {
+            relation: id,
+            ..ids
+        }),
+    }
+}
+
+/// A create takes the next id of its kind.
+fn ids_after(ids: FirstIds, operation: &Op) -> Result<FirstIds, Memory>
+    ensures { IfOk result (λ next. next ≡ ids_after ids operation.now) }
+{
+    match operation {
+        Op::Create { content, .. } => one_more(ids, kind_of(content)),
+        _ => Ok(ids),
+    }
+}
+
+fn lay_one(alloc: Global, keys: &[Key], ids: FirstIds, operation: &Op) -> Result<Bed, Memory>
+    ensures { IfOk result (λ bed. IsBedOf keys.now ids operation.now bed) }
+{
+    match operation {
+        Op::Create { content, .. } => {
+            let kind = kind_of(content);
+            let key = Key {
+                kind,
+                id: id_for(ids, kind),
+            };
+            lay_content(alloc, keys, key, content)
+        }
+        Op::Modify { name, content, .. } => {
+            let key = Key {
+                kind: kind_of(content),
+                id: id_of(keys, *name),
+            };
+            lay_content(alloc, keys, key, content)
+        }
+        Op::Delete { kind, name, .. } => {
+            let key = Key {
+                kind: *kind,
+                id: id_of(keys, *name),
+            };
+            Ok(Bed::none(alloc, key))
+        }
+    }
+}
+
+fn first_ids(map: &IndexedMap) -> FirstIds
+    ensures { result ≡ first_ids map.now.elements }
+{
+    FirstIds {
+        node: map.next_id(Kind::Node),
+        way: map.next_id(Kind::Way),
+        relation: map.next_id(Kind::Relation),
+    }
+}
+
+/// Lays by what the operations of an upload need, and promises room for them.
+pub fn lay_all(alloc: Global, map: &mut IndexedMap, operations: &[Op]) -> Result<Laid, Memory>
+    ensures same { map.new.elements ≡ map.old.elements }
+    ensures beds { IfOk result (λ laid. AreBedsOf [] (first_ids map.new.elements) operations.now laid.beds) }
+    ensures unused { IfOk result (λ laid. laid.keys.items ≡ []) }
+    ensures keys { IfOk result (λ laid. length operations.now ≤ laid.keys.free) }
+    ensures versions { IfOk result (λ laid. (k : Key) → made laid.beds k ≤ free map.new.versions k) }
+    ensures users { IfOk result (λ laid. (b : Key) → begun laid.beds b ≤ free_in map.new.users b) }
+    ensures cells { OnOk result ((p : Position) → entered operations.now p ≤ free_at map.new.cells p) }
+{
+    let mut ids = first_ids(map);
+    let mut keys = Vec::with_capacity(alloc, operations.len())?;
+    let mut beds = Vec::with_capacity(alloc, operations.len())?;
+    for operation in operations {
+        let bed = lay_one(alloc, keys.as_slice(), ids, operation)?;
+        promise_for(alloc, map, &bed, operation)?;
+        ids = ids_after(ids, operation)?;
+        keys.push(bed.key)?;
+        beds.push(bed)?;
+    }
+    let mut places = Roomy::none(alloc);
+    places.promise(operations.len())?;
+    Ok(Laid {
+        keys: places,
+        beds: Items::of(beds),
+    })
+}
+
+/// There is no element with id 0, so the rules accept no operation on it.
+fn promise_for(alloc: Global, map: &mut IndexedMap, bed: &Bed, operation: &Op) -> Result<(), Memory>
+    ensures same { map.new.elements ≡ map.old.elements }
+    ensures versions { OnOk result ((k : Key) → free map.new.versions k ≡ free map.old.versions k + (if key_eq k bed.now.key then 1 else 0)) }
+    ensures users { OnOk result ((b : Key) → free_in map.new.users b ≡ free_in map.old.users b + times_listed bed.now.listed b) }
+    ensures cells { OnOk result ((p : Position) → free_at map.new.cells p ≡ free_at map.old.cells p + (if enters p (place_of_op operation.now) then 1 else 0)) }
+{
+    if bed.key.id == 0 {
+        return Err(Memory);
+    }
+    map.promise(alloc, bed.key, bed.listed.items(), place_of(operation))
+}
+
+fn place_in(content: &Content<Name>) -> Option<Coord>
+    ensures { result ≡ place_in content.now }
+{
+    match content {
+        Content::Node(at) => Some(*at),
+        _ => None,
+    }
+}
+
+/// Where an operation puts a node.
+fn place_of(operation: &Op) -> Option<Coord>
+    ensures { result ≡ place_of_op operation.now }
+{
+    match operation {
+        Op::Create { content, .. } | Op::Modify { content, .. } => place_in(content),
+        Op::Delete { .. } => None,
+    }
+}

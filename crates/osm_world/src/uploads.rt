@@ -1,0 +1,223 @@
+ghost use Rattle.std.specs.Prelude.{◌≡◌, ℕ, ◌+◌, ◌-◌, ◌≤◌, ◌<◌, ◌∷◌, ◌++◌, [], length, map, drop, Some, None, if◌then◌else◌};
+ghost use Rattle.osm_base.specs.Key.{key_eq};
+ghost use Rattle.osm_base.specs.Place.{Position};
+ghost use Rattle.osm_base.specs.declared.keys.Key.{Key};
+ghost use Rattle.osm_element.specs.Elements.{next_id, count, push_version};
+ghost use Rattle.changeset_core.specs.Changeset.{new_position, touched_area};
+ghost use Rattle.osm_model.specs.Names.{id_of, member_with_id, with_ids};
+ghost use Rattle.osm_model.specs.declared.uploads.Progress.{Progress};
+ghost use Rattle.history_store.specs.Store.{free};
+ghost use Rattle.reverse_refs.specs.Users.{free_in};
+ghost use Rattle.tile_grid.specs.Grid.{free_at};
+ghost use Rattle.indexed_map.specs.Indexed.{times_listed, IsListOf, HasRoom};
+ghost use Rattle.indexed_map.specs.Placed.{enters};
+ghost use Rattle.osm_world.specs.Beds.{first_ids, content_of_op, place_of_op, makes, version_of, version_of_op, HasPlaces, HasPlacesFor, AreBedsOf, made, begun, entered};
+ghost use Rattle.osm_world.specs.World.{Runs, IsDone};
+
+use crate::beds::{Bed, Laid};
+use changeset_core::{Changeset, join_boxes};
+use indexed_map::IndexedMap;
+use osm_base::{Box7, Items, Key, Kind, Roomy, Stamp};
+use osm_change::{Name, Op};
+use osm_element::{Content, Member, Tags, Version};
+use std::alloc::Global;
+
+/// The id that a name stands for, where it stands for one.
+pub fn id_of(keys: &[Key], name: Name) -> u64
+    ensures { result ≡ id_of keys.now name }
+{
+    match name {
+        Name::Old(id) => id,
+        Name::New(place) => match keys.get(place as usize) {
+            Some(key) => key.id,
+            None => 0,
+        },
+    }
+}
+
+fn nodes_with_ids(keys: &[Key], nodes: &[Name], places: Roomy<u64>) -> Items<u64>
+    requires empty { places.items ≡ [] }
+    requires room { length nodes.now ≤ places.free }
+    ensures { result ≡ map (id_of keys.now) nodes.now }
+{
+    let mut made = places;
+    for name in nodes {
+        made.push(id_of(keys, *name));
+    }
+    Items::of(made.into_vec())
+}
+
+fn members_with_ids(
+    keys: &[Key],
+    members: Items<Member<Name>>,
+    places: Roomy<Member<u64>>,
+) -> Items<Member<u64>>
+    requires empty { places.items ≡ [] }
+    requires room { length members ≤ places.free }
+    ensures { result ≡ map (member_with_id keys.now) members }
+{
+    let mut made = places;
+    for member in members.into_vec() {
+        made.push(Member {
+            kind: member.kind,
+            name: id_of(keys, member.name),
+            role: member.role,
+        });
+    }
+    Items::of(made.into_vec())
+}
+
+/// A content with the ids that its names stand for. Roles are moved.
+fn with_ids(
+    keys: &[Key],
+    content: Content<Name>,
+    ids: Roomy<u64>,
+    members: Roomy<Member<u64>>,
+) -> Content<u64>
+    requires { HasPlaces content ids members }
+    ensures { result ≡ with_ids keys.now content }
+{
+    match content {
+        Content::Node(at) => Content::Node(at),
+        Content::Way(nodes) => Content::Way(nodes_with_ids(keys, nodes.items(), ids)),
+        Content::Relation(named) => Content::Relation(members_with_ids(keys, named, members)),
+    }
+}
+
+/// Makes the next version of an element, enters it in its changeset, and gives the box of what it
+/// touches.
+fn make_version(
+    map: &mut IndexedMap,
+    changeset: &mut Changeset,
+    at: Stamp,
+    key: Key,
+    content: Option<Content<u64>>,
+    tags: Tags,
+    listed: &[Key],
+) -> Option<Box7>
+    requires counted { 0 < key.id }
+    requires follows { key.id ≤ next_id map.old.elements key.kind }
+    requires listed { IsListOf content listed.now }
+    requires room { HasRoom map.old key listed.now (new_position content) }
+    requires work { 0 < changeset.old.free }
+    ensures touched { result ≡ touched_area map.old.elements key content }
+    ensures elements { map.new.elements ≡ push_version map.old.elements key (version_of changeset.old.id at content tags) }
+    ensures entered { changeset.new ≡ record { id = changeset.old.id; kept = record changeset.old.kept { did = changeset.old.kept.did ++ record { key = key; version = count map.old.elements key + 1 } ∷ [] }; free = changeset.old.free - 1 } }
+    ensures versions { (k : Key) → free map.new.versions k + (if key_eq k key then 1 else 0) ≡ free map.old.versions k }
+    ensures users { (b : Key) → free_in map.old.users b ≤ free_in map.new.users b + times_listed listed.now b }
+    ensures cells { (p : Position) → free_at map.old.cells p ≤ free_at map.new.cells p + (if enters p (new_position content) then 1 else 0) }
+{
+    let number = map.count(key) + 1;
+    let touched = map.touched_area(key, &content);
+    let version = Version {
+        content,
+        tags,
+        changeset: changeset.id(),
+        stamp: at,
+        redaction: None,
+    };
+    changeset.worked(key, number);
+    map.revise(key, version, listed);
+    touched
+}
+
+/// Does one operation of an accepted upload, and gives the box of what it touches: `None` too where
+/// it is skipped.
+fn apply_one(
+    alloc: Global,
+    map: &mut IndexedMap,
+    changeset: &mut Changeset,
+    at: Stamp,
+    keys: &[Key],
+    operation: Op,
+    bed: Bed,
+) -> Option<Box7>
+    requires counted { 0 < bed.key.id }
+    requires follows { bed.key.id ≤ next_id map.old.elements bed.key.kind }
+    requires listed { IsListOf (content_of_op keys.now operation) bed.listed }
+    requires places { HasPlacesFor operation bed.ids bed.members }
+    requires room { HasRoom map.old bed.key bed.listed (place_of_op operation) }
+    requires work { 0 < changeset.old.free }
+    ensures touched { result ≡ (if makes map.old.elements bed.key operation then touched_area map.old.elements bed.key (content_of_op keys.now operation) else None) }
+    ensures elements { map.new.elements ≡ (if makes map.old.elements bed.key operation then push_version map.old.elements bed.key (version_of_op changeset.old.id at keys.now operation) else map.old.elements) }
+    ensures entered { changeset.new.kept ≡ (if makes map.old.elements bed.key operation then record changeset.old.kept { did = changeset.old.kept.did ++ record { key = bed.key; version = count map.old.elements bed.key + 1 } ∷ [] } else changeset.old.kept) }
+    ensures id { changeset.new.id ≡ changeset.old.id }
+    ensures versions { (k : Key) → free map.old.versions k ≤ free map.new.versions k + (if key_eq k bed.key then 1 else 0) }
+    ensures users { (b : Key) → free_in map.old.users b ≤ free_in map.new.users b + times_listed bed.listed b }
+    ensures cells { (p : Position) → free_at map.old.cells p ≤ free_at map.new.cells p + (if enters p (place_of_op operation) then 1 else 0) }
+    ensures work { changeset.old.free ≤ changeset.new.free + 1 }
+    ensures no_more { changeset.new.free ≤ changeset.old.free }
+{
+    let Bed {
+        key,
+        listed,
+        ids,
+        members,
+    } = bed;
+    let listed = listed.items();
+    match operation {
+        Op::Create { content, tags, .. } => {
+            let new = Some(with_ids(keys, content, ids, members));
+            make_version(map, changeset, at, key, new, tags, listed)
+        }
+        Op::Modify { content, tags, .. } => {
+            let new = Some(with_ids(keys, content, ids, members));
+            make_version(map, changeset, at, key, new, tags, listed)
+        }
+        Op::Delete { .. } => {
+            if map.is_visible(key) && map.is_unused(key) {
+                let tags = Tags::none(alloc);
+                make_version(map, changeset, at, key, None, tags, listed)
+            } else {
+                None
+            }
+        }
+    }
+}
+
+/// Takes what was laid by for one operation.
+fn take_bed(alloc: Global, beds: &mut Items<Bed>, place: usize) -> Bed
+    requires { place < length beds.old }
+    ensures { drop place beds.old ≡ result ∷ drop (place + 1) beds.new }
+{
+    let key = Key {
+        kind: Kind::Node,
+        id: 0,
+    };
+    beds.replace(place, Bed::none(alloc, key))
+}
+
+/// Does the operations of an accepted upload to a changeset, and gives the box of what they touch.
+/// The versions that they make are entered in the changeset.
+pub fn apply_all(
+    alloc: Global,
+    map: &mut IndexedMap,
+    changeset: &mut Changeset,
+    at: Stamp,
+    operations: Items<Op>,
+    laid: Laid,
+) -> Option<Box7>
+    requires accepted { (final : Progress) × Runs map.old.elements changeset.old.id at operations final }
+    requires beds { AreBedsOf [] (first_ids map.old.elements) operations laid.beds }
+    requires unused { laid.keys.items ≡ [] }
+    requires keys { length operations ≤ laid.keys.free }
+    requires versions { (k : Key) → made laid.beds k ≤ free map.old.versions k }
+    requires users { (b : Key) → begun laid.beds b ≤ free_in map.old.users b }
+    requires cells { (p : Position) → entered operations p ≤ free_at map.old.cells p }
+    requires work { length operations ≤ changeset.old.free }
+    ensures done { (final : Progress) → Runs map.old.elements changeset.old.id at operations final → IsDone map.new.elements changeset.old.kept changeset.new.kept result final }
+    ensures id { changeset.new.id ≡ changeset.old.id }
+    ensures no_more { changeset.new.free ≤ changeset.old.free }
+{
+    let Laid { mut keys, mut beds } = laid;
+    let mut area = None;
+    for operation in operations.into_vec() {
+        let place = keys.items().len();
+        let bed = take_bed(alloc, &mut beds, place);
+        let key = bed.key;
+        let touched = apply_one(alloc, map, changeset, at, keys.items(), operation, bed);
+        area = join_boxes(area, touched);
+        keys.push(key);
+    }
+    area
+}
