@@ -1,4 +1,5 @@
-use load_summary::{figures_of, replay_summary};
+use load_summary::{Figures, Run, figures_of, replay_summary, summary};
+use osm_base::Coord;
 use osm_element::Elements;
 use std::test::Fail;
 use user_table::{UserTable, Who};
@@ -54,6 +55,29 @@ fn nothing_is_replayed(rt: HostRuntime) -> Result<(), Fail> {
     let figures = figures_of(&Elements::empty(rt.alloc()), 0);
     let text = replay_summary(rt.alloc(), &figures)?;
     let expected = "entries 0\nnodes 0\nways 0\nrelations 0\nfirst none\n";
+    assert_eq!(rt; text.as_str(), expected);
+    Ok(())
+}
+
+#[test]
+fn a_run_of_a_thousand_uploads(rt: HostRuntime) -> Result<(), Fail> {
+    let run = Run {
+        seed: 1,
+        sessions: 3,
+        uploads: 1_000,
+        replies: 1_003,
+        refused: 0,
+    };
+    let figures = Figures {
+        entries: 1_003,
+        nodes: 10_000,
+        ways: 1_000,
+        relations: 0,
+        first: Coord::new(480_100_271, 110_469_695),
+    };
+    let text = summary(rt.alloc(), &run, &figures)?;
+    let expected = "seed 1\nsessions 3\nuploads 1000\nentries 1003\nnodes 10000\nways 1000\n\
+        relations 0\nreplies 1003\nrefused 0\nfirst 480100271 110469695\n";
     assert_eq!(rt; text.as_str(), expected);
     Ok(())
 }
