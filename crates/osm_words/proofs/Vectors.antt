@@ -1,0 +1,92 @@
+-- Worked words: both forms of an option, each refusal.
+use Rattle.std.proofs.Common.{◌≡◌, ℕ, List, [], ◌∷◌, Some, None, codes, refl}
+use Rattle.clap.proofs.OnLiterals.{clap_on_literals}
+use Rattle.osm_words.specs.declared.words.Load.{Load}
+use Rattle.osm_words.specs.Words.{reading_of, pipe, measure, export, replay}
+
+abbrev load : ℕ → ℕ → ℕ → Load
+load seed sessions uploads = record { seed = seed; sessions = sessions; uploads = uploads }
+
+apart : reading_of (codes "osm" ∷ codes "pipe" ∷ codes "--users" ∷ codes "u.txt" ∷ codes "--at" ∷ codes "7" ∷ []) ≡ Some (pipe (codes "u.txt") (Some 7))
+unfolding clap_on_literals
+apart = refl
+
+joined : reading_of (codes "osm" ∷ codes "pipe" ∷ codes "--at=07" ∷ codes "--users=u=1" ∷ []) ≡ Some (pipe (codes "u=1") (Some 7))
+unfolding clap_on_literals
+joined = refl
+
+by_the_clock : reading_of (codes "osm" ∷ codes "pipe" ∷ codes "--users=u" ∷ []) ≡ Some (pipe (codes "u") None)
+unfolding clap_on_literals
+by_the_clock = refl
+
+twice : reading_of (codes "osm" ∷ codes "pipe" ∷ codes "--users=u" ∷ codes "--users=u" ∷ []) ≡ None
+unfolding clap_on_literals
+twice = refl
+
+no_users : reading_of (codes "osm" ∷ codes "pipe" ∷ codes "--at=7" ∷ []) ≡ None
+unfolding clap_on_literals
+no_users = refl
+
+no_value : reading_of (codes "osm" ∷ codes "pipe" ∷ codes "--users" ∷ []) ≡ None
+unfolding clap_on_literals
+no_value = refl
+
+empty_value : reading_of (codes "osm" ∷ codes "pipe" ∷ codes "--users=" ∷ []) ≡ None
+unfolding clap_on_literals
+empty_value = refl
+
+signed_value : reading_of (codes "osm" ∷ codes "pipe" ∷ codes "--users=-u" ∷ []) ≡ None
+unfolding clap_on_literals
+signed_value = refl
+
+a_word_beside : reading_of (codes "osm" ∷ codes "pipe" ∷ codes "--users=u" ∷ codes "v" ∷ []) ≡ None
+unfolding clap_on_literals
+a_word_beside = refl
+
+no_help : reading_of (codes "osm" ∷ codes "pipe" ∷ codes "--users=u" ∷ codes "--help" ∷ []) ≡ None
+unfolding clap_on_literals
+no_help = refl
+
+no_short_help : reading_of (codes "osm" ∷ codes "replay" ∷ codes "-h" ∷ []) ≡ None
+unfolding clap_on_literals
+no_short_help = refl
+
+no_version : reading_of (codes "osm" ∷ codes "replay" ∷ codes "--version" ∷ []) ≡ None
+unfolding clap_on_literals
+no_version = refl
+
+end_mark : reading_of (codes "osm" ∷ codes "pipe" ∷ codes "--users=u" ∷ codes "--" ∷ []) ≡ None
+unfolding clap_on_literals
+end_mark = refl
+
+a_load : reading_of (codes "osm" ∷ codes "measure" ∷ codes "--seed=1" ∷ codes "--sessions" ∷ codes "3" ∷ codes "--uploads=1000" ∷ [])
+    ≡ Some (measure (load 1 3 1000))
+unfolding clap_on_literals
+a_load = refl
+
+the_fullest : reading_of (codes "osm" ∷ codes "export" ∷ codes "--uploads=909" ∷ codes "--seed=18446744073709551615" ∷ codes "--sessions=1" ∷ [])
+    ≡ Some (export (load 18446744073709551615 1 909))
+unfolding clap_on_literals
+the_fullest = refl
+
+too_full : reading_of (codes "osm" ∷ codes "export" ∷ codes "--uploads=910" ∷ codes "--seed=1" ∷ codes "--sessions=1" ∷ []) ≡ None
+unfolding clap_on_literals
+too_full = refl
+
+no_sessions : reading_of (codes "osm" ∷ codes "measure" ∷ codes "--seed=1" ∷ codes "--sessions=0" ∷ codes "--uploads=0" ∷ []) ≡ None
+unfolding clap_on_literals
+no_sessions = refl
+
+too_many_sessions : reading_of (codes "osm" ∷ codes "measure" ∷ codes "--seed=1" ∷ codes "--sessions=65" ∷ codes "--uploads=0" ∷ []) ≡ None
+unfolding clap_on_literals
+too_many_sessions = refl
+
+replayed : reading_of (codes "osm" ∷ codes "replay" ∷ []) ≡ Some replay
+unfolding clap_on_literals
+replayed = refl
+
+unnamed : reading_of (codes "osm" ∷ []) ≡ None
+unnamed = refl
+
+unknown : reading_of (codes "osm" ∷ codes "help" ∷ []) ≡ None
+unknown = refl
