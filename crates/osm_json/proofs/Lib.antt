@@ -3,11 +3,14 @@ pub mod Documents
 pub mod Each
 pub mod Entered
 pub mod Firsts
+pub mod Gathered
+pub mod Latest
 pub mod Members
 pub mod Moments
 pub mod Objects
 pub mod Operations
 pub mod Parts
+pub mod Places
 pub mod Plain
 pub mod Raws
 pub mod Refused

@@ -1,12 +1,12 @@
--- The texts of an object, put into a map one after the other.
-use Rattle.std.proofs.Common.{◌≡◌, ℕ, List, [], ◌∷◌, ◌++◌, Option, Some, None, Bor, Ordering, Less, Equal, Greater, nat_cmp, refl, sym, ap, ◌∙◌}
-use Rattle.std.specs.BTreeMap.{insert_entry}
-use Rattle.std.specs.Cmp.Lexicographic.{slice_cmp}
+-- The entries of an object as the members that `serde_json` reads.
+use Rattle.std.proofs.Common.{◌≡◌, ℕ, List, [], ◌∷◌, ◌++◌, Option, Some, None, Ordering, Less, Equal, Greater, refl, sym, ap, ◌∙◌}
+use Rattle.std.specs.FinMap.Entries.{put as put_entry, by_order}
 use Rattle.std.specs.Ordering.{match_ordering}
 use Rattle.serde_json.specs.Data.{Data, null, string, Members, no_members, member, put}
 use Rattle.serde_json.specs.Find.{as_str}
+use Rattle.osm_json.specs.Entries.{Entry, name_cmp, gather, text_pairs}
 use Rattle.osm_json.specs.Reading.{◌>>=◌, pairs_of}
-use Rattle.osm_json.specs.Found.{Texts, text_in, text_pairs}
+use Rattle.osm_json.proofs.Gathered.{gather_push}
 
 -- a text, and nothing for what is no text
 abbrev text_data : Option (List ℕ) → Data
@@ -14,13 +14,13 @@ text_data None = null
 text_data (Some text) = string text
 
 -- the members, with nothing in the place of what is no text
-abbrev pub only_texts : Members → Members
+abbrev only_texts : Members → Members
 only_texts no_members = no_members
 only_texts (member k d ms) = member k (text_data (as_str d)) (only_texts ms)
 
-abbrev pub texts_view : Texts → Members
+abbrev texts_view : List Entry → Members
 texts_view [] = no_members
-texts_view (e ∷ es) = member e.0.now (text_data (text_in e.1)) (texts_view es)
+texts_view (e ∷ es) = member e.0 (text_data e.1) (texts_view es)
 
 only_texts-match : (o : Ordering) (a b c : Members) → only_texts (match_ordering o a b c) ≡ match_ordering o (only_texts a) (only_texts b) (only_texts c)
 only_texts-match Less a b c = refl
@@ -29,19 +29,16 @@ only_texts-match Greater a b c = refl
 
 only_texts-put : (k : List ℕ) (d : Data) (ms : Members) → only_texts (put k d ms) ≡ put k (text_data (as_str d)) (only_texts ms)
 only_texts-put k d no_members = refl
-only_texts-put k d (member l e ms) = only_texts-match (slice_cmp nat_cmp k l) _ _ _ ∙ rw (only_texts-put k d ms) refl
+only_texts-put k d (member l e ms) = only_texts-match (name_cmp k l) _ _ _ ∙ rw (only_texts-put k d ms) refl
 
-abbrev key_cmp : Bor (List ℕ) → Bor (List ℕ) → Ordering
-key_cmp a b = slice_cmp nat_cmp a.now b.now
+texts_view-order : (o : Ordering) (a b c : List Entry) → texts_view (by_order o a b c) ≡ match_ordering o (texts_view a) (texts_view b) (texts_view c)
+texts_view-order Less a b c = refl
+texts_view-order Equal a b c = refl
+texts_view-order Greater a b c = refl
 
-texts_view-match : (o : Ordering) (a b c : Texts) → texts_view (match_ordering o a b c) ≡ match_ordering o (texts_view a) (texts_view b) (texts_view c)
-texts_view-match Less a b c = refl
-texts_view-match Equal a b c = refl
-texts_view-match Greater a b c = refl
-
-texts_view-insert : (es : Texts) (k : Bor (List ℕ)) (t : Option (Bor (List ℕ))) → texts_view (insert_entry key_cmp es k t) ≡ put k.now (text_data (text_in t)) (texts_view es)
-texts_view-insert [] k t = refl
-texts_view-insert (e ∷ es) k t = texts_view-match (key_cmp k e.0) _ _ _ ∙ rw (texts_view-insert es k t) refl
+texts_view-put : (k : List ℕ) (t : Option (List ℕ)) (es : List Entry) → texts_view (put_entry name_cmp k t es) ≡ put k (text_data t) (texts_view es)
+texts_view-put k t [] = refl
+texts_view-put k t (e ∷ es) = texts_view-order (name_cmp k e.0) _ _ _ ∙ rw (texts_view-put k t es) refl
 
 as_str-text_data : (text : Option (List ℕ)) → as_str (text_data text) ≡ text
 as_str-text_data None = refl
@@ -55,18 +52,33 @@ pairs_of-only_texts : (ms : Members) → pairs_of (only_texts ms) ≡ pairs_of m
 pairs_of-only_texts no_members = refl
 pairs_of-only_texts (member k d ms) = with_text k _ (as_str d) _ (pairs_of ms) (as_str-text_data (as_str d)) (pairs_of-only_texts ms)
 
-pairs_of-texts_view : (es : Texts) → text_pairs es ≡ pairs_of (texts_view es)
+pairs_of-texts_view : (es : List Entry) → text_pairs es ≡ pairs_of (texts_view es)
 pairs_of-texts_view [] = refl
-pairs_of-texts_view (e ∷ es) = with_text e.0.now (text_in e.1) _ (text_pairs es) _ (sym (as_str-text_data (text_in e.1))) (pairs_of-texts_view es)
+pairs_of-texts_view (e ∷ es) = with_text e.0 e.1 _ (text_pairs es) _ (sym (as_str-text_data e.1)) (pairs_of-texts_view es)
+
+-- what was gathered of the entries is what the members have of texts
+pub record IsRead (es : List Entry) (ms : Members) : Type 0 where
+  pub same : texts_view (gather [] es) ≡ only_texts ms
+
+pub none_read : (es : List Entry) → es ≡ [] → IsRead es no_members
+none_read es nothing = record { same = ap (λ (es : List Entry). texts_view (gather [] es)) nothing }
 
 -- one more member, with the text that it has
-pub text_put : (old found : Texts) (key : Bor (List ℕ)) (t : Option (Bor (List ℕ))) (d : Data) (ms : Members) → texts_view old ≡ only_texts ms → text_in t ≡ as_str d → found ≡ insert_entry key_cmp old key t
-    → texts_view found ≡ only_texts (put key.now d ms)
-text_put old found key t d ms e same inserted =
-    ap texts_view inserted ∙ texts_view-insert old key t ∙ ap (λ text. put key.now (text_data text) (texts_view old)) same ∙ ap (put key.now (text_data (as_str d))) e ∙ sym (only_texts-put key.now d ms)
+pub text_put : (old found : List Entry) (key : List ℕ) (t : Option (List ℕ)) (d : Data) (ms : Members) → IsRead old ms → t ≡ as_str d → found ≡ old ++ (key, t) ∷ [] → IsRead found (put key d ms)
+text_put old found key t d ms read same more =
+    record {
+      same = ap (λ (es : List Entry). texts_view (gather [] es)) more
+          ∙ ap texts_view (gather_push [] old (key, t))
+          ∙ texts_view-put key t (gather [] old)
+          ∙ ap (λ (text : Option (List ℕ)). put key (text_data text) (texts_view (gather [] old))) same
+          ∙ ap (put key (text_data (as_str d))) read.same
+          ∙ sym (only_texts-put key d ms);
+    }
 
-pub texts_read : (found : Texts) (ms : Members) → texts_view found ≡ only_texts ms → pairs_of ms ≡ text_pairs found
-texts_read found ms e = sym (pairs_of-texts_view found ∙ ap pairs_of e ∙ pairs_of-only_texts ms)
+pub texts_read : (found : List Entry) (ms : Members) → IsRead found ms → pairs_of ms ≡ text_pairs (gather [] found)
+texts_read found ms read = sym (pairs_of-texts_view (gather [] found) ∙ ap pairs_of read.same ∙ pairs_of-only_texts ms)
+
+-- ---- the pairs, one after the other
 
 abbrev Pairs : Type 0
 Pairs = List (List ℕ × List ℕ)
@@ -88,15 +100,14 @@ with_first : (key : List ℕ) (text : Option (List ℕ)) (both front rest : Opti
 with_first key None both front rest e = refl
 with_first key (Some t) both front rest e = ap (λ o. o >>= λ ps. Some ((key, t) ∷ ps)) e ∙ joined_more (key, t) front rest
 
-text_pairs-append : (front rest : Texts) → text_pairs (front ++ rest) ≡ joined (text_pairs front) (text_pairs rest)
+text_pairs-append : (front rest : List Entry) → text_pairs (front ++ rest) ≡ joined (text_pairs front) (text_pairs rest)
 text_pairs-append [] rest = joined_none (text_pairs rest)
-text_pairs-append (e ∷ front) rest = with_first e.0.now (text_in e.1) (text_pairs (front ++ rest)) (text_pairs front) (text_pairs rest) (text_pairs-append front rest)
+text_pairs-append (e ∷ front) rest = with_first e.0 e.1 (text_pairs (front ++ rest)) (text_pairs front) (text_pairs rest) (text_pairs-append front rest)
 
 -- one more name with its text
-pub pairs_more : (front : Texts) (pairs : Pairs) (key : Bor (List ℕ)) (given : Option (Bor (List ℕ))) (text : List ℕ) → text_pairs front ≡ Some pairs → text_in given ≡ Some text
-    → text_pairs (front ++ (key, given) ∷ []) ≡ Some (pairs ++ (key.now, text) ∷ [])
-pairs_more front pairs key given text e there = text_pairs-append front ((key, given) ∷ []) ∙ rw (e, there) refl
+pub pairs_more : (front : List Entry) (pairs : Pairs) (key text : List ℕ) → text_pairs front ≡ Some pairs → text_pairs (front ++ (key, Some text) ∷ []) ≡ Some (pairs ++ (key, text) ∷ [])
+pairs_more front pairs key text e = text_pairs-append front ((key, Some text) ∷ []) ∙ rw e refl
 
 -- a name with no text
-pub pairs_none : (front : Texts) (pairs : Pairs) (key : Bor (List ℕ)) (given : Option (Bor (List ℕ))) (rest : Texts) → text_pairs front ≡ Some pairs → text_in given ≡ None → text_pairs (front ++ (key, given) ∷ rest) ≡ None
-pairs_none front pairs key given rest e missing = text_pairs-append front ((key, given) ∷ rest) ∙ rw (e, missing) refl
+pub pairs_none : (front : List Entry) (pairs : Pairs) (key : List ℕ) (rest : List Entry) → text_pairs front ≡ Some pairs → text_pairs (front ++ (key, None) ∷ rest) ≡ None
+pairs_none front pairs key rest e = text_pairs-append front ((key, None) ∷ rest) ∙ rw e refl

@@ -1,5 +1,5 @@
 -- What was found of an object, member by member, and what it makes.
-use Rattle.std.specs.Prelude.{◌≡◌, ℕ, ℤ, negsuc, Bool, true, false, List, [], ◌∷◌, codes, Option, Some, None, option_map, unwrap_or, Result, Ok, Err}
+use Rattle.std.specs.Prelude.{◌≡◌, ℕ, ℤ, negsuc, Bool, true, false, List, [], codes, Option, Some, None, option_map, unwrap_or, Result, Ok, Err}
 use Rattle.std.specs.Borrow.{Bor}
 use Rattle.serde_json.specs.Data.{Data, Members}
 use Rattle.serde_json.specs.Find.{get_member, as_str}
@@ -43,17 +43,6 @@ allowed (Some read) = option_map Some read
 
 abbrev pub text_in : Option (Bor (List ℕ)) → Option (List ℕ)
 text_in text = option_map (λ t. t.now) text
-
--- ---- the texts of an object, by their names
-
--- a name, and a text where it names one
-abbrev pub Texts : Type 0
-Texts = List (Bor (List ℕ) × Option (Bor (List ℕ)))
-
--- each name must have a text
-abbrev pub text_pairs : Texts → Option (List (List ℕ × List ℕ))
-text_pairs [] = Some []
-text_pairs (e ∷ es) = text_in e.1 >>= λ text. text_pairs es >>= λ pairs. Some ((e.0.now, text) ∷ pairs)
 
 -- ---- a relation's member
 

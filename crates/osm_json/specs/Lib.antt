@@ -1,5 +1,6 @@
 pub mod Answered
 pub mod Bodies
+pub mod Entries
 pub mod Fields
 pub mod Found
 pub mod Moment

@@ -8,6 +8,7 @@ mod changesets;
 mod contents;
 mod diffs;
 mod elements;
+mod entries;
 mod fault;
 mod figure;
 mod lists;

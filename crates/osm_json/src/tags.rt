@@ -1,57 +1,60 @@
 //! The tags of an element or a changeset.
-ghost use Rattle.std.specs.Prelude.{◌≡◌, ◌<◌, ◌≤◌, length, option_map, OnOk};
-ghost use Rattle.serde_json.specs.Find.{as_str};
-ghost use Rattle.osm_json.specs.Reading.{pairs_of, tags_of};
-ghost use Rattle.osm_json.specs.Found.{Makes, text_pairs};
+ghost use Rattle.std.specs.Prelude.{◌≡◌, ◌<◌, ◌≤◌, length, [], OnOk};
+ghost use Rattle.osm_json.specs.Entries.{AreInOrder, gather, text_pairs};
+ghost use Rattle.osm_json.specs.Found.{Makes};
 ghost use Rattle.osm_json.specs.Pull.{next_data, next_members, Pulled};
+ghost use Rattle.osm_json.specs.Reading.{pairs_of, tags_of};
 
+use crate::entries::Entries;
 use crate::fault::ReadFault;
 use crate::scalar::{enter_object, next_text};
 use json::Reader;
 use osm_element::Tags;
 use std::alloc::Global;
-use std::collections::BTreeMap;
 
-/// The members of an object by their names, each with its text; the last of each name.
-fn texts<'a>(
-    alloc: Global,
-    reader: &mut Reader<'a>,
-    depth: usize,
-) -> Result<BTreeMap<&'a str, Option<&'a str>>, ReadFault>
-    ensures value { Pulled (λ m. text_pairs m.entries) pairs_of result (next_members depth reader.old) reader.new }
+/// The members of an object with their texts, as they come.
+fn entries(alloc: Global, reader: &mut Reader<'_>, depth: usize) -> Result<Entries, ReadFault>
+    ensures value { Pulled (λ es. text_pairs (gather [] es)) pairs_of result (next_members depth reader.old) reader.new }
     ensures shorter { OnOk result (length reader.new ≤ length reader.old) }
 {
-    let mut found = BTreeMap::new(alloc);
+    let mut found = Entries::new(alloc)?;
     while let Some(key) = reader.next_key()? {
         let text = next_text(reader, depth)?;
-        drop(found.insert(key, text)?);
+        found = found.with(key, text)?;
     }
     Ok(found)
 }
 
-/// How much room the texts take, names included.
-fn byte_count(texts: &BTreeMap<&str, Option<&str>>) -> usize {
+/// How many tags, and how much room their keys and values take.
+fn room(entries: &Entries) -> (usize, usize) {
     let mut count: usize = 0;
-    for (key, text) in texts {
-        count = count.saturating_add(key.len());
-        if let Some(text) = text {
-            count = count.saturating_add(text.len());
+    let mut bytes: usize = 0;
+    for index in 0..entries.len() {
+        if entries.is_last(index) {
+            let (key, text) = entries.entry(index);
+            count = count.saturating_add(1);
+            bytes = bytes.saturating_add(key.len());
+            bytes = bytes.saturating_add(text.unwrap_or("").len());
         }
     }
-    count
+    (count, bytes)
 }
 
-/// The texts, where there is nothing else.
-fn tags_from(alloc: Global, texts: &BTreeMap<&str, Option<&str>>) -> Result<Option<Tags>, ReadFault>
-    ensures { Makes (λ x. x) result (text_pairs texts.now.entries) }
+/// The texts, the last of each name, where there is nothing else.
+fn tags_from(alloc: Global, entries: &Entries) -> Result<Option<Tags>, ReadFault>
+    requires { AreInOrder entries.now }
+    ensures { Makes (λ x. x) result (text_pairs (gather [] entries.now)) }
 {
-    // A map's keys rise, as its length says.
-    let mut found = Tags::with_room(alloc, texts.len(), byte_count(texts))?;
-    for (key, text) in texts {
-        let Some(text) = text else {
-            return Ok(None);
-        };
-        found = found.with(key, text)?;
+    let (count, bytes) = room(entries);
+    let mut found = Tags::with_room(alloc, count, bytes)?;
+    for index in 0..entries.len() {
+        if entries.is_last(index) {
+            let (key, text) = entries.entry(index);
+            let Some(text) = text else {
+                return Ok(None);
+            };
+            found = found.with(key, text)?;
+        }
     }
     Ok(Some(found))
 }
@@ -67,7 +70,7 @@ pub(crate) fn tags(
 {
     match enter_object(reader, depth)? {
         Some(within) => {
-            let found = texts(alloc, reader, within)?;
+            let found = entries(alloc, reader, within)?.sorted()?;
             tags_from(alloc, &found)
         }
         None => Ok(None),

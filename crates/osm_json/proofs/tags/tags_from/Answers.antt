@@ -1,46 +1,36 @@
-use Rattle.std.proofs.Common.{◌≡◌, List, ℕ, [], ◌∷◌, ◌++◌, Some, None, sym, ap, ap₂, ◌∙◌, refl, rules, subst, append_assoc}
-use Rattle.std.proofs.lemmas.List.{append-nil}
-use Rattle.std.specs.Map.{keys_of}
-use Rattle.osm_json.specs.Found.{Texts, text_in, text_pairs}
-use Rattle.osm_json.proofs.Rising.{front_rises}
-use Rattle.osm_json.proofs.Texts.{pairs_more, pairs_none}
+use Rattle.std.proofs.Common.{◌≡◌, ◌<◌, ◌+◌, [], List, ℕ, Option, None, Some, length, get_or, arith, sym, ap, ◌∙◌, subst}
+use Rattle.std.specs.Borrow.{Bor}
+use Rattle.osm_json.specs.Found.{text_in}
+use Rattle.osm_json.proofs.Latest.{Gone, gone_past, gone_more, gone_none, gone_rises}
 use Rattle.osm_json.proofs.tags.tags_from.Goals as goal
-
-pub loop-key-init : goal.loop-key-init
-loop-key-init c =
-    let all : c.args.texts.now.entries ≡ c.into_iter-key-iterator.result = search rules in
-    ([], all, ap (λ (ps : List (List ℕ × List ℕ)). Some ps) (sym c.in_ok-found.ensures))
-
-pub with-requires : goal.with-requires
-with-requires c =
-    let l = c.loop-key in
-    let given : text_in c.in-Some.text.now ≡ Some c.in-Some-text.text.now = search rules in
-    let front = l.invariant.0 in
-    let whole : c.args.texts.now.entries ≡ (front ++ (c.in-Some.key.now, c.in-Some.text.now) ∷ []) ++ c.next.new.self =
-    l.invariant.1 ∙ ap (λ (es : Texts). front ++ es) c.in-Some.ensures.steps ∙ sym (append_assoc front ((c.in-Some.key.now, c.in-Some.text.now) ∷ []) c.next.new.self) in
-    front_rises (front ++ (c.in-Some.key.now, c.in-Some.text.now) ∷ []) c.next.new.self _ (pairs_more front l.found c.in-Some.key.now c.in-Some.text.now _ l.invariant.2 given) (rw whole at c.len.ensures.ordered)
+use Rattle.osm_json.proofs.tags.tags_from.Goals.{then-is_last+in-Some+in_ok-found-2, else-is_last}
 
 pub returns-in_default : goal.returns-in_default
 returns-in_default c =
-    let l = c.loop-key in
-    let whole : c.args.texts.now.entries ≡ l.invariant.0 ++ (c.in-Some.key.now, c.in-Some.text.now) ∷ c.next.new.self =
-    l.invariant.1 ∙ ap (λ (es : Texts). l.invariant.0 ++ es) c.in-Some.ensures.steps in
-    let none = pairs_none l.invariant.0 l.found c.in-Some.key.now c.in-Some.text.now c.next.new.self l.invariant.2 (ap text_in c.in_default.is) in
-    sym (ap text_pairs whole ∙ none)
+    let l = c.loop-index in
+    let within : l.index < length c.args.entries.now = omega arith in
+    let pair : get_or c.args.entries.now l.index ([], None) ≡ (c.entry.result.0.now, None) =
+    sym c.entry.ensures ∙ ap (λ (t : Option (Bor (List ℕ))). (c.entry.result.0.now, text_in t)) c.in_default.is in
+    sym (gone_none c.args.entries.now l.index l.found l.invariant within c.requires _ (sym c.is_last.ensures ∙ c.if-is_last.true) pair)
 
-pub loop-key-preserved : goal.loop-key-preserved
-loop-key-preserved c =
-    let l = c.loop-key in
-    let given : text_in c.in-Some.text.now ≡ Some c.in-Some-text.text.now = search rules in
-    let whole = l.invariant.1 ∙ ap (λ (es : Texts). l.invariant.0 ++ es) c.in-Some.ensures.steps ∙ sym (append_assoc l.invariant.0 ((c.in-Some.key.now, c.in-Some.text.now) ∷ []) c.next.new.self) in (
-      l.invariant.0 ++ (c.in-Some.key.now, c.in-Some.text.now) ∷ [],
-      whole,
-      pairs_more l.invariant.0 l.found c.in-Some.key.now c.in-Some.text.now _ l.invariant.2 given ∙ ap (λ (ps : List (List ℕ × List ℕ)). Some ps) (sym c.in_ok-found-2.ensures),
-    )
+pub with-requires : goal.with-requires
+with-requires c =
+    let l = c.loop-index in
+    let within : l.index < length c.args.entries.now = omega arith in
+    let pair : get_or c.args.entries.now l.index ([], None) ≡ (c.entry.result.0.now, Some c.in-Some.text.now) =
+    sym c.entry.ensures ∙ ap (λ (t : Option (Bor (List ℕ))). (c.entry.result.0.now, text_in t)) c.in-Some.is in
+    gone_rises c.args.entries.now (l.index + 1) _ (gone_more c.args.entries.now l.index l.found l.invariant within c.requires _ _ (sym c.is_last.ensures ∙ c.if-is_last.true) pair)
 
-pub returns : goal.returns
-returns c =
-    let l = c.loop-key in
-    let over : l.key-iterator ≡ [] = c.in-None.ensures.steps.0 in
-    let whole = l.invariant.1 ∙ ap (λ (es : Texts). l.invariant.0 ++ es) over ∙ append-nil l.invariant.0 in
-    sym (ap text_pairs whole ∙ l.invariant.2)
+pub loop-index-preserved : goal.loop-index-preserved
+loop-index-preserved c =
+    let l = c.loop-index in
+    let within : l.index < length c.args.entries.now = omega arith in
+    let Kept : List (List ℕ × List ℕ) → Type 0 = Gone c.args.entries.now (l.index + 1) in
+    elim c.if-is_last.branch [
+      | then-is_last+in-Some+in_ok-found-2 w ↦
+          let pair : get_or c.args.entries.now l.index ([], None) ≡ (w.entry.result.0.now, Some w.in-Some.text.now) =
+          sym w.entry.ensures ∙ ap (λ (t : Option (Bor (List ℕ))). (w.entry.result.0.now, text_in t)) w.in-Some.is in
+          let more = gone_more c.args.entries.now l.index l.found l.invariant within c.requires _ _ (sym c.is_last.ensures ∙ w.if-is_last.true) pair in
+          subst Kept (sym (w.found-is ∙ w.in_ok-found-2.ensures)) more
+      | else-is_last w ↦ subst Kept (sym w.found-is) (gone_past c.args.entries.now l.index l.found l.invariant within c.requires (sym c.is_last.ensures ∙ w.if-is_last.false))
+    ]

@@ -1,16 +1,16 @@
-use Rattle.std.proofs.Common.{◌≡◌, Some, None, sym, ap, arith}
+use Rattle.std.proofs.Common.{◌≡◌, Some, None, sym, arith}
 use Rattle.json.specs.Json.{read_key}
 use Rattle.osm_json.specs.declared.fault.ReadFault.TheVariants.{NotJson}
 use Rattle.osm_json.proofs.Refused.{by_part, at_exit}
-use Rattle.osm_json.proofs.Texts.{texts_view, text_put, texts_read}
+use Rattle.osm_json.proofs.Texts.{none_read, text_put, texts_read}
 use Rattle.osm_json.proofs.Turns.{no_member, one_member, all_members, no_key, bad_member}
-use Rattle.osm_json.proofs.tags.texts.Goals as goal
+use Rattle.osm_json.proofs.tags.entries.Goals as goal
 
 pub loop-found-init : goal.loop-found-init
-loop-found-init c = (_, no_member c.args.depth _, ap texts_view c.new-found.ensures.empty)
+loop-found-init c = (_, no_member c.args.depth _, none_read _ c.in_ok-found.ensures)
 
 pub returns-in_err-key-clause-value : goal.returns-in_err-key-clause-value
-returns-in_err-key-clause-value c = at_exit _ _ _ _ _ NotJson c.from_residual.ensures.1 (no_key c.loop-found.invariant.1 c.in_err-key.ensures.value)
+returns-in_err-key-clause-value c = at_exit _ _ _ _ _ NotJson c.from_residual-in_err-key.ensures.1 (no_key c.loop-found.invariant.1 c.in_err-key.ensures.value)
 
 pub returns-in_err-text-clause-value : goal.returns-in_err-text-clause-value
 returns-in_err-text-clause-value c =
@@ -25,7 +25,7 @@ loop-found-preserved c =
     let read = c.in_ok-text.ensures.value in (
       _,
       one_member l.invariant.1 _ _ _ read.source key read.begins,
-      text_put _ _ c.in-Some.key c.in_ok-text.text read.source l.invariant.0 l.invariant.2 (sym read.reads) c.in_ok-insert.ensures.entries,
+      text_put _ _ c.in-Some.key.now _ read.source l.invariant.0 l.invariant.2 (sym read.reads) c.in_ok-found-2.ensures,
     )
 
 pub returns-clause-value : goal.returns-clause-value
