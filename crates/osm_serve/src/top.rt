@@ -1,7 +1,7 @@
 //! The top call.
 ghost use Rattle.std.specs.Prelude.{◌≡◌, map, string_bytes};
-ghost use Rattle.osm_words.specs.Words.{reading_of};
-ghost use Rattle.osm_serve.specs.Run.{Runs, RunsPipe, ServesFrom, IsStarted, status_of};
+ghost use Rattle.osm_words.specs.Words.{reading_of, shown};
+ghost use Rattle.osm_serve.specs.Run.{Runs, ComesTo, RunsPipe, ServesFrom, IsStarted, status_of};
 
 use crate::serve::serve_pipe;
 use crate::users::{NoUsers, read_users};
@@ -59,6 +59,25 @@ fn run_pipe<H: Host, L: Link>(
     }
 }
 
+/// Does what was read of the words. A command that isn't built yet ends as words without a reading
+/// do.
+fn run_words<H: Host, L: Link>(
+    alloc: Global,
+    words: Words<'_>,
+    host: &mut H,
+    standard: &mut L,
+) -> u8
+    ensures { ComesTo (Some (shown words.entry)) (H.told host.old) (H.told host.new)
+        (L.told standard.old) (L.told standard.new) result }
+{
+    match words {
+        Words::Pipe { users, at } => run_pipe(alloc, users, at, host, standard),
+        Words::Measure(_) => 1,
+        Words::Export(_) => 1,
+        Words::Replay => 1,
+    }
+}
+
 /// Does what the words ask on the host and the standard link, and answers the program's status: 1
 /// where the words have no reading, 2 where the users text is refused, 3 for a fault of the host
 /// or in reading, 4 for a fault in writing, 5 for want of memory outside an answer, 7 where what
@@ -68,11 +87,7 @@ pub fn run<H: Host, L: Link>(alloc: Global, words: &[String], host: &mut H, stan
         (L.told standard.old) (L.told standard.new) result }
 {
     match read_words(alloc, words) {
-        Ok(Words::Pipe { users, at }) => run_pipe(alloc, users, at, host, standard),
-        // Not built yet, so these have no reading here.
-        Ok(Words::Measure(_)) => 1,
-        Ok(Words::Export(_)) => 1,
-        Ok(Words::Replay) => 1,
+        Ok(words) => run_words(alloc, words, host, standard),
         Err(WordsFault::NoReading) => 1,
         Err(WordsFault::Memory) => 5,
     }

@@ -1,0 +1,14 @@
+use Rattle.std.proofs.Common.{refl}
+use Rattle.osm_serve.proofs.top.run_words.Goals as goal
+
+pub returns-in-Pipe : goal.returns-in-Pipe
+returns-in-Pipe g c = rw c.in-Pipe.is c.run_pipe.ensures
+
+pub returns-in-Measure : goal.returns-in-Measure
+returns-in-Measure g c = rw c.in-Measure.is (record { host_stays = refl; link_stays = refl; status_is = refl })
+
+pub returns-in-Export : goal.returns-in-Export
+returns-in-Export g c = rw c.in-Export.is (record { host_stays = refl; link_stays = refl; status_is = refl })
+
+pub returns-in-Replay : goal.returns-in-Replay
+returns-in-Replay g c = rw c.in-Replay.is (record { host_stays = refl; link_stays = refl; status_is = refl })
