@@ -95,6 +95,11 @@ impl Entries {
         self.places.len()
     }
 
+    /// How many bytes all names and texts take.
+    pub(crate) fn byte_count(&self) -> usize {
+        self.text.len()
+    }
+
     fn name(&self, index: usize) -> &str
         requires { index < length self.now }
         ensures { result.now ≡ name_of self.now index }

@@ -9,6 +9,7 @@ use crate::entries::Entries;
 use crate::fault::ReadFault;
 use crate::scalar::{enter_object, next_text};
 use json::Reader;
+use osm_base::TryCopy;
 use osm_element::Tags;
 use std::alloc::Global;
 
@@ -25,29 +26,14 @@ fn entries(alloc: Global, reader: &mut Reader<'_>, depth: usize) -> Result<Entri
     Ok(found)
 }
 
-/// How many tags, and how much room their keys and values take.
-fn room(entries: &Entries) -> (usize, usize) {
-    let mut count: usize = 0;
-    let mut bytes: usize = 0;
-    for index in 0..entries.len() {
-        if entries.is_last(index) {
-            let (key, text) = entries.entry(index);
-            count = count.saturating_add(1);
-            bytes = bytes.saturating_add(key.len());
-            bytes = bytes.saturating_add(text.unwrap_or("").len());
-        }
-    }
-    (count, bytes)
-}
-
 /// The texts, the last of each name, where there is nothing else.
 fn tags_from(alloc: Global, entries: &Entries) -> Result<Option<Tags>, ReadFault>
     requires { AreInOrder entries.now }
     ensures { Makes (λ x. x) result (text_pairs (gather [] entries.now)) }
 {
-    let (count, bytes) = room(entries);
-    let mut found = Tags::with_room(alloc, count, bytes)?;
-    for index in 0..entries.len() {
+    let count = entries.len();
+    let mut found = Tags::with_room(alloc, count, entries.byte_count())?;
+    for index in 0..count {
         if entries.is_last(index) {
             let (key, text) = entries.entry(index);
             let Some(text) = text else {
@@ -55,6 +41,10 @@ fn tags_from(alloc: Global, entries: &Entries) -> Result<Option<Tags>, ReadFault
             };
             found = found.with(key, text)?;
         }
+    }
+    if found.len() < count {
+        // Names that came again left room: a copy has none.
+        return Ok(Some(found.copy(alloc)?));
     }
     Ok(Some(found))
 }
