@@ -1,0 +1,124 @@
+ghost use Rattle.std.specs.Prelude.{◌≡◌, ℕ, true, IfOk, OnOk, MatchResult, IfSome};
+ghost use Rattle.machine_law.specs.declared.tags.Tag.{Tag};
+ghost use Rattle.machine_law.specs.Rules.{Rules, Later, IsForeseen};
+
+use crate::tags::{Settled, Tag};
+use osm_base::{Bytes, Memory, Steps};
+use std::alloc::Global;
+use std::sync::ledger::Ledger;
+
+/// A world that changes by entries, and the rules that it keeps. Each law is a clause of the call
+/// that has to meet it, but for the last three. Moments are seconds since 1970.
+pub trait Machine {
+    /// What is kept of the entries so far.
+    type World: Drop;
+
+    /// What a caller wants to be done.
+    type Command: Drop;
+
+    /// What a caller wants to know.
+    type Query: Drop;
+
+    /// A command, with what was found out about it on some world.
+    type Plan: Drop;
+
+    /// What an accepted command does.
+    type Entry: Drop;
+
+    /// Where a plan and a world differ.
+    type Look: Drop;
+
+    /// What a world stands for. No value of it is made.
+    type State;
+
+    // The state that a world stands for.
+    ghost state: { Self.World → Self.State };
+
+    // What commands and queries come to on each state.
+    ghost rules: { Rules Self.State Self.Command Self.Query Self.Plan Self.Entry Self.Look };
+
+    // Whether an entry can be applied without memory.
+    ghost has_room: { Self.World → Self.Entry → Type 0 };
+
+    /// The world before all entries. It takes no memory.
+    fn empty(alloc: Global) -> Self::World
+        ensures { state result ≡ rules.start };
+
+    /// A plan of a command on this world.
+    fn plan<L: Ledger>(
+        alloc: Global,
+        world: &Self::World,
+        command: Self::Command,
+        steps: &mut Steps<L>,
+    ) -> Result<Self::Plan, Memory>
+        ensures { IfOk result (λ p. rules.planned (state world.now) command p × rules.stands p (state world.now)) };
+
+    /// Whether a plan stands on this world, or else where they differ. It takes no memory.
+    fn still(world: &Self::World, plan: &Self::Plan) -> Result<(), Self::Look>
+        ensures { MatchResult result (λ _. rules.stands plan.now (state world.now)) (λ look. ¬ rules.stands plan.now (state world.now) × rules.differs look plan.now (state world.now)) };
+
+    /// What the command of a plan that stands comes to on this world, without a step.
+    fn settle<L: Ledger>(
+        alloc: Global,
+        world: &Self::World,
+        plan: &Self::Plan,
+        tag: Tag,
+        moment: u64,
+        steps: &mut Steps<L>,
+    ) -> Result<Settled<Self::Entry>, Memory>
+        requires stands { rules.stands plan.now (state world.now) }
+        requires foreseen { IsForeseen rules plan.now (state world.now) }
+        ensures acts { (begun : Self.State) (command : Self.Command) → rules.planned begun command plan.now → Later rules begun (state world.now) → IfOk result (λ s. s ≡ rules.act (state world.now) tag moment command) }
+        ensures steps { steps.new ≡ steps.old };
+
+    /// What a plan's command comes to on this world, whether the plan stands or not.
+    fn again<L: Ledger>(
+        alloc: Global,
+        world: &Self::World,
+        plan: &Self::Plan,
+        tag: Tag,
+        moment: u64,
+        steps: &mut Steps<L>,
+    ) -> Result<Settled<Self::Entry>, Memory>
+        requires { IsForeseen rules plan.now (state world.now) }
+        ensures { (begun : Self.State) (command : Self.Command) → rules.planned begun command plan.now → Later rules begun (state world.now) → IfOk result (λ s. s ≡ rules.act (state world.now) tag moment command) };
+
+    /// A second entry that is equal to this one.
+    fn copy(alloc: Global, entry: &Self::Entry) -> Result<Self::Entry, Memory>
+        ensures { IfOk result (λ e. e ≡ entry.now) };
+
+    /// Whether an entry may come next on this world.
+    fn accepts(alloc: Global, world: &Self::World, entry: &Self::Entry) -> Result<bool, Memory>
+        ensures { IfOk result (λ b. b ≡ rules.takes (state world.now) entry.now) };
+
+    /// Takes all memory that `apply` needs for this entry.
+    fn make_room(alloc: Global, world: &mut Self::World, entry: &Self::Entry) -> Result<(), Memory>
+        requires { rules.takes (state world.old) entry.now ≡ true }
+        ensures same { state world.new ≡ state world.old }
+        ensures room { OnOk result (has_room world.new entry.now) };
+
+    /// Applies an entry. It takes no memory.
+    fn apply(world: &mut Self::World, entry: Self::Entry)
+        requires taken { rules.takes (state world.old) entry ≡ true }
+        requires room { has_room world.old entry }
+        ensures { state world.new ≡ rules.after (state world.old) entry };
+
+    /// The answer to a query on this world, in the form of a command's answer.
+    fn ask<L: Ledger>(
+        alloc: Global,
+        world: &Self::World,
+        query: &Self::Query,
+        moment: u64,
+        steps: &mut Steps<L>,
+    ) -> Result<Bytes, Memory>
+        ensures { IfOk result (λ bytes. bytes ≡ rules.reply (state world.now) query.now moment) };
+
+    // The entry of an accepted command may come next, and carries the tag.
+    ghost entry_taken: { (s : Self.State) (tag : Tag) (moment : ℕ) (command : Self.Command) → IfSome (rules.act s tag moment command).entry (λ e. (rules.takes s e ≡ true) × (rules.tag_of e ≡ tag)) };
+
+    // The first state is consistent.
+    ghost start_consistent: { rules.consistent rules.start };
+
+    // An entry that may come next leaves a consistent state consistent.
+    ghost after_consistent: { (s : Self.State) (e : Self.Entry) → rules.takes s e ≡ true → rules.consistent s → rules.consistent (rules.after s e) };
+}
