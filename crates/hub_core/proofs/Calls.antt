@@ -1,0 +1,63 @@
+-- One more entry of a session is one more call.
+use Rattle.std.proofs.Common.{◌≡◌, ◌≢◌, ℕ, ◌+◌, ◌≤◌, ◌<◌, ◌==◌, Bool, true, false, cond, length, take, drop, sym, List, [], ◌∷◌, ◌++◌, ap, ◌∙◌, arith}
+use Rattle.std.specs.Prelude.{count_by}
+use Rattle.std.specs.List.{sum_by}
+use Rattle.std.proofs.lemmas.List.{take-append-drop, take-append-le, length-take-le}
+use Rattle.std.proofs.lemmas.List.Sums.{sum_by-append}
+use Rattle.std.proofs.lemmas.Bool.Decides.{nat_tests}
+use Rattle.machine_law.specs.declared.tags.Tag.{Tag}
+use Rattle.std.proofs.Common.{set, get_or, zero, suc, refl}
+use Rattle.std.proofs.lemmas.List.{get_or-set_same, get_or-set_other}
+use native.Mathlib.Decide.{ℕ_discrete}
+use Rattle.hub_core.specs.Journal.{calls_of, AreCounted}
+
+same_session : (session : ℕ) → (session == session) ≡ true
+same_session session = grind (arith, nat_tests)
+
+other_session : (session other : ℕ) → session ≢ other → (other == session) ≡ false
+other_session session other apart = grind (arith, nat_tests)
+
+module _ {E : Type 0} where
+  count_push : (p : E → Bool) (xs : List E) (e : E) → p e ≡ true → count_by p (xs ++ e ∷ []) ≡ count_by p xs + 1
+  count_push p xs e h =
+      let weight : E → ℕ = λ x. cond (p x) 1 0 in
+      sum_by-append weight xs (e ∷ []) ∙ ap (λ (b : Bool). sum_by weight xs + (0 + cond b 1 0)) h
+
+  pub calls_push : (tag_of : E → Tag) (xs : List E) (e : E) (tag : Tag) → tag_of e ≡ tag → calls_of tag_of tag.session (xs ++ e ∷ []) ≡ calls_of tag_of tag.session xs + 1
+  calls_push tag_of xs e tag is = count_push (λ x. (tag_of x).session == tag.session) xs e (ap (λ (t : Tag). t.session == tag.session) is ∙ same_session tag.session)
+
+  pub calls_other : (tag_of : E → Tag) (xs : List E) (e : E) (tag : Tag) (session : ℕ) → tag_of e ≡ tag → session ≢ tag.session → calls_of tag_of session (xs ++ e ∷ []) ≡ calls_of tag_of session xs
+  calls_other tag_of xs e tag session is apart =
+      let weight : E → ℕ = λ x. cond ((tag_of x).session == session) 1 0 in
+      let none : ((tag_of e).session == session) ≡ false = ap (λ (t : Tag). t.session == session) is ∙ other_session session tag.session apart in
+      let one : sum_by weight (e ∷ []) ≡ 0 = ap (λ (b : Bool). 0 + cond b 1 0) none in
+      omega (arith, sum_by-append weight xs (e ∷ []), one)
+
+  -- a beginning has no more
+  count_take : (p : E → Bool) (n : ℕ) (xs : List E) → count_by p (take n xs) ≤ count_by p xs
+  count_take p n xs =
+      let weight : E → ℕ = λ x. cond (p x) 1 0 in
+      omega (arith, sum_by-append weight (take n xs) (drop n xs), ap (sum_by weight) (take-append-drop n xs))
+
+  -- a longer beginning has no fewer
+  pub calls_between : (tag_of : E → Tag) (session n m : ℕ) (xs : List E) → n ≤ m → m ≤ length xs
+      → calls_of tag_of session (take n xs) ≡ calls_of tag_of session xs → calls_of tag_of session (take m xs) ≡ calls_of tag_of session xs
+  calls_between tag_of session n m xs le within all =
+      let p : E → Bool = λ x. (tag_of x).session == session in
+      let short : take n (take m xs) ≡ take n xs = sym (take-append-le n (take m xs) (drop m xs) (omega (arith, length-take-le m xs within))) ∙ ap (take n) (take-append-drop m xs) in
+      omega (arith, count_take p m xs, count_take p n (take m xs), ap (count_by p) short, all)
+
+  -- the count of an entry's session is raised with it
+  pub counted_push : (tag_of : E → Tag) (counts : List ℕ) (xs : List E) (e : E) (tag : Tag) → AreCounted tag_of counts xs → tag_of e ≡ tag → tag.session < length counts
+      → tag.call ≡ calls_of tag_of tag.session xs + 1 → AreCounted tag_of (set counts tag.session tag.call) (xs ++ e ∷ [])
+  counted_push tag_of counts xs e tag counted is there next session = go (ℕ_discrete session tag.session) where
+    go : Dec (session ≡ tag.session) → get_or (set counts tag.session tag.call) session 0 ≡ calls_of tag_of session (xs ++ e ∷ [])
+    go (yes same) = rw same (get_or-set_same counts tag.session tag.call 0 there ∙ (next ∙ sym (calls_push tag_of xs e tag is)))
+    go (no apart) = get_or-set_other counts tag.session session tag.call 0 apart ∙ (counted session ∙ sym (calls_other tag_of xs e tag session is apart))
+
+-- a place more changes no count
+pub place_more : (counts : List ℕ) (session : ℕ) → get_or (counts ++ 0 ∷ []) session 0 ≡ get_or counts session 0
+place_more [] zero = refl
+place_more [] (suc session) = refl
+place_more (x ∷ counts) zero = refl
+place_more (x ∷ counts) (suc session) = place_more counts session

@@ -1,0 +1,40 @@
+-- The journal of a machine: the list of its entries, and the calls that it has of each session.
+use Rattle.std.specs.Prelude.{◌≡◌, ℕ, ◌+◌, ◌==◌, Bool, true, ◌&&◌, List, [], ◌∷◌, ◌++◌, Option, Some, None, count_by, length, slice_index_or}
+use mathlib.Core.List.{IsPrefix}
+use Rattle.machine_law.specs.declared.tags.Tag.{Tag}
+use Rattle.machine_law.specs.Rules.{Rules, replay, is_legal}
+
+module _ {E : Type 0} (tag_of : E → Tag) where
+  -- how many entries the session has
+  abbrev pub calls_of : ℕ → List E → ℕ
+  calls_of session entries = count_by (λ e. (tag_of e).session == session) entries
+
+  -- the calls of each session are numbered 1, 2, 3 and so on, in order, those of before among them
+  abbrev pub is_numbered : List E → List E → Bool
+  is_numbered before [] = true
+  is_numbered before (e ∷ es) = ((tag_of e).call == calls_of (tag_of e).session before + 1) && is_numbered (before ++ e ∷ []) es
+
+  -- for each session the number of its entries, and 0 for those that have no place in the list
+  abbrev pub AreCounted : List ℕ → List E → Type 0
+  AreCounted counts entries = (session : ℕ) → slice_index_or counts session 0 ≡ calls_of session entries
+
+-- the entries with one more at their end, if there is one
+abbrev pub extended : {E : Type 0} → List E → Option E → List E
+extended entries None = entries
+extended entries (Some e) = entries ++ e ∷ []
+
+-- the place that the entry gets behind these, if there is one
+abbrev pub place_of : {E : Type 0} → List E → Option E → Option ℕ
+place_of entries None = None
+place_of entries (Some e) = Some (length entries)
+
+module _ {S C Q P E K : Type 0} (rules : Rules S C Q P E K) where
+  -- what holds of each journal of the machine
+  pub record IsJournal (entries : List E) : Type 0 where
+    pub legal : is_legal rules entries ≡ true
+    pub numbered : is_numbered rules.tag_of [] entries ≡ true
+    pub consistent : rules.consistent (replay rules entries)
+
+  -- the plan was made for some command, after a beginning of these entries
+  abbrev pub IsMadeBefore : P → List E → Type 0
+  IsMadeBefore plan entries = (made : List E) × (command : C) × IsPrefix made entries × rules.planned (replay rules made) command plan

@@ -1,0 +1,5 @@
+pub mod Journal
+pub mod Paths
+pub mod Core
+pub mod Sound
+pub mod Stages

@@ -1,0 +1,189 @@
+ghost use Rattle.std.specs.Prelude.{◌≡◌, ◌+◌, ◌<◌, ℕ, true, [], ◌∷◌, ◌++◌, length, IfOk, OnOk, OnErr, IfSome, MatchOption, List, slice_index_or};
+ghost use mathlib.Core.List.{IsPrefix};
+ghost use Rattle.machine_law.specs.Rules.{replay, Later, IsForeseen};
+ghost use Rattle.hub_core.specs.Journal.{calls_of, IsJournal, IsMadeBefore};
+ghost use Rattle.hub_core.specs.Paths.{MatchPath, IsPath, IsDone};
+
+use crate::dones::{Done, Path};
+use crate::outlets::Outlet;
+use machine_law::{Machine, Settled, Tag};
+use osm_base::{Memory, Steps};
+use std::alloc::Global;
+use std::marker::Model;
+use std::sync::ledger::Ledger;
+
+/// A journal, and the world after it. Contracts see the list of entries.
+#[derive(Drop)]
+pub struct Book<M: Machine> {
+    alloc: Global,
+    journal: Vec<M::Entry>,
+    /// The number of entries of each session. A session that has none may have no place.
+    calls: Vec<u64>,
+    world: M::World,
+}
+
+impl<M: Machine> Model for Book<M> {
+    ghost use Rattle.std.specs.Prelude.{◌≡◌, List};
+    ghost use Rattle.machine_law.specs.Rules.{replay};
+    ghost use Rattle.hub_core.specs.Journal.{IsJournal, AreCounted};
+
+    ghost Value = { List M.Entry };
+
+    ghost view = { λ b. b.journal.items };
+
+    ghost invariant = { λ b. (M.state b.world ≡ replay M.rules b.journal.items) × IsJournal M.rules b.journal.items × AreCounted M.rules.tag_of b.calls.items b.journal.items };
+}
+
+impl<M: Machine> Book<M> {
+    /// An empty journal. It takes no memory.
+    pub fn new(alloc: Global) -> Book<M>
+        ensures { result ≡ [] }
+    {
+        Book {
+            alloc,
+            journal: Vec::new(alloc),
+            calls: Vec::new(alloc),
+            world: M::empty(alloc),
+        }
+    }
+
+    /// The entries, in the order of their commits.
+    pub fn journal(&self) -> &[M::Entry]
+        ensures journal { result.now ≡ self.now }
+        ensures kept { IsJournal M.rules self.now }
+    {
+        self.journal.as_slice()
+    }
+
+    /// The journal alone.
+    pub fn into_journal(self) -> Vec<M::Entry>
+        ensures journal { result.items ≡ self }
+        ensures kept { IsJournal M.rules self }
+    {
+        let Book {
+            alloc: _,
+            journal,
+            calls: _,
+            world: _,
+        } = self;
+        journal
+    }
+
+    /// The world after the journal.
+    pub fn world(&self) -> &M::World
+        ensures world { M.state result.now ≡ replay M.rules self.now }
+        ensures kept { IsJournal M.rules self.now }
+    {
+        &self.world
+    }
+
+    /// The number of the journal's entries with this session, in constant time.
+    pub fn calls(&self, session: u32) -> u64
+        ensures { result ≡ calls_of M.rules.tag_of session self.now }
+    {
+        let session = session as usize;
+        if session < self.calls.len() {
+            self.calls[session]
+        } else {
+            0
+        }
+    }
+
+    // Puts an entry at the end, and offers it. It returns its place.
+    fn append<O: Outlet<M::Entry>>(
+        &mut self,
+        entry: M::Entry,
+        tag: Tag,
+        outlet: &mut O,
+    ) -> Result<u64, Memory>
+        requires taken { M.rules.takes (replay M.rules self.old) entry ≡ true }
+        requires tagged { M.rules.tag_of entry ≡ tag }
+        requires next { tag.call ≡ calls_of M.rules.tag_of tag.session self.old + 1 }
+        requires welcome { O.welcomes outlet.old entry }
+        ensures ok { IfOk result (λ place. (self.new ≡ self.old ++ entry ∷ []) × (place ≡ length self.old) × O.offered outlet.old entry outlet.new) }
+        ensures err { OnErr result ((self.new ≡ self.old) × O.kept outlet.old outlet.new) }
+    {
+        let session = tag.session as usize;
+        let kept = M::copy(self.alloc, &entry)?;
+        let offered = M::copy(self.alloc, &entry)?;
+        self.journal.reserve(1)?;
+        make_place(&mut self.calls, session)?;
+        M::make_room(self.alloc, &mut self.world, &entry)?;
+        let place = self.journal.len() as u64;
+        outlet.offer(offered)?;
+        M::apply(&mut self.world, entry);
+        self.journal.push_reserved(kept);
+        self.calls[session] = tag.call;
+        Ok(place)
+    }
+
+    /// Settles a plan at the end of the journal, as the session's next call at that moment. All
+    /// memory is taken first: `Memory`, the only error, leaves the book and the outlet.
+    pub fn commit<O: Outlet<M::Entry>, L: Ledger>(
+        &mut self,
+        plan: M::Plan,
+        moment: u64,
+        tag: Tag,
+        outlet: &mut O,
+        steps: &mut Steps<L>,
+    ) -> Result<Done<M::Look>, Memory>
+        requires made { IsMadeBefore M.rules plan self.old }
+        requires next { tag.call ≡ calls_of M.rules.tag_of tag.session self.old + 1 }
+        requires welcome { (entry : M.Entry) → M.rules.takes (replay M.rules self.old) entry ≡ true → O.welcomes outlet.old entry }
+        ensures acts { (made : List M.Entry) (command : M.Command) → IsPrefix made self.old → M.rules.planned (replay M.rules made) command plan → IfOk result (λ done. IsDone (M.rules.act (replay M.rules self.old) tag moment command) self.old self.new done.answer done.place) }
+        ensures offers { IfOk result (λ done. MatchOption done.place ((self.new ≡ self.old) × (outlet.new ≡ outlet.old)) (λ place. (entry : M.Entry) × (self.new ≡ self.old ++ entry ∷ []) × (M.rules.tag_of entry ≡ tag) × O.offered outlet.old entry outlet.new)) }
+        ensures path { IfOk result (λ done. IsPath M.rules plan (replay M.rules self.old) done.path) }
+        ensures fast { IfOk result (λ done. MatchPath done.path (steps.new ≡ steps.old) (λ look. Unit {0})) }
+        ensures err { OnErr result ((self.new ≡ self.old) × O.kept outlet.old outlet.new) }
+    {
+        let (settled, path) = judge::<M, L>(self.alloc, &self.world, &plan, tag, moment, steps)?;
+        let Settled { answer, entry } = settled;
+        let place = match entry {
+            Some(entry) => Some(self.append(entry, tag, outlet)?),
+            None => None,
+        };
+        Ok(Done {
+            answer,
+            place,
+            path,
+        })
+    }
+}
+
+// Gives a session a place among the counts.
+fn make_place(calls: &mut Vec<u64>, session: usize) -> Result<(), Memory>
+    ensures same { (other : ℕ) → slice_index_or calls.new.items other 0 ≡ slice_index_or calls.old.items other 0 }
+    ensures there { OnOk result (session < length calls.new.items) }
+{
+    while calls.len() <= session {
+        calls.push(0)?;
+    }
+    Ok(())
+}
+
+// Settles a plan that stands, and checks its command again otherwise.
+fn judge<M: Machine, L: Ledger>(
+    alloc: Global,
+    world: &M::World,
+    plan: &M::Plan,
+    tag: Tag,
+    moment: u64,
+    steps: &mut Steps<L>,
+) -> Result<(Settled<M::Entry>, Path<M::Look>), Memory>
+    requires { IsForeseen M.rules plan.now (M.state world.now) }
+    ensures acts { (begun : M.State) (command : M.Command) → M.rules.planned begun command plan.now → Later M.rules begun (M.state world.now) → IfOk result (λ r. r.0 ≡ M.rules.act (M.state world.now) tag moment command) }
+    ensures entry { IfOk result (λ r. IfSome r.0.entry (λ e. (M.rules.takes (M.state world.now) e ≡ true) × (M.rules.tag_of e ≡ tag))) }
+    ensures path { IfOk result (λ r. IsPath M.rules plan.now (M.state world.now) r.1) }
+    ensures fast { IfOk result (λ r. MatchPath r.1 (steps.new ≡ steps.old) (λ look. Unit {0})) }
+{
+    match M::still(world, plan) {
+        Ok(()) => {
+            let settled = M::settle(alloc, world, plan, tag, moment, steps)?;
+            Ok((settled, Path::Fast))
+        }
+        Err(look) => {
+            let settled = M::again(alloc, world, plan, tag, moment, steps)?;
+            Ok((settled, Path::Slow(look)))
+        }
+    }
+}

@@ -1,0 +1,17 @@
+//! The journal of a machine beside the world after it, commits to it, and what any list of events
+//! of its sessions gives.
+#![tactic(auto)]
+
+mod books;
+mod dones;
+mod events;
+mod law;
+mod outlets;
+mod running;
+
+pub use books::Book;
+pub use dones::{Done, Path};
+pub use events::{Event, Seen};
+pub use law::core_law;
+pub use outlets::{NoOutlet, Outlet};
+pub use running::{Run, interleave};
