@@ -1,5 +1,5 @@
 -- What a parse of a simple command comes to.
-use Rattle.std.proofs.Common.{◌≡◌, ◌⊎◌, ◌∙◌, ap, sym, refl, inl, inr, List, [], ◌∷◌, Option, Some, None, Err}
+use Rattle.std.proofs.Common.{◌≡◌, ◌⊎◌, ◌∙◌, ap, sym, refl, inl, inr, List, [], ◌∷◌, Some, None, Err}
 use Rattle.clap.specs.Words.{IsAmong, Kinds, Row}
 use Rattle.clap.specs.declared.error.kind.ErrorKind.{ErrorKind}
 use Rattle.clap.specs.declared.error.kind.ErrorKind.TheVariants.{OutOfMemory}

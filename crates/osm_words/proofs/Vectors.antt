@@ -1,5 +1,5 @@
 -- Worked words: both forms of an option, each refusal.
-use Rattle.std.proofs.Common.{◌≡◌, ℕ, List, [], ◌∷◌, Some, None, codes, refl}
+use Rattle.std.proofs.Common.{◌≡◌, ℕ, [], ◌∷◌, Some, None, codes, refl}
 use Rattle.clap.proofs.OnLiterals.{clap_on_literals}
 use Rattle.osm_words.specs.declared.words.Load.{Load}
 use Rattle.osm_words.specs.Words.{reading_of, pipe, measure, export, replay}
