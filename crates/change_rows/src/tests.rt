@@ -2,7 +2,7 @@ ghost use Rattle.std.specs.Prelude.{IfOk};
 ghost use Rattle.osm_change.specs.Build.{HasContent, IsRawOp, IsRaw};
 
 use diff_result::rows;
-use osm_base::{Items, Kind};
+use osm_base::{Items, Kind, Text, TryCopy};
 use osm_change::{Action, Change, DiffRows, FirstIds, OneOp, OpDone, RawOp};
 use osm_element::{RawContent, Tags};
 use std::alloc::Global;
@@ -110,5 +110,49 @@ fn one_operation_is_told_from_six(rt: HostRuntime) -> Result<(), Fail> {
         return Err("one isn't one".into());
     };
     assert_eq!(rt; one.into_change().len(), 1);
+    Ok(())
+}
+
+/// A node that is created with one tag.
+fn tagged(alloc: Global) -> Result<RawOp, Fail>
+    ensures { IfOk result IsRawOp }
+{
+    let pair = (Text::of(alloc, "a")?, Text::of(alloc, "b")?);
+    let Some(tags) = Tags::of(alloc, &[pair])? else {
+        return Err("no tags".into());
+    };
+    Ok(RawOp {
+        action: Action::Create,
+        kind: Kind::Node,
+        id: -1,
+        version: None,
+        changeset: None,
+        content: content(Action::Create),
+        tags,
+    })
+}
+
+/// A copy says what the change says; a key and its value stand in one text.
+#[test]
+fn a_single_change_and_its_copy(rt: HostRuntime) -> Result<(), Fail> {
+    let alloc = rt.alloc();
+    let raw = vec![in alloc; tagged(alloc)?]?;
+    let Ok(one) = OneOp::of(Change::build(alloc, 1, raw)?) else {
+        return Err("one isn't one".into());
+    };
+    let copy = one.copy(alloc)?;
+    let (change, copied) = (one.change(), copy.change());
+    let wanted = format!(in alloc; "{change:?}")?;
+    let came = format!(in alloc; "{copied:?}")?;
+    assert_eq!(rt; came.as_str(), wanted.as_str());
+    for part in [
+        "Create",
+        "Node",
+        "placeholder: -1",
+        "lat7: 5, lon7: 6",
+        "\"ab\"",
+    ] {
+        assert!(rt; came.as_str().contains(part), "{part} in {came}");
+    }
     Ok(())
 }

@@ -1,5 +1,8 @@
-//! Positions, boxes and stamps at values that were worked out by hand.
-use osm_base::{Box7, Coord, Stamp};
+//! Values that changes are made of: positions, boxes, stamps and tags, at values that were worked
+//! out by hand.
+use osm_base::{Box7, Coord, Memory, Stamp, Text};
+use osm_element::Tags;
+use std::alloc::Global;
 use std::test::Fail;
 
 #[test]
@@ -30,4 +33,25 @@ fn stamps(rt: HostRuntime) {
         Stamp::after(Stamp(5), 18_446_744_073_709_551_615),
         Stamp(253_000_000_000)
     );
+}
+
+fn pair(alloc: Global, key: &str) -> Result<(Text, Text), Memory> {
+    Ok((Text::of(alloc, key)?, Text::of(alloc, "x")?))
+}
+
+/// Tags with these keys in this order, where they may be.
+fn tags(alloc: Global, keys: [&str; 2]) -> Result<Option<Tags>, Memory> {
+    let mut pairs = Vec::new(alloc);
+    for key in keys {
+        pairs.push(pair(alloc, key)?)?;
+    }
+    Tags::of(alloc, pairs.as_slice())
+}
+
+#[test]
+fn keys_of_tags_rise(rt: HostRuntime) -> Result<(), Fail> {
+    assert!(rt; tags(rt.alloc(), ["a", "b"])?.is_some());
+    assert!(rt; tags(rt.alloc(), ["b", "a"])?.is_none());
+    assert!(rt; tags(rt.alloc(), ["a", "a"])?.is_none());
+    Ok(())
 }

@@ -1,6 +1,0 @@
-//! What the rules are meant to say where no request asks for it yet.
-
-mod bodies;
-mod redactions;
-mod values;
-mod vectors;
