@@ -84,6 +84,13 @@ impl Bytes {
         Bytes { bytes }
     }
 
+    /// The bytes as a vector, without a copy.
+    pub fn into_vec(self) -> Vec<u8>
+        ensures { result.items ≡ self }
+    {
+        self.bytes
+    }
+
     /// The bytes, lent.
     pub fn as_slice(&self) -> &[u8]
         ensures { result.now ≡ self.now }
