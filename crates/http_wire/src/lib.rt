@@ -22,5 +22,5 @@ pub use law::{
     no_end_at_a_message, no_read_at_a_message, one_end, one_message, one_reading, some_reading,
 };
 pub use message::Message;
-pub use reply::write_reply;
+pub use reply::{write_all, write_reply};
 pub use wire::Wire;

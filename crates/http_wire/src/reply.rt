@@ -69,8 +69,8 @@ fn reply_head(status: u16, size: usize, close: bool) -> ArrayVec<u8, PIECE_ROOM>
     head
 }
 
-/// Writes all the bytes.
-fn write_all<S: Sink>(sink: &mut S, bytes: &[u8]) -> Result<(), Failed>
+/// Writes all the bytes. At a fault a beginning of them was written.
+pub fn write_all<S: Sink>(sink: &mut S, bytes: &[u8]) -> Result<(), Failed>
     ensures writes { Writes (S.told sink.old) (S.told sink.new) bytes.now result }
     ensures failed { IsErr result → Rose (S.told sink.old).write_faults (S.told sink.new).write_faults }
 {
