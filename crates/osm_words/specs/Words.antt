@@ -1,5 +1,5 @@
 -- How the words of the command line are read.
-use Rattle.std.specs.Prelude.{◌≡◌, ⊤, ℕ, Bool, List, ◌∷◌, codes, Option, Some, None, Result, Ok, Err, if◌then◌else◌}
+use Rattle.std.specs.Prelude.{◌≡◌, ◌<◌, ◌≤◌, ⊤, ℕ, Bool, List, ◌∷◌, codes, Option, Some, None, Result, Ok, Err, if◌then◌else◌}
 use Rattle.std.specs.Option.{option_map, option_and_then}
 use Rattle.std.specs.List.{list_any}
 use Rattle.std.specs.Str.{bytes_eq}
@@ -94,3 +94,14 @@ abbrev pub GivesLoad : Option Load → Result Load WordsFault → Type 0
 GivesLoad expected (Ok load) = expected ≡ Some load
 GivesLoad expected (Err NoReading) = expected ≡ None
 GivesLoad expected (Err Memory) = ⊤
+
+-- A load has a session at least, and no more than there may be.
+pub record HasSessions (load : Load) : Type 0 where
+  pub some : 0 < load.sessions
+  pub few : load.sessions ≤ SESSION_LIMIT
+
+-- the same of the load that is asked for, where one is
+abbrev pub HaveSessions : Words → Type 0
+HaveSessions (Measure load) = HasSessions load
+HaveSessions (Export load) = HasSessions load
+HaveSessions other = ⊤

@@ -1,8 +1,8 @@
 //! The options in what `clap` found.
-ghost use Rattle.std.specs.Prelude.{◌≡◌, option_map, option_and_then, codes};
+ghost use Rattle.std.specs.Prelude.{◌≡◌, ◌≤◌, IfSome, option_map, option_and_then, codes};
 ghost use Rattle.clap.specs.Words.{first_of, found_of, rows_of};
 ghost use Rattle.osm_words.specs.Values.{path_of, number_of, number_in};
-ghost use Rattle.osm_words.specs.Words.{shown, pipe_of, load_of};
+ghost use Rattle.osm_words.specs.Words.{HasSessions, HaveSessions, shown, pipe_of, load_of};
 
 use crate::values::{checked, fitting, is_path, number_of};
 use crate::words::{Load, UPLOAD_LIMIT, Words};
@@ -22,7 +22,9 @@ fn number_at(matches: &ArgMatches<'_>, name: &str) -> Option<u64>
 }
 
 fn number_in(matches: &ArgMatches<'_>, name: &str, least: u32, most: u32) -> Option<u32>
-    ensures { result ≡ option_and_then (number_in least most) (first_of name.now (rows_of (found_of matches.now))) }
+    ensures value { result ≡ option_and_then (number_in least most) (first_of name.now (rows_of (found_of matches.now))) }
+    ensures least { IfSome result (λ made. least ≤ made) }
+    ensures most { IfSome result (λ made. made ≤ most) }
 {
     checked(number_at(matches, name)?, least, most)
 }
@@ -37,7 +39,8 @@ fn path_of<'a>(matches: &ArgMatches<'a>) -> Option<&'a str>
 
 /// What `pipe` is to do.
 pub fn pipe_of<'a>(matches: &ArgMatches<'a>) -> Option<Words<'a>>
-    ensures { option_map shown result ≡ pipe_of (rows_of (found_of matches.now)) }
+    ensures value { option_map shown result ≡ pipe_of (rows_of (found_of matches.now)) }
+    ensures sessions { IfSome result HaveSessions }
 {
     let users = path_of(matches)?;
     let at = match value_of(matches, "at") {
@@ -49,7 +52,8 @@ pub fn pipe_of<'a>(matches: &ArgMatches<'a>) -> Option<Words<'a>>
 
 /// The load that is asked for.
 pub fn load_of(matches: &ArgMatches<'_>) -> Option<Load>
-    ensures { result ≡ load_of (rows_of (found_of matches.now)) }
+    ensures value { result ≡ load_of (rows_of (found_of matches.now)) }
+    ensures sessions { IfSome result HasSessions }
 {
     let seed = number_at(matches, "seed")?;
     let sessions = number_in(matches, "sessions", 1, SESSION_LIMIT)?;

@@ -1,6 +1,6 @@
 //! Reading the words.
-ghost use Rattle.std.specs.Prelude.{◌≡◌, map, string_bytes};
-ghost use Rattle.osm_words.specs.Words.{Gives, GivesLoad, reading_of, command_reading, pipe_reading, load_reading, replay_reading, has_end_mark};
+ghost use Rattle.std.specs.Prelude.{◌≡◌, IfOk, map, string_bytes};
+ghost use Rattle.osm_words.specs.Words.{Gives, GivesLoad, HasSessions, HaveSessions, reading_of, command_reading, pipe_reading, load_reading, replay_reading, has_end_mark};
 
 use crate::commands::{find, load, pipe, plain};
 use crate::matches::{load_of, pipe_of};
@@ -8,21 +8,24 @@ use crate::words::{Load, Words, WordsFault};
 use std::alloc::Global;
 
 fn read_pipe<'a>(alloc: Global, words: &'a [String]) -> Result<Words<'a>, WordsFault>
-    ensures { Gives (pipe_reading (map string_bytes words.entry.now)) result }
+    ensures gives { Gives (pipe_reading (map string_bytes words.entry.now)) result }
+    ensures sessions { IfOk result HaveSessions }
 {
     let matches = find(pipe(alloc)?, words)?;
     pipe_of(&matches).ok_or(WordsFault::NoReading)
 }
 
 fn read_load<'a>(alloc: Global, name: &'a str, words: &'a [String]) -> Result<Load, WordsFault>
-    ensures { GivesLoad (load_reading name.entry.now (map string_bytes words.entry.now)) result }
+    ensures gives { GivesLoad (load_reading name.entry.now (map string_bytes words.entry.now)) result }
+    ensures sessions { IfOk result HasSessions }
 {
     let matches = find(load(alloc, name)?, words)?;
     load_of(&matches).ok_or(WordsFault::NoReading)
 }
 
 fn read_replay<'a>(alloc: Global, words: &'a [String]) -> Result<Words<'a>, WordsFault>
-    ensures { Gives (replay_reading (map string_bytes words.entry.now)) result }
+    ensures gives { Gives (replay_reading (map string_bytes words.entry.now)) result }
+    ensures sessions { IfOk result HaveSessions }
 {
     let _matches = find(plain(alloc, "replay"), words)?;
     Ok(Words::Replay)
@@ -30,7 +33,8 @@ fn read_replay<'a>(alloc: Global, words: &'a [String]) -> Result<Words<'a>, Word
 
 /// The words from the command's name on.
 fn read_command<'a>(alloc: Global, name: &str, words: &'a [String]) -> Result<Words<'a>, WordsFault>
-    ensures { Gives (command_reading name.now (map string_bytes words.entry.now)) result }
+    ensures gives { Gives (command_reading name.now (map string_bytes words.entry.now)) result }
+    ensures sessions { IfOk result HaveSessions }
 {
     if name == "pipe" {
         read_pipe(alloc, words)
@@ -59,7 +63,8 @@ fn has_end_mark(words: &[String]) -> bool
 /// from 1 to 64, and `uploads`, at most 909 for each session. `replay` has no options. Numbers are
 /// digits alone, below 2^64. All other words have no reading.
 pub fn read_words<'a>(alloc: Global, words: &'a [String]) -> Result<Words<'a>, WordsFault>
-    ensures { Gives (reading_of (map string_bytes words.entry.now)) result }
+    ensures gives { Gives (reading_of (map string_bytes words.entry.now)) result }
+    ensures sessions { IfOk result HaveSessions }
 {
     if has_end_mark(words) {
         return Err(WordsFault::NoReading);

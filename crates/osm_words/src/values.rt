@@ -1,5 +1,5 @@
 //! The values of options.
-ghost use Rattle.std.specs.Prelude.{◌≡◌, true};
+ghost use Rattle.std.specs.Prelude.{◌≡◌, ◌≤◌, true, IfSome};
 ghost use Rattle.std.specs.List.{list_all};
 ghost use Rattle.std.specs.Char.{is_ascii_digit};
 ghost use Rattle.osm_words.specs.Values.{is_path, is_digits, number_of, checked, fitting};
@@ -51,7 +51,9 @@ fn parsed(text: &str) -> Option<u64>
 
 /// The number, where it lies from the least to the most.
 pub fn checked(number: u64, least: u32, most: u32) -> Option<u32>
-    ensures { result ≡ checked least most number }
+    ensures value { result ≡ checked least most number }
+    ensures least { IfSome result (λ made. least ≤ made) }
+    ensures most { IfSome result (λ made. made ≤ most) }
 {
     if u64::from(least) <= number && number <= u64::from(most) {
         Some(number as u32)
@@ -62,7 +64,8 @@ pub fn checked(number: u64, least: u32, most: u32) -> Option<u32>
 
 /// The load, where none of its changesets is filled.
 pub fn fitting(seed: u64, sessions: u32, uploads: u32) -> Option<Load>
-    ensures { result ≡ fitting seed sessions uploads }
+    ensures value { result ≡ fitting seed sessions uploads }
+    ensures sessions { IfSome result (λ load. load.sessions ≡ sessions) }
 {
     if u64::from(uploads) <= u64::from(UPLOADS_A_SESSION) * u64::from(sessions) {
         Some(Load {

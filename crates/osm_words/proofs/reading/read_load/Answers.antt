@@ -10,10 +10,10 @@ made : (expected made_of : Option Load) → expected ≡ made_of → GivesLoad e
 made expected None same = same
 made expected (Some load) same = same
 
-pub returns : goal.returns
-returns c =
+pub returns-clause-gives : goal.returns-clause-gives
+returns-clause-gives c =
     let words = map string_bytes c.args.words.now in
     rw c.ok_or.ensures.value
     (made _ c.load_of.result
     (ap (λ app. option_and_then load_of (found app words)) (sym c.in_ok-load.ensures)
-    ∙ ap (option_and_then load_of) c.in_ok-matches.ensures ∙ sym c.load_of.ensures))
+    ∙ ap (option_and_then load_of) c.in_ok-matches.ensures ∙ sym c.load_of.ensures.value))

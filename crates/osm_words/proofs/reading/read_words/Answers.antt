@@ -25,17 +25,17 @@ module _ {X : Type 0} (text : X → Text) where
       (take_all (length (program ∷ given ∷ options) - 1) (given ∷ options) (omega arith))
       ∙ ap (λ (word : X). command_reading (text word) (map text (given ∷ options))) is
 
-pub returns-in_default : goal.returns-in_default
-returns-in_default c =
+pub returns-in_default-clause-gives : goal.returns-in_default-clause-gives
+returns-in_default-clause-gives c =
     unmarked _ (named_reading (map string_bytes c.args.words.now)) c.if-has_end_mark.ensures
     ∙ short string_bytes c.args.words.now c.in_default.len_below
 
-pub returns-in-len2-up : goal.returns-in-len2-up
-returns-in-len2-up c =
+pub returns-in-len2-up-clause-gives : goal.returns-in-len2-up-clause-gives
+returns-in-len2-up-clause-gives c =
     let words = c.args.words.now in
     let rest = map string_bytes (take (length words - 1) (drop 1 words)) in
     let same =
     ap (λ (name : Text). command_reading name rest) c.as_str.ensures.value
     ∙ named string_bytes words c.name-item.result c.in-len2-up.len_at_least c.name-item.is
     ∙ sym (unmarked _ (named_reading (map string_bytes words)) c.if-has_end_mark.ensures) in
-    subst (λ (reading : Option Reading). Gives reading c.read_command.result) same c.read_command.ensures
+    subst (λ (reading : Option Reading). Gives reading c.read_command.result) same c.read_command.ensures.gives
