@@ -1,6 +1,6 @@
+use history_store::Store;
 use load_summary::{Figures, Run, figures_of, replay_summary, summary};
 use osm_base::Coord;
-use osm_element::Elements;
 use std::test::Fail;
 use user_table::{UserTable, Who};
 use workload::{Load, requests, users_text};
@@ -52,7 +52,7 @@ fn the_last_user_is_known(rt: HostRuntime) -> Result<(), Fail> {
 
 #[test]
 fn nothing_is_replayed(rt: HostRuntime) -> Result<(), Fail> {
-    let figures = figures_of(&Elements::empty(rt.alloc()), 0);
+    let figures = figures_of(&Store::new(rt.alloc()), 0);
     let text = replay_summary(rt.alloc(), &figures)?;
     let expected = "entries 0\nnodes 0\nways 0\nrelations 0\nfirst none\n";
     assert_eq!(rt; text.as_str(), expected);

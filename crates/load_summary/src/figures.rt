@@ -1,9 +1,10 @@
 //! The numbers of a journal and of the map that it makes.
 ghost use Rattle.std.specs.Prelude.{◌≡◌};
+ghost use Rattle.osm_element.specs.Elements.{is_visible};
 ghost use Rattle.load_summary.specs.Figures.{visible_count, figures_of};
 
+use history_store::Store;
 use osm_base::{Coord, Key, Kind};
-use osm_element::Elements;
 
 /// The numbers of a journal and of its map. Elements count where they are visible.
 #[derive(Clone, Copy, Debug, PartialEq, Eq)]
@@ -28,8 +29,8 @@ pub struct Run {
 }
 
 /// The figures of the elements that so many entries made. It looks at every element once.
-pub fn figures_of(elements: &Elements, entries: u64) -> Figures
-    ensures { result ≡ figures_of elements.now entries }
+pub fn figures_of(store: &Store, entries: u64) -> Figures
+    ensures { result ≡ figures_of store.now.elements entries }
 {
     let first_node = Key {
         kind: Kind::Node,
@@ -37,25 +38,34 @@ pub fn figures_of(elements: &Elements, entries: u64) -> Figures
     };
     Figures {
         entries,
-        nodes: visible_count(elements, Kind::Node),
-        ways: visible_count(elements, Kind::Way),
-        relations: visible_count(elements, Kind::Relation),
-        first: elements.position(first_node),
+        nodes: visible_count(store, Kind::Node),
+        ways: visible_count(store, Kind::Way),
+        relations: visible_count(store, Kind::Relation),
+        first: store.place_of(first_node),
     }
 }
 
-fn visible_count(elements: &Elements, kind: Kind) -> u64
-    ensures { result ≡ visible_count elements.now kind }
+fn visible_count(store: &Store, kind: Kind) -> u64
+    ensures { result ≡ visible_count store.now.elements kind }
 {
     let mut count = 0u64;
-    for place in 0..elements.histories(kind).len() {
+    for place in 0..store.next_id(kind) - 1 {
         let key = Key {
             kind,
-            id: place as u64 + 1,
+            id: place + 1,
         };
-        if elements.is_visible(key) {
+        if is_visible(store, key) {
             count += 1;
         }
     }
     count
+}
+
+fn is_visible(store: &Store, key: Key) -> bool
+    ensures { result ≡ is_visible store.now.elements key }
+{
+    match store.current(key) {
+        Some(version) => version.content.is_some(),
+        None => false,
+    }
 }

@@ -4,4 +4,4 @@ use Rattle.osm_element.specs.Elements.{keys_to, is_visible}
 use Rattle.load_summary.proofs.figures.visible_count.Given as goal
 
 abbrev pub invariant-loop-place : goal.invariant-loop-place
-invariant-loop-place l = l.count ≡ count_by (is_visible l.elements) (keys_to l.kind l.place)
+invariant-loop-place l = l.count ≡ count_by (is_visible l.store.elements) (keys_to l.kind l.place)
