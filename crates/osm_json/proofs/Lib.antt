@@ -1,9 +1,12 @@
+pub mod Changes
 pub mod Converted
 pub mod Documents
 pub mod Each
 pub mod Entered
 pub mod Firsts
 pub mod Gathered
+pub mod Given
+pub mod Grouped
 pub mod Latest
 pub mod Members
 pub mod Moments
@@ -12,8 +15,11 @@ pub mod Operations
 pub mod Parts
 pub mod Places
 pub mod Plain
+pub mod PlainData
+pub mod PlainParts
 pub mod Raws
 pub mod Refused
+pub mod Returned
 pub mod Rising
 pub mod Scalars
 pub mod Sights
@@ -21,3 +27,4 @@ pub mod Texts
 pub mod Tokens
 pub mod Turns
 pub mod Walks
+pub mod WrittenOps

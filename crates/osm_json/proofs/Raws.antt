@@ -218,7 +218,7 @@ from_is n [] ops e = subst (All IsRawOp) (ok [] ops e) (All-nil IsRawOp)
 from_is n (step ∷ more) ops e =
     read_more n (operation_of step.0 step.1) (operations_from (n + 1) more) ops (operation_is step.0 step.1) (λ rest r. from_is (n + 1) more rest r) e
 
-in_is : (blocks : Option (List Block)) (ops : List RawOp) → operations_in blocks ≡ Ok ops → All IsRawOp ops
+pub in_is : (blocks : Option (List Block)) (ops : List RawOp) → operations_in blocks ≡ Ok ops → All IsRawOp ops
 in_is None ops e = cc
 in_is (Some blocks) ops e = from_is 1 (steps_of blocks) ops e
 

@@ -3,6 +3,7 @@ use Rattle.std.proofs.Common.{◌≡◌, List, Option, refl, sym, ap, ◌∙◌}
 use Rattle.json.specs.Token.{Token}
 use Rattle.serde_json.specs.Data.{Data, null, boolean, number, string, array, object}
 use Rattle.serde_json.specs.Find.{as_str, as_bool}
+use Rattle.osm_json.specs.Again.{natural_of}
 use Rattle.osm_json.specs.Reading.{integer_of, id_of, count_of, kind_of}
 use Rattle.osm_json.specs.Pull.{Pulls}
 use Rattle.osm_json.specs.Scalars.{flat}
@@ -37,6 +38,14 @@ flat_count (number n) = refl
 flat_count (string s) = refl
 flat_count (array ds) = refl
 flat_count (object ms) = refl
+
+pub flat_natural : IsFlat natural_of
+flat_natural null = refl
+flat_natural (boolean b) = refl
+flat_natural (number n) = refl
+flat_natural (string s) = refl
+flat_natural (array ds) = refl
+flat_natural (object ms) = refl
 
 pub flat_kind : IsFlat kind_of
 flat_kind null = refl

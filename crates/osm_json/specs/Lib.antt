@@ -1,5 +1,8 @@
+pub mod Again
 pub mod Answered
+pub mod Blocks
 pub mod Bodies
+pub mod Drawn
 pub mod Entries
 pub mod Fields
 pub mod Found
@@ -12,4 +15,5 @@ pub mod Rows
 pub mod Scalars
 pub mod Sent
 pub mod Shown
+pub mod Uploads
 pub mod Walked

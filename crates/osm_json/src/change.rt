@@ -76,7 +76,7 @@ fn whole(alloc: Global, reader: &mut Reader<'_>) -> Result<Option<Progress>, Rea
 }
 
 /// The operations, or the fault of the first that is malformed.
-fn operations(found: Option<Progress>) -> Result<Vec<RawOp>, BodyFault>
+pub(crate) fn operations(found: Option<Progress>) -> Result<Vec<RawOp>, BodyFault>
     ensures value { Gives (λ v. v.items) result (outcome (option_map sight found)) }
     ensures few { IfOk result (λ v. length v.items < 2 ^ 32) }
 {

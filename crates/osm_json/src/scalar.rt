@@ -2,6 +2,7 @@
 ghost use Rattle.std.specs.Prelude.{◌≡◌, ◌<◌, length, option_map, OnOk};
 ghost use Rattle.json.specs.Token.{begin_array, begin_object};
 ghost use Rattle.serde_json.specs.Find.{as_number, as_i64, as_u64, as_str, as_bool, as_array, as_object};
+ghost use Rattle.osm_json.specs.Again.{natural_of};
 ghost use Rattle.osm_json.specs.Reading.{◌>>=◌ as bind, integer_of, id_of, count_of, kind_of};
 ghost use Rattle.osm_json.specs.Pull.{next_data, Pulled, Enters};
 ghost use Rattle.osm_json.specs.Scalars.{scalar_view, flat};
@@ -181,6 +182,14 @@ pub(crate) fn next_integer(reader: &mut Reader<'_>, depth: usize) -> Result<Opti
 {
     let value = next_scalar(reader, depth)?;
     Ok(integer(value))
+}
+
+pub(crate) fn next_natural(reader: &mut Reader<'_>, depth: usize) -> Result<Option<u64>, ReadFault>
+    ensures value { Pulled (λ x. x) natural_of result (next_data depth reader.old) reader.new }
+    ensures shorter { OnOk result (length reader.new < length reader.old) }
+{
+    let value = next_scalar(reader, depth)?;
+    Ok(natural(value))
 }
 
 pub(crate) fn next_id(reader: &mut Reader<'_>, depth: usize) -> Result<Option<i64>, ReadFault>

@@ -50,7 +50,7 @@ pub(crate) fn name_of(kind: Kind) -> &'static str
 
 /// The value of a member, or that the member is left out.
 #[derive(Clone, Copy)]
-pub(crate) enum Shown<'a> {
+pub enum Shown<'a> {
     Absent,
     Natural(u64),
     Integer(i64),
@@ -77,7 +77,7 @@ fn member(out: &mut Writer, name: &str, value: Shown<'_>) -> Result<(), AllocErr
     }
 }
 
-pub(crate) fn members(out: &mut Writer, fields: &[(&str, Shown<'_>)]) -> Result<(), AllocError>
+pub fn members(out: &mut Writer, fields: &[(&str, Shown<'_>)]) -> Result<(), AllocError>
     ensures { SendsFields result out.old out.new (shown_fields fields.now) }
 {
     for (name, value) in fields {
@@ -87,7 +87,7 @@ pub(crate) fn members(out: &mut Writer, fields: &[(&str, Shown<'_>)]) -> Result<
 }
 
 /// An object of these members.
-pub(crate) fn record(out: &mut Writer, fields: &[(&str, Shown<'_>)]) -> Result<(), AllocError>
+pub fn record(out: &mut Writer, fields: &[(&str, Shown<'_>)]) -> Result<(), AllocError>
     ensures { Sends result out.old out.new (tokens_of (record_of (shown_fields fields.now))) }
 {
     out.begin_object()?;
