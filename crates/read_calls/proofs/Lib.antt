@@ -1,0 +1,5 @@
+mod Firsts
+mod Gathered
+mod Known
+mod Steps
+mod Visible
