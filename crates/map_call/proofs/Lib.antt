@@ -1,0 +1,4 @@
+mod Any
+mod Range
+mod Near
+mod Gathered
