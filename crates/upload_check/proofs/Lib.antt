@@ -1,0 +1,9 @@
+mod Users
+mod FirstUser
+mod Named
+mod Changed
+mod Agrees
+mod Given
+mod Entered
+mod Running
+mod Settled

@@ -1,0 +1,7 @@
+use Rattle.upload_check.proofs.Named.{nodes_added}
+use Rattle.upload_check.proofs.references.add_named.Goals as goal
+
+pub returns-in-Way : goal.returns-in-Way
+returns-in-Way c =
+    nodes_added c.add_nodes.result c.args.keys.now c.in-Way.nodes c.items.result.now c.args.content.now c.args.listed.now.items c.add_nodes.new.listed.items
+    c.items.ensures c.in-Way.is c.add_nodes.ensures

@@ -1,0 +1,6 @@
+pub mod Users
+pub mod Overlay
+pub mod Checks
+pub mod Effects
+pub mod Judged
+pub mod Asked

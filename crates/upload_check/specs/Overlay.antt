@@ -1,0 +1,99 @@
+-- What an upload has come to after some of its operations, beside the elements of before.
+use Rattle.std.specs.Prelude.{◌≡◌, ℕ, ◌<◌, ◌≤◌, Bool, false, not, ◌&&◌, List, [], length, take, slice_get, Option, Some, None, is_some, option_and_then, unwrap_or}
+use Rattle.std.specs.Map.{lookup}
+use Rattle.std.specs.Ordering.{nat_cmp}
+use Rattle.std.specs.BTreeMap.{is_at}
+use Rattle.osm_base.specs.Key.{key_eq, lists_key}
+use Rattle.osm_base.specs.declared.keys.Kind.{Kind}
+use Rattle.osm_base.specs.declared.keys.Kind.TheVariants as kind
+use Rattle.osm_base.specs.declared.keys.Key.{Key}
+use Rattle.osm_element.specs.Elements.{next_id, count, content_of, refs_in, users}
+use Rattle.osm_element.specs.declared.contents.Content.{Content}
+use Rattle.osm_element.specs.declared.elements.Elements.{Elements}
+use Rattle.osm_change.specs.declared.operations.FirstIds.{FirstIds}
+use Rattle.osm_change.specs.declared.operations.Op.{Op}
+use Rattle.osm_model.specs.declared.uploads.Progress.{Progress}
+use Rattle.osm_world.specs.Beds.{first_ids, content_of_op}
+use Rattle.upload_check.specs.declared.standings.Standing.{Standing}
+use Rattle.upload_check.specs.declared.standings.Holds.{Holds}
+use Rattle.upload_check.specs.declared.standings.Holds.TheVariants.{AsBefore, Nothing, FromOperation}
+
+-- what is noted of elements, by id
+pub record Notes : Type 0 where
+  pub nodes : List (ℕ × Standing)
+  pub ways : List (ℕ × Standing)
+  pub relations : List (ℕ × Standing)
+
+abbrev pub no_notes : Notes
+no_notes = record { nodes = []; ways = []; relations = [] }
+
+abbrev pub notes_of : Notes → Kind → List (ℕ × Standing)
+notes_of n kind.Node = n.nodes
+notes_of n kind.Way = n.ways
+notes_of n kind.Relation = n.relations
+
+abbrev pub noted : Notes → Key → Option Standing
+noted n k = lookup (is_at (nat_cmp k.id)) (notes_of n k.kind)
+
+-- the elements of the operations so far, the ids that come next, and what is noted
+pub record Overlaid : Type 0 where
+  pub keys : List Key
+  pub next : FirstIds
+  pub notes : Notes
+
+-- an overlay over the elements of before, for some operations
+pub record Sight : Type 0 where
+  pub before : Elements
+  pub operations : List Op
+  pub over : Overlaid
+
+abbrev pub sight : Elements → List Op → Overlaid → Sight
+sight E ops o = record { before = E; operations = ops; over = o }
+
+-- where an element stands before the upload
+abbrev pub standing_before : Elements → Key → Standing
+standing_before E k = record { versions = count E k; holds = AsBefore; users = length (users E k) }
+
+-- where an element stands: as before, where nothing is noted of it
+abbrev pub standing_in : Elements → Notes → Key → Standing
+standing_in E n k = unwrap_or (noted n k) (standing_before E k)
+
+abbrev pub standing : Sight → Key → Standing
+standing s k = standing_in s.before s.over.notes k
+
+-- what an element holds. An operation's content names what those before it are of
+abbrev pub content_by : Sight → Key → Holds → Option (Content ℕ)
+content_by s k AsBefore = content_of s.before k
+content_by s k Nothing = None
+content_by s k (FromOperation place) = option_and_then (content_of_op (take place s.over.keys)) (slice_get s.operations place)
+
+abbrev pub content_now : Sight → Key → Option (Content ℕ)
+content_now s k = content_by s k (standing s k).holds
+
+abbrev pub is_visible : Sight → Key → Bool
+is_visible s k = is_some (content_now s k)
+
+-- a is visible, lists b, and isn't b
+abbrev pub uses : Sight → Key → Key → Bool
+uses s a b = lists_key (refs_in (content_now s a)) b && not (key_eq a b)
+
+-- the content isn't that of a later operation
+abbrev pub IsEarlier : ℕ → Holds → Type 0
+IsEarlier n AsBefore = Unit {0}
+IsEarlier n Nothing = Unit {0}
+IsEarlier n (FromOperation place) = place < n
+
+-- The overlay stands for what the operations so far left of the elements of before: for all of it
+-- that the tests of the next operation look at.
+pub record StandsFor (s : Sight) (g : Progress) : Type 0 where
+  pub keys : s.over.keys ≡ g.keys
+  pub next : s.over.next ≡ first_ids g.elements
+  pub versions : (k : Key) → (standing s k).versions ≡ count g.elements k
+  pub content : (k : Key) → content_now s k ≡ content_of g.elements k
+  pub users : (k : Key) → (standing s k).users ≡ length (users g.elements k)
+  -- only elements of the operations so far hold what they didn't before
+  pub changed : (k : Key) → lists_key s.over.keys k ≡ false → (standing s k).holds ≡ AsBefore
+  pub earlier : (k : Key) → IsEarlier (length s.over.keys) (standing s k).holds
+  -- the elements of the operations so far have ids that were given, and none was taken back
+  pub given : (place : ℕ) (k : Key) → slice_get s.over.keys place ≡ Some k → (0 < k.id) × (k.id < next_id g.elements k.kind)
+  pub grown : (q : Kind) → next_id s.before q ≤ next_id g.elements q

@@ -1,0 +1,81 @@
+ghost use Rattle.std.specs.Prelude.{◌≡◌, ℕ, ◌+◌, ◌<◌, ◌^◌, length, slice_get, Some, IfOk, OnOk};
+ghost use Rattle.osm_change.specs.declared.operations.Op.{Op};
+ghost use Rattle.osm_world.specs.World.{state_of};
+ghost use Rattle.upload_check.specs.Effects.{HasUsers, IsEntered, done_of};
+ghost use Rattle.upload_check.specs.Judged.{IsAt, IsJudged, Leaves};
+ghost use Rattle.upload_check.specs.Overlay.{sight};
+
+use crate::checks::Step;
+use crate::overlays::Overlay;
+use crate::sights::View;
+use osm_base::{Memory, Steps};
+use osm_change::{Change, Op, OpDone, Refusal};
+use osm_world::World;
+use std::alloc::Global;
+use std::sync::ledger::Ledger;
+
+/// What one operation comes to.
+#[derive(Debug, Drop)]
+pub enum Judged {
+    Done(OpDone),
+    Refused(Refusal),
+}
+
+/// Judges the operation at a place, counted from 0, on what those before it left, for which the
+/// overlay stands. Where it is passed, the overlay then stands for what it left; after `Memory` it
+/// stands for nothing. It counts one step.
+pub fn check_op<L: Ledger>(
+    alloc: Global,
+    world: &World,
+    over: &mut Overlay,
+    change: &Change,
+    place: u32,
+    steps: &mut Steps<L>,
+) -> Result<Judged, Memory>
+    requires within { place < length change.now }
+    requires stands { IsAt (sight (state_of world.now).elements change.now over.old) place }
+    ensures judged { IfOk result (λ judged. (o : Op) → slice_get change.now place ≡ Some o → IsJudged (state_of world.now).elements change.now o over.old over.new judged) }
+    ensures goes { IfOk result (λ judged. (o : Op) → slice_get change.now place ≡ Some o → Leaves o over.old over.new judged) }
+    ensures step { steps.new ≡ steps.old + 1 }
+{
+    steps.tick();
+    let operations = change.operations();
+    let operation = change.op(place);
+    match (View {
+        world,
+        operations,
+        over,
+    })
+    .check(operation)
+    {
+        Ok(step) => {
+            let done = pass(alloc, world, over, operations, operation, step)?;
+            Ok(Judged::Done(done))
+        }
+        Err(refusal) => Ok(Judged::Refused(refusal)),
+    }
+}
+
+/// Enters an operation that is passed, and tells what it did.
+fn pass(
+    alloc: Global,
+    world: &World,
+    over: &mut Overlay,
+    operations: &[Op],
+    operation: &Op,
+    step: Step,
+) -> Result<OpDone, Memory>
+    requires few { length over.old.keys < 2 ^ 32 }
+    requires users { HasUsers (sight (state_of world.now).elements operations.now over.old) step.key }
+    ensures entered { OnOk result (IsEntered (sight (state_of world.now).elements operations.now over.old) operation.now step over.new) }
+    ensures done { IfOk result (λ done. done ≡ done_of (sight (state_of world.now).elements operations.now over.old) step) }
+{
+    let done = View {
+        world,
+        operations,
+        over,
+    }
+    .done(step)?;
+    over.enter(alloc, world, operations, operation, step)?;
+    Ok(done)
+}

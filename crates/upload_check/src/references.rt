@@ -1,0 +1,167 @@
+ghost use Rattle.std.specs.Prelude.{◌≡◌, ◌&&◌, ◌||◌, not, OnOk};
+ghost use Rattle.std.specs.List.{list_any};
+ghost use Rattle.osm_base.specs.Key.{key_eq, lists_key};
+ghost use Rattle.osm_base.specs.declared.keys.Key.{Key};
+ghost use Rattle.osm_element.specs.Elements.{key, key_of_member, refs, refs_in};
+ghost use Rattle.osm_model.specs.Names.{id_of, with_ids};
+ghost use Rattle.osm_world.specs.Beds.{content_of_op};
+
+use osm_base::{Key, Kind, Memory};
+use osm_change::{Name, Op};
+use osm_element::{Content, Member};
+
+/// The id that a name stands for, where it stands for one.
+fn id_of(keys: &[Key], name: Name) -> u64
+    ensures { result ≡ id_of keys.now name }
+{
+    match name {
+        Name::Old(id) => id,
+        Name::New(place) => match keys.get(place as usize) {
+            Some(key) => key.id,
+            None => 0,
+        },
+    }
+}
+
+fn node_key(keys: &[Key], name: Name) -> Key
+    ensures { result ≡ key Kind.Node (id_of keys.now name) }
+{
+    Key {
+        kind: Kind::Node,
+        id: id_of(keys, name),
+    }
+}
+
+fn member_key(keys: &[Key], member: &Member<Name>) -> Key
+    ensures { result ≡ key member.now.kind (id_of keys.now member.now.name) }
+{
+    Key {
+        kind: member.kind,
+        id: id_of(keys, member.name),
+    }
+}
+
+fn is_node(keys: &[Key], name: Name, used: Key) -> bool
+    ensures { result ≡ key_eq (key Kind.Node (id_of keys.now name)) used }
+{
+    node_key(keys, name).is(used)
+}
+
+fn is_member(keys: &[Key], member: &Member<Name>, used: Key) -> bool
+    ensures { result ≡ key_eq (key member.now.kind (id_of keys.now member.now.name)) used }
+{
+    member_key(keys, member).is(used)
+}
+
+fn nodes_list(keys: &[Key], nodes: &[Name], used: Key) -> bool
+    ensures { result ≡ list_any (λ name. key_eq (key Kind.Node (id_of keys.now name)) used) nodes.now }
+{
+    nodes.iter().any(|name| is_node(keys, *name, used))
+}
+
+fn members_list(keys: &[Key], members: &[Member<Name>], used: Key) -> bool
+    ensures { result ≡ list_any (λ m. key_eq (key m.kind (id_of keys.now m.name)) used) members.now }
+{
+    members.iter().any(|member| is_member(keys, member, used))
+}
+
+/// Whether a content lists an element, by the elements that its names stand for.
+#[tactic(auto, using(crate::proofs::Named::nodes_listed, crate::proofs::Named::members_listed))]
+fn content_lists(keys: &[Key], content: &Content<Name>, used: Key) -> bool
+    ensures { result ≡ lists_key (refs (with_ids keys.now content.now)) used }
+{
+    match content {
+        Content::Node(_) => false,
+        Content::Way(nodes) => nodes_list(keys, nodes.items(), used),
+        Content::Relation(members) => members_list(keys, members.items(), used),
+    }
+}
+
+/// Whether the content that an operation gives lists an element.
+pub fn op_lists(keys: &[Key], operation: &Op, used: Key) -> bool
+    ensures { result ≡ lists_key (refs_in (content_of_op keys.now operation.now)) used }
+{
+    match operation {
+        Op::Create { content, .. } | Op::Modify { content, .. } => {
+            content_lists(keys, content, used)
+        }
+        Op::Delete { .. } => false,
+    }
+}
+
+fn add_nodes(keys: &[Key], nodes: &[Name], listed: &mut Vec<Key>) -> Result<(), Memory>
+    ensures { OnOk result ((b : Key) → lists_key listed.new.items b ≡ lists_key listed.old.items b || list_any (λ name. key_eq (key Kind.Node (id_of keys.now name)) b) nodes.now) }
+{
+    for name in nodes {
+        listed.push(node_key(keys, *name))?;
+    }
+    Ok(())
+}
+
+fn add_members(keys: &[Key], members: &[Member<Name>], listed: &mut Vec<Key>) -> Result<(), Memory>
+    ensures { OnOk result ((b : Key) → lists_key listed.new.items b ≡ lists_key listed.old.items b || list_any (λ m. key_eq (key m.kind (id_of keys.now m.name)) b) members.now) }
+{
+    for member in members {
+        listed.push(member_key(keys, member))?;
+    }
+    Ok(())
+}
+
+/// Adds what a content lists, by the elements that its names stand for.
+#[tactic(auto, using(crate::proofs::Named::nodes_listed, crate::proofs::Named::members_listed, crate::proofs::Named::none_listed))]
+fn add_named(keys: &[Key], content: &Content<Name>, listed: &mut Vec<Key>) -> Result<(), Memory>
+    ensures { OnOk result ((b : Key) → lists_key listed.new.items b ≡ lists_key listed.old.items b || lists_key (refs (with_ids keys.now content.now)) b) }
+{
+    match content {
+        Content::Node(_) => Ok(()),
+        Content::Way(nodes) => add_nodes(keys, nodes.items(), listed),
+        Content::Relation(members) => add_members(keys, members.items(), listed),
+    }
+}
+
+/// Adds what the content that an operation gives lists.
+#[tactic(auto, using(crate::proofs::Named::none_listed))]
+pub fn add_given(keys: &[Key], operation: &Op, listed: &mut Vec<Key>) -> Result<(), Memory>
+    ensures { OnOk result ((b : Key) → lists_key listed.new.items b ≡ lists_key listed.old.items b || lists_key (refs_in (content_of_op keys.now operation.now)) b) }
+{
+    match operation {
+        Op::Create { content, .. } | Op::Modify { content, .. } => {
+            add_named(keys, content, listed)
+        }
+        Op::Delete { .. } => Ok(()),
+    }
+}
+
+fn add_node_ids(nodes: &[u64], listed: &mut Vec<Key>) -> Result<(), Memory>
+    ensures { OnOk result ((b : Key) → lists_key listed.new.items b ≡ lists_key listed.old.items b || list_any (λ id. key_eq (key Kind.Node id) b) nodes.now) }
+{
+    for id in nodes {
+        let node = Key {
+            kind: Kind::Node,
+            id: *id,
+        };
+        listed.push(node)?;
+    }
+    Ok(())
+}
+
+fn add_member_ids(members: &[Member<u64>], listed: &mut Vec<Key>) -> Result<(), Memory>
+    ensures { OnOk result ((b : Key) → lists_key listed.new.items b ≡ lists_key listed.old.items b || list_any (λ m. key_eq (key_of_member m) b) members.now) }
+{
+    for member in members {
+        listed.push(member.key())?;
+    }
+    Ok(())
+}
+
+/// Adds what a stored content lists.
+#[tactic(auto, using(osm_element::proofs::Listed::lists_node_mapped, osm_element::proofs::Listed::lists_member_mapped, crate::proofs::Named::none_listed))]
+pub fn add_stored(content: &Content<u64>, listed: &mut Vec<Key>) -> Result<(), Memory>
+    ensures { OnOk result ((b : Key) → lists_key listed.new.items b ≡ lists_key listed.old.items b || lists_key (refs content.now) b) }
+{
+    match content {
+        Content::Node(_) => Ok(()),
+        Content::Way(nodes) => add_node_ids(nodes.items(), listed),
+        Content::Relation(members) => add_member_ids(members.items(), listed),
+    }
+}

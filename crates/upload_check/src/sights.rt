@@ -1,0 +1,199 @@
+ghost use Rattle.std.specs.Prelude.{◌≡◌, ◌||◌, [], take, filter, slice_get, option_copied, is_some, OnOk};
+ghost use Rattle.osm_base.specs.Key.{lists_key};
+ghost use Rattle.osm_base.specs.declared.keys.Key.{Key};
+ghost use Rattle.osm_element.specs.Elements.{content_of, refs_in};
+ghost use Rattle.osm_world.specs.Beds.{content_of_op};
+ghost use Rattle.osm_world.specs.World.{state_of};
+ghost use Rattle.upload_check.specs.Checks.{least_where, least_user};
+ghost use Rattle.upload_check.specs.Overlay.{standing, content_now, is_visible, uses};
+ghost use Rattle.upload_check.specs.Users.{least};
+
+use crate::overlays::Overlay;
+use crate::references::{add_given, add_stored, op_lists};
+use crate::standings::{Holds, Standing, standing_in};
+use osm_base::{Key, Memory};
+use osm_change::Op;
+use osm_element::Content;
+use osm_world::World;
+use std::marker::Model;
+
+/// The map as some operations left it: the overlay over the world. An operation's content is read
+/// where it stands in the upload.
+#[derive(Drop)]
+pub struct View<'a> {
+    pub world: &'a World,
+    pub operations: &'a [Op],
+    pub over: &'a Overlay,
+}
+
+impl<'a> Model for View<'a> {
+    ghost use Rattle.osm_world.specs.World.{state_of};
+    ghost use Rattle.upload_check.specs.Overlay.{Sight, sight};
+
+    ghost Value = { Sight };
+
+    ghost view = { λ v. sight (state_of v.world.now).elements v.operations.now v.over.now };
+}
+
+/// What an element held before the upload.
+fn stored(world: &World, key: Key) -> Option<&Content<u64>>
+    ensures { option_copied result ≡ content_of (state_of world.now).elements key }
+{
+    match world.store().current(key) {
+        Some(version) => version.content.as_ref(),
+        None => None,
+    }
+}
+
+/// Whether a content lists an element.
+fn stored_lists(content: Option<&Content<u64>>, used: Key) -> bool
+    ensures { result ≡ lists_key (refs_in (option_copied content.entry)) used }
+{
+    match content {
+        Some(content) => content.lists(used),
+        None => false,
+    }
+}
+
+/// Whether an operation gives a content.
+fn gives_content(operation: &Op) -> bool
+    ensures { result ≡ is_some (content_of_op [] operation.now) }
+{
+    match operation {
+        Op::Create { .. } | Op::Modify { .. } => true,
+        Op::Delete { .. } => false,
+    }
+}
+
+impl<'a> View<'a> {
+    /// Where an element stands: as before, where nothing is noted of it.
+    pub fn standing(&self, key: Key) -> Standing
+        ensures { result ≡ standing self.now key }
+    {
+        standing_in(self.world, self.over.standings(), key)
+    }
+
+    /// The elements of the operations before a place.
+    pub fn keys_before(&self, place: u32) -> &[Key]
+        ensures { result.now ≡ take place self.now.over.keys }
+    {
+        let keys = self.over.keys();
+        match keys.get(..place as usize) {
+            Some(before) => before,
+            None => keys,
+        }
+    }
+
+    /// Whether the element isn't deleted.
+    pub fn is_visible(&self, key: Key) -> bool
+        ensures { result ≡ is_visible self.now key }
+    {
+        match self.standing(key).holds {
+            Holds::AsBefore => stored(self.world, key).is_some(),
+            Holds::Nothing => false,
+            Holds::FromOperation(place) => match self.operations.get(place as usize) {
+                Some(operation) => gives_content(operation),
+                None => false,
+            },
+        }
+    }
+
+    fn lists(&self, user: Key, used: Key) -> bool
+        ensures { result ≡ lists_key (refs_in (content_now self.now user)) used }
+    {
+        match self.standing(user).holds {
+            Holds::AsBefore => stored_lists(stored(self.world, user), used),
+            Holds::Nothing => false,
+            Holds::FromOperation(place) => match self.operations.get(place as usize) {
+                Some(operation) => op_lists(self.keys_before(place), operation, used),
+                None => false,
+            },
+        }
+    }
+
+    /// Adds what an element lists.
+    #[tactic(auto, using(crate::proofs::Named::none_listed))]
+    pub fn add_listed(&self, user: Key, listed: &mut Vec<Key>) -> Result<(), Memory>
+        ensures { OnOk result ((b : Key) → lists_key listed.new.items b ≡ lists_key listed.old.items b || lists_key (refs_in (content_now self.now user)) b) }
+    {
+        match self.standing(user).holds {
+            Holds::AsBefore => match stored(self.world, user) {
+                Some(content) => add_stored(content, listed),
+                None => Ok(()),
+            },
+            Holds::Nothing => Ok(()),
+            Holds::FromOperation(place) => match self.operations.get(place as usize) {
+                Some(operation) => add_given(self.keys_before(place), operation, listed),
+                None => Ok(()),
+            },
+        }
+    }
+
+    /// Whether an element is visible, lists the other, and isn't that other.
+    pub fn uses(&self, user: Key, used: Key) -> bool
+        ensures { result ≡ uses self.now user used }
+    {
+        self.lists(user, used) && !user.is(used)
+    }
+
+    /// The first of some elements that uses another.
+    #[tactic(auto, using(crate::proofs::FirstUser::no_passing_more, crate::proofs::FirstUser::no_passing_end, crate::proofs::FirstUser::passing_found))]
+    fn first_of(&self, keys: &[Key], used: Key) -> Option<Key>
+        ensures { result ≡ slice_get (filter (λ a. uses self.now a used) keys.now) 0 }
+    {
+        for key in keys {
+            if self.uses(*key, used) {
+                return Some(*key);
+            }
+        }
+        None
+    }
+
+    /// The least of some elements that uses another.
+    fn least_of(&self, keys: &[Key], used: Key) -> Option<Key>
+        ensures { result ≡ least_where (λ a. uses self.now a used) keys.now }
+    {
+        let mut found = None;
+        for key in keys {
+            found = self.lesser(found, *key, used);
+        }
+        found
+    }
+
+    fn lesser(&self, found: Option<Key>, key: Key, used: Key) -> Option<Key>
+        ensures { result ≡ lesser_where (λ a. uses self.now a used) found key }
+    {
+        if self.uses(key, used) {
+            least_key(found, Some(key))
+        } else {
+            found
+        }
+    }
+
+    /// The least element that uses another. It is a user of before, or the element of an operation.
+    pub fn least_user(&self, used: Key) -> Option<Key>
+        ensures { result ≡ least_user self.now used }
+    {
+        let first = self.first_of(self.world.users(used), used);
+        least_key(first, self.least_of(self.over.keys(), used))
+    }
+}
+
+ghost use Rattle.upload_check.specs.Checks.{lesser_where};
+
+/// The lesser of two keys, where there are any.
+fn least_key(one: Option<Key>, other: Option<Key>) -> Option<Key>
+    ensures { result ≡ least one other }
+{
+    match (one, other) {
+        (None, other) => other,
+        (Some(one), None) => Some(one),
+        (Some(one), Some(other)) => {
+            if other.is_before(one) {
+                Some(other)
+            } else {
+                Some(one)
+            }
+        }
+    }
+}
