@@ -1,4 +1,4 @@
--- A desk over a journal, and what it answers.
+-- A desk over the map's book, and what it answers.
 use Rattle.std.specs.Prelude.{◌≡◌, ℕ, ◌+◌, length, List, ◌++◌}
 use Rattle.osm_model.specs.Answered.{all_of}
 use Rattle.http_link.specs.Exchange.{Exchange}
@@ -12,7 +12,7 @@ use Rattle.api_desk.specs.Answers.{Answers, AreAnswered}
 
 -- the entries of the journal that the desk works on
 abbrev pub entries_of : OneDesk → List Entry
-entries_of desk = desk.journal.now
+entries_of desk = desk.book.now
 
 -- the users whom it knows
 abbrev pub users_of : OneDesk → List Row

@@ -4,5 +4,8 @@ pub mod Media
 pub mod Bodies
 pub mod Request
 pub mod Gives
+pub mod Judging
+pub mod Machine
+pub mod Laws
 pub mod Answers
 pub mod Desk

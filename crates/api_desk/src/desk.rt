@@ -1,24 +1,31 @@
-//! A desk for one thread, over a journal.
-ghost use Rattle.std.specs.Prelude.{◌≡◌, Some, IfOk, OnOk, OnErr};
+//! A desk for one thread, over the map's book.
+ghost use Rattle.std.specs.Prelude.{◌≡◌, ◌<◌, ◌≤◌, ◌+◌, length, Some, IfOk, OnOk, OnErr};
 ghost use Rattle.osm_change.specs.Moments.{HasShownMoments};
 ghost use Rattle.osm_model.specs.Act.{act};
 ghost use Rattle.osm_model.specs.Ask.{ask};
-ghost use Rattle.osm_model.specs.Journal.{IsLegal, replay, journal_after};
+ghost use Rattle.osm_model.specs.Journal.{IsLegal, replay, calls_of, journal_after};
+ghost use Rattle.osm_world.specs.World.{state_of};
 ghost use Rattle.http_link.specs.Desk.{counted_reply};
 ghost use Rattle.osm_base.specs.Status.{IsStatus};
 ghost use Rattle.api_desk.specs.Answers.{reply_of, Answers};
 
+use crate::answers::reply_from;
 use crate::faults::RequestFault;
+use crate::machine::MapMachine;
 use crate::requests::{Asked, Request, request_of};
 use http_link::{Desk, Reply};
 use http_wire::Message;
-use osm_base::Memory;
+use hub_core::{Book, NoOutlet};
+use machine_law::{Machine, Tag};
+use osm_base::{Memory, Steps};
 use osm_change::Answer;
 use osm_json::{answer_body, answer_status};
-use osm_model::{Journal, Query};
-use plain_reads::plain_ask;
+use osm_model::{Entry, Query};
+use osm_world::World;
 use route_table::Routes;
 use std::alloc::Global;
+use std::marker::Brand;
+use std::sync::ledger::{Blank, Ledger};
 use user_table::UserTable;
 
 /// The reply that tells an answer.
@@ -33,66 +40,102 @@ fn reply_to(alloc: Global, answer: &Answer<'_>) -> Result<Reply, Memory>
     })
 }
 
-/// Does a command. Its reply is made before it is kept, so that no command is kept whose reply
-/// would be want of memory.
-fn change(
-    journal: &mut Journal,
+/// Does a command. Its answer is made before it is kept, so that no command is kept whose answer
+/// would be want of memory, and what tells the answer takes none.
+fn change<L: Ledger>(
+    book: &mut Book<MapMachine>,
     alloc: Global,
     session: u32,
     asked: Asked,
     moment: u64,
+    steps: &mut Steps<L>,
 ) -> Result<Reply, Memory>
     ensures reply { IfOk result (λ reply. reply
-        ≡ reply_of (Some (act (replay journal.old) asked.user moment asked.command).1)) }
-    ensures journal { OnOk result (journal.new
-        ≡ journal_after journal.old session asked.user moment asked.command) }
-    ensures memory { OnErr result (journal.new ≡ journal.old) }
-    ensures legal { IsLegal journal.old → IsLegal journal.new }
+        ≡ reply_of (Some (act (replay book.old) asked.user moment asked.command).1)) }
+    ensures journal { OnOk result (book.new
+        ≡ journal_after book.old session asked.user moment asked.command) }
+    ensures memory { OnErr result (book.new ≡ book.old) }
     ensures status { IfOk result (λ reply. IsStatus reply.status) }
 {
-    let Asked { user, command } = asked;
-    let judged = journal.judge(alloc, session, user, moment, command)?;
-    let reply = reply_to(alloc, judged.answer())?;
-    journal.keep(judged)?;
-    Ok(reply)
+    let tag = Tag {
+        session,
+        call: next_call(book, session),
+    };
+    let plan = MapMachine::plan(alloc, book.world(), asked, steps)?;
+    let done = book.commit(plan, moment, tag, &mut NoOutlet, steps)?;
+    Ok(reply_from(done.answer))
+}
+
+/// The number of a session's next call.
+fn next_call(book: &Book<MapMachine>, session: u32) -> u64
+    ensures { result ≡ calls_of session book.now + 1 }
+{
+    one_more(book.calls(session), book.journal())
+}
+
+/// A number of some of these entries, and one.
+fn one_more(calls: u64, entries: &[Entry]) -> u64
+    requires { calls ≤ length entries.now }
+    ensures { result ≡ calls + 1 }
+{
+    let _all = entries.len();
+    calls + 1
 }
 
 /// Answers a query by all of the journal.
-fn read(journal: &Journal, alloc: Global, query: Query, moment: u64) -> Result<Reply, Memory>
+fn read<L: Ledger>(
+    book: &Book<MapMachine>,
+    alloc: Global,
+    query: Query,
+    moment: u64,
+    steps: &mut Steps<L>,
+) -> Result<Reply, Memory>
     ensures reply { IfOk result (λ reply. reply
-        ≡ reply_of (Some (ask (replay journal.now) moment query))) }
+        ≡ reply_of (Some (ask (replay book.now) moment query))) }
     ensures status { IfOk result (λ reply. IsStatus reply.status) }
 {
-    let answer = plain_ask(alloc, journal.state(), moment, &query)?;
-    reply_to(alloc, &answer)
+    let answer = MapMachine::ask(alloc, book.world(), &query, moment, steps)?;
+    Ok(reply_from(answer))
 }
 
-/// Answers one request of a session.
-fn answer_on(
-    journal: &mut Journal,
+/// A law: what a book keeps is a legal journal.
+fn laws(book: &Book<MapMachine>)
+    ensures { IsLegal book.now }
+{
+    let _entries = book.journal();
+}
+
+/// Answers one request of a session, on a ledger of its own.
+fn answer_on<L: Ledger>(
+    book: &mut Book<MapMachine>,
     alloc: Global,
     routes: &Routes,
     users: &UserTable,
     session: u32,
     message: &Message,
     moment: u64,
+    blank: Blank,
 ) -> Result<Reply, Memory>
-    ensures answers { Answers users.now session journal.old journal.new message.now moment (counted_reply result) }
-    ensures legal { IsLegal journal.old → IsLegal journal.new }
+    requires name { blank.name ≡ L.name }
+    requires parts { blank.parts ≡ L.parts }
+    requires some { 0 < blank.parts }
+    ensures answers { Answers users.now session book.old book.new message.now moment (counted_reply result) }
     ensures status { IfOk result (λ reply. IsStatus reply.status) }
 {
+    let (ledger, share) = blank.open::<L>();
+    let mut steps = Steps::of(ledger, share);
     match request_of(alloc, message, routes, users) {
-        Ok(Request::Change(asked)) => change(journal, alloc, session, asked, moment),
-        Ok(Request::Read(query)) => read(journal, alloc, query, moment),
+        Ok(Request::Change(asked)) => change(book, alloc, session, asked, moment, &mut steps),
+        Ok(Request::Read(query)) => read(book, alloc, query, moment, &mut steps),
         Err(RequestFault::Refused(refusal)) => reply_to(alloc, &Answer::Refused(refusal)),
         Err(RequestFault::Memory) => Err(Memory),
     }
 }
 
-/// Answers the requests of one session over a journal that nobody else works on.
+/// Answers the requests of one session over a book that nobody else works on.
 #[derive(Drop)]
 pub struct OneDesk<'a> {
-    journal: &'a mut Journal,
+    book: &'a mut Book<MapMachine>,
     routes: Routes,
     users: &'a UserTable,
     session: u32,
@@ -104,17 +147,17 @@ impl<'a> OneDesk<'a> {
     /// A desk of that session, with a table of the routes.
     pub fn new(
         alloc: Global,
-        journal: &'a mut Journal,
+        book: &'a mut Book<MapMachine>,
         users: &'a UserTable,
         session: u32,
     ) -> Result<OneDesk<'a>, Memory>
-        ensures journal { IfOk result (λ desk. entries_of desk ≡ journal.old) }
+        ensures journal { IfOk result (λ desk. entries_of desk ≡ book.old) }
         ensures users { IfOk result (λ desk. users_of desk ≡ users.now) }
         ensures session { IfOk result (λ desk. session_of desk ≡ session) }
     {
         let routes = Routes::new(alloc)?;
         Ok(OneDesk {
-            journal,
+            book,
             routes,
             users,
             session,
@@ -129,6 +172,21 @@ impl<'a> OneDesk<'a> {
     {
         self.session = session;
     }
+
+    /// The journal's entries, the first one first.
+    pub fn entries(&self) -> &[Entry]
+        ensures journal { result.now ≡ entries_of self.now }
+        ensures legal { IsLegal (entries_of self.now) }
+    {
+        self.book.journal()
+    }
+
+    /// The map that they make.
+    pub fn world(&self) -> &World
+        ensures { state_of result.now ≡ replay (entries_of self.now) }
+    {
+        self.book.world().world()
+    }
 }
 
 impl Desk for OneDesk<'_> {
@@ -137,14 +195,17 @@ impl Desk for OneDesk<'_> {
     ghost allows = { λ old message moment reply new. Allows old message moment reply new };
 
     fn answer(&mut self, alloc: Global, message: Message, moment: u64) -> Result<Reply, Memory> {
-        answer_on(
-            self.journal,
+        let reply = answer_on::<Brand>(
+            self.book,
             alloc,
             &self.routes,
             self.users,
             self.session,
             &message,
             moment,
-        )
+            Blank::new(1),
+        );
+        laws(self.book);
+        reply
     }
 }

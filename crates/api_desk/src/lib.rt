@@ -1,16 +1,25 @@
-//! A message as a request of the map, and a desk that answers requests over a journal.
+//! A message as a request of the map, the map as a machine, and a desk that answers requests over
+//! the machine's book.
 #![tactic(auto)]
 
+mod answers;
 mod bodies;
 mod bytes;
 mod desk;
 mod faults;
+mod judging;
 mod law;
+mod looks;
+mod machine;
 mod media;
 mod requests;
 mod tasks;
+mod world_asks;
+mod world_rows;
 
 pub use desk::OneDesk;
 pub use faults::RequestFault;
 pub use law::desk_answers;
+pub use looks::Look;
+pub use machine::{MapMachine, MapWorld};
 pub use requests::{Asked, Request, request_of};

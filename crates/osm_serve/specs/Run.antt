@@ -5,8 +5,11 @@ use Rattle.http_link.specs.declared.end.LinkEnd.{LinkEnd}
 use Rattle.http_link.specs.declared.end.LinkEnd.TheVariants.{Ended, Closed, Budget, Refused, ReadFault, WriteFault, Memory}
 use Rattle.user_table.specs.Rows.{Row}
 use Rattle.user_table.specs.Users.{table_of}
+use Rattle.osm_words.specs.declared.words.Load.{Load}
 use Rattle.osm_words.specs.Words.{Reading, pipe, measure, export, replay}
 use Rattle.osm_serve.specs.Serve.{ServesPipe}
+use Rattle.osm_serve.specs.Measure.{AreLines}
+use Rattle.osm_serve.specs.Tell.{LacksRoom, Tells}
 use Rattle.osm_serve.specs.Users.{IsTextOf, IsRefused}
 
 -- the status that an end of the standard link is
@@ -54,11 +57,6 @@ pub record LacksUsers (host host' : HostTold) (before after : Told) (status : �
   pub unserved : after ≡ before
   pub status_is : status ≡ 3
 
--- There was no memory for the users, and the link was left alone.
-pub record LacksRoom (before after : Told) (status : ℕ) : Type 0 where
-  pub unserved : after ≡ before
-  pub status_is : status ≡ 5
-
 -- what `pipe` comes to, with the clock fixed at that moment where one is given
 pub record RunsPipe (at : Option ℕ) (host host' : HostTold) (before after : Told) (status : ℕ) : Type 0 where
   pub keeps : OnlyFaults host host'
@@ -67,6 +65,11 @@ pub record RunsPipe (at : Option ℕ) (host host' : HostTold) (before after : To
       ⊎ RefusesUsers host before after status
       ⊎ LacksUsers host host' before after status
       ⊎ LacksRoom before after status
+
+-- what `measure` comes to, with the host left alone
+pub record RunsMeasure (load : Load) (host host' : HostTold) (before after : Told) (status : ℕ) : Type 0 where
+  pub host_stays : host' ≡ host
+  pub tells : Tells (AreLines load) before after status
 
 -- The host and the link were left alone, and the program ended with that status.
 pub record IsUnserved (wanted : ℕ) (host host' : HostTold) (before after : Told) (status : ℕ) : Type 0 where
@@ -78,7 +81,7 @@ pub record IsUnserved (wanted : ℕ) (host host' : HostTold) (before after : Tol
 abbrev pub ComesTo : Option Reading → HostTold → HostTold → Told → Told → ℕ → Type 0
 ComesTo None = IsUnserved 1
 ComesTo (Some (pipe users at)) = RunsPipe at
-ComesTo (Some (measure load)) = IsUnserved 1
+ComesTo (Some (measure load)) = RunsMeasure load
 ComesTo (Some (export load)) = IsUnserved 1
 ComesTo (Some replay) = IsUnserved 1
 

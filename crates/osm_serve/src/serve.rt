@@ -1,10 +1,11 @@
-//! Serving one link by one session, over a journal of its own.
+//! Serving one link by one session, over a book of its own.
 ghost use Rattle.osm_serve.specs.Serve.{ServesPipe};
 
-use api_desk::{OneDesk, desk_answers};
+use api_desk::{MapMachine, OneDesk, desk_answers};
 use http_link::{LinkEnd, serve_desk};
 use http_wire::some_reading;
-use osm_model::{Journal, points_are_consistent};
+use hub_core::Book;
+use osm_model::points_are_consistent;
 use osm_outside::{Link, Outside};
 use std::alloc::Global;
 use user_table::UserTable;
@@ -12,15 +13,15 @@ use user_table::UserTable;
 /// The number of the one session.
 const SESSION: u32 = 0;
 
-/// Answers the requests of the link over a new journal, until the link ends.
+/// Answers the requests of the link over a new book, until the link ends.
 pub fn serve_pipe<L: Link>(alloc: Global, users: &UserTable, link: &mut L) -> LinkEnd
     ensures { ServesPipe users.now (L.told link.old) (L.told link.new) result }
 {
     // What journals, and the desk's relation over a whole link, come to.
     points_are_consistent();
     desk_answers();
-    let mut journal = Journal::new(alloc);
-    let Ok(mut desk) = OneDesk::new(alloc, &mut journal, users, SESSION) else {
+    let mut book = Book::<MapMachine>::new(alloc);
+    let Ok(mut desk) = OneDesk::new(alloc, &mut book, users, SESSION) else {
         // The link is left alone, and its input has a reading all the same.
         some_reading();
         return LinkEnd::Memory;

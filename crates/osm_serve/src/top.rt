@@ -1,8 +1,9 @@
 //! The top call.
 ghost use Rattle.std.specs.Prelude.{◌≡◌, map, string_bytes};
-ghost use Rattle.osm_words.specs.Words.{reading_of, shown};
+ghost use Rattle.osm_words.specs.Words.{HaveSessions, reading_of, shown};
 ghost use Rattle.osm_serve.specs.Run.{Runs, ComesTo, RunsPipe, ServesFrom, IsStarted, status_of};
 
+use crate::measure::measure;
 use crate::serve::serve_pipe;
 use crate::users::{NoUsers, read_users};
 use http_link::LinkEnd;
@@ -67,12 +68,13 @@ fn run_words<H: Host, L: Link>(
     host: &mut H,
     standard: &mut L,
 ) -> u8
+    requires { HaveSessions words }
     ensures { ComesTo (Some (shown words.entry)) (H.told host.old) (H.told host.new)
         (L.told standard.old) (L.told standard.new) result }
 {
     match words {
         Words::Pipe { users, at } => run_pipe(alloc, users, at, host, standard),
-        Words::Measure(_) => 1,
+        Words::Measure(load) => measure(alloc, load, standard),
         Words::Export(_) => 1,
         Words::Replay => 1,
     }

@@ -2,12 +2,12 @@ use Rattle.api_desk.proofs.Replies.{change_answers, query_answers, refusal_answe
 use Rattle.api_desk.proofs.desk.answer_on.Goals as goal
 
 pub returns-in-Ok-Change-clause-answers : goal.returns-in-Ok-Change-clause-answers
-returns-in-Ok-Change-clause-answers c =
+returns-in-Ok-Change-clause-answers g c =
     change_answers
     c.args.users.now
     c.args.session
-    c.args.journal.now
-    c.change.new.journal
+    c.args.book.now
+    c.change.new.book
     c.args.message.now
     c.args.moment
     c.in-Ok-Change.asked.user
@@ -19,11 +19,11 @@ returns-in-Ok-Change-clause-answers c =
     c.change.ensures.memory
 
 pub returns-in-Ok-Read-clause-answers : goal.returns-in-Ok-Read-clause-answers
-returns-in-Ok-Read-clause-answers c =
+returns-in-Ok-Read-clause-answers g c =
     query_answers
     c.args.users.now
     c.args.session
-    c.args.journal.now
+    c.args.book.now
     c.args.message.now
     c.args.moment
     c.in-Ok-Read.query
@@ -32,11 +32,11 @@ returns-in-Ok-Read-clause-answers c =
     c.read.ensures.reply
 
 pub returns-in-Err-Refused-clause-answers : goal.returns-in-Err-Refused-clause-answers
-returns-in-Err-Refused-clause-answers c =
+returns-in-Err-Refused-clause-answers g c =
     refusal_answers
     c.args.users.now
     c.args.session
-    c.args.journal.now
+    c.args.book.now
     c.args.message.now
     c.args.moment
     c.in-Err-Refused.refusal

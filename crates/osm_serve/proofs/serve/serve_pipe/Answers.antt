@@ -17,7 +17,7 @@ returns g c =
     c.serve_desk.result
     c.in-Ok.ensures.users
     c.in-Ok.ensures.session
-    (c.in-Ok.ensures.journal ∙ c.new-journal.ensures)
+    (c.in-Ok.ensures.journal ∙ c.new-book.ensures)
     c.serve_desk.ensures
     (c.desk_answers.ensures c.in-Ok.desk (exchanges_of c.serve_desk.ensures.turns) c.serve_desk.new.desk c.serve_desk.ensures.served.answered)
     c.points_are_consistent.ensures

@@ -8,11 +8,11 @@ returns-in-Ok g c =
     inl (subst
     (λ (reading : Option Reading). ComesTo reading (g.H.Host.told c.args.host.now) (g.H.Host.told c.run_words.new.host)
     (g.L.Outside.told c.args.standard.now) (g.L.Outside.told c.run_words.new.standard) c.run_words.result)
-    (sym c.in-Ok.ensures) c.run_words.ensures)
+    (sym c.in-Ok.ensures.gives) c.run_words.ensures)
 
 pub returns-in-Err-NoReading : goal.returns-in-Err-NoReading
 returns-in-Err-NoReading g c =
-    let none : reading_of (map string_bytes c.args.words.now) ≡ None = rw c.in-Err-NoReading.field-0-is at c.in-Err-NoReading.ensures in
+    let none : reading_of (map string_bytes c.args.words.now) ≡ None = rw c.in-Err-NoReading.field-0-is at c.in-Err-NoReading.ensures.gives in
     inl (subst
     (λ (reading : Option Reading). ComesTo reading (g.H.Host.told c.args.host.now) (g.H.Host.told c.args.host.now)
     (g.L.Outside.told c.args.standard.now) (g.L.Outside.told c.args.standard.now) 1)

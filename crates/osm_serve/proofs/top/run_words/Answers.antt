@@ -1,11 +1,17 @@
 use Rattle.std.proofs.Common.{refl}
+use Rattle.osm_words.specs.Words.{HasSessions}
 use Rattle.osm_serve.proofs.top.run_words.Goals as goal
 
 pub returns-in-Pipe : goal.returns-in-Pipe
 returns-in-Pipe g c = rw c.in-Pipe.is c.run_pipe.ensures
 
+pub measure-requires : goal.measure-requires
+measure-requires g c =
+    let has : HasSessions c.in-Measure.load = rw c.in-Measure.is at c.requires in
+    record { some = has.some; few = has.few }
+
 pub returns-in-Measure : goal.returns-in-Measure
-returns-in-Measure g c = rw c.in-Measure.is (record { host_stays = refl; link_stays = refl; status_is = refl })
+returns-in-Measure g c = rw c.in-Measure.is (record { host_stays = refl; tells = c.measure.ensures })
 
 pub returns-in-Export : goal.returns-in-Export
 returns-in-Export g c = rw c.in-Export.is (record { host_stays = refl; link_stays = refl; status_is = refl })

@@ -1,0 +1,44 @@
+//! An answer as bytes: the two of its status, high byte first, and then its body.
+ghost use Rattle.std.specs.Prelude.{◌≡◌, ◌+◌, ◌*◌, ◌/◌, ◌%◌, ◌≤◌, ◌∷◌, length, drop, slice_index, IfOk};
+ghost use Rattle.osm_change.specs.Moments.{HasShownMoments};
+ghost use Rattle.api_desk.specs.Machine.{bytes_of};
+
+use http_link::Reply;
+use osm_base::{Bytes, Memory};
+use osm_change::Answer;
+use osm_json::{answer_body, answer_status};
+use std::alloc::Global;
+
+/// The bytes of an answer.
+pub(crate) fn bytes_of(alloc: Global, answer: &Answer<'_>) -> Result<Bytes, Memory>
+    requires { HasShownMoments answer.now }
+    ensures { IfOk result (λ bytes. bytes ≡ bytes_of answer.now) }
+{
+    let body = answer_body(alloc, answer)?;
+    with_status(answer_status(answer), body)
+}
+
+fn with_status(status: u16, body: Bytes) -> Result<Bytes, Memory>
+    ensures { IfOk result (λ bytes. bytes ≡ (status / 256) ∷ (status % 256) ∷ body) }
+{
+    let mut bytes = body.into_vec();
+    bytes.reserve(2)?;
+    bytes.insert(0, (status % 256) as u8)?;
+    bytes.insert(0, (status / 256) as u8)?;
+    Ok(Bytes::from_vec(bytes))
+}
+
+/// The reply that the bytes of an answer tell. It takes no memory.
+pub(crate) fn reply_from(answer: Bytes) -> Reply
+    requires { 2 ≤ length answer }
+    ensures status { result.status ≡ slice_index answer 0 * 256 + slice_index answer 1 }
+    ensures body { result.body ≡ drop 2 answer }
+{
+    let mut bytes = answer.into_vec();
+    let high = bytes.remove(0);
+    let low = bytes.remove(0);
+    Reply {
+        status: u16::from(high) * 256 + u16::from(low),
+        body: Bytes::from_vec(bytes),
+    }
+}

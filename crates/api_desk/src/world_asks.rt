@@ -1,0 +1,228 @@
+ghost use Rattle.std.specs.Prelude.{◌≡◌, ◌≢◌, List, Result, IfOk};
+ghost use Rattle.osm_change.specs.Moments.{HasShownMoments};
+ghost use Rattle.osm_change.specs.declared.answers.Answer.TheVariants as answers;
+ghost use Rattle.osm_change.specs.declared.reads.ReadFault.{ReadFault};
+ghost use Rattle.osm_change.specs.declared.reads.Shown.{Shown};
+ghost use Rattle.osm_model.specs.Ask.{ask, ask_at, not_found, read_refusal, elements_answer, one_answer, read_answer, map_answer, changeset_answer, download_answer};
+ghost use Rattle.osm_model.specs.ChangesetReads.{read_changeset, download};
+ghost use Rattle.osm_model.specs.Selection.{map_of};
+ghost use Rattle.osm_world.specs.World.{state_of};
+ghost use Rattle.read_calls.specs.Read.{IsRead};
+
+use crate::world_rows::{element_rows, selected_rows};
+use changeset_calls::{ChangesetFault, download, query, read};
+use map_call::map;
+use osm_base::{AREA_LIMIT, Box7, Items, Key, MAP_NODE_LIMIT, Memory, Stamp, Steps};
+use osm_change::{Answer, MapFault, ReadFault, Refusal, Said, Shown};
+use osm_model::{Query, answers_have_moments};
+use osm_world::World;
+use read_calls::{full, history, many, one, relations_of, version, ways_of};
+use std::alloc::Global;
+use std::sync::ledger::Ledger;
+
+/// What the query is answered at a moment. The elements of the answer are borrowed from the world.
+pub fn world_ask<'a, L: Ledger>(
+    alloc: Global,
+    world: &'a World,
+    moment: u64,
+    query: &Query,
+    steps: &mut Steps<L>,
+) -> Result<Answer<'a>, Memory>
+    ensures answer { IfOk result (λ answer. answer ≡ ask (state_of world.now) moment query.now) }
+    ensures shown { IfOk result HasShownMoments }
+{
+    world.laws();
+    answers_have_moments();
+    let at = Stamp::after(world.last_stamp(), moment);
+    let answer = ask_at(alloc, world, at, query, steps)?;
+    Ok(answer)
+}
+
+fn ask_at<'a, L: Ledger>(
+    alloc: Global,
+    world: &'a World,
+    at: Stamp,
+    asked: &Query,
+    steps: &mut Steps<L>,
+) -> Result<Answer<'a>, Memory>
+    ensures { IfOk result (λ answer. answer ≡ ask_at (state_of world.now) at asked.now) }
+{
+    match asked {
+        Query::Changeset { id } => ask_changeset(alloc, world, at, *id),
+        Query::Changesets {
+            user,
+            only_open,
+            only_closed,
+            within,
+        } => {
+            let rows = query(alloc, world, *user, *only_open, *only_closed, *within, at)?;
+            Ok(Answer::Changesets(rows))
+        }
+        Query::Download { id } => ask_download(alloc, world, *id),
+        Query::Map { within } => ask_map(alloc, world, within, steps),
+        Query::One { key } => one_answer(alloc, world, one(world, *key)),
+        Query::Numbered {
+            key,
+            version: number,
+            show,
+        } => one_answer(alloc, world, version(world, *key, *number, *show)),
+        Query::History { key, show } => {
+            read_answer(alloc, world, history(alloc, world, *key, *show))
+        }
+        Query::Many { kind, ids } => {
+            read_answer(alloc, world, many(alloc, world, *kind, ids.items()))
+        }
+        Query::Full { key } => read_answer(alloc, world, full(alloc, world, *key)),
+        Query::WaysOf { id } => {
+            let shown = ways_of(alloc, world, *id)?;
+            elements_answer(alloc, world, &shown)
+        }
+        Query::RelationsOf { key } => {
+            let shown = relations_of(alloc, world, *key)?;
+            elements_answer(alloc, world, &shown)
+        }
+    }
+}
+
+// ---- elements
+
+fn elements_answer<'a>(
+    alloc: Global,
+    world: &'a World,
+    shown: &Items<Shown>,
+) -> Result<Answer<'a>, Memory>
+    ensures { IfOk result (λ answer. answer ≡ elements_answer (state_of world.now) shown.now) }
+{
+    let rows = element_rows(alloc, world, shown.items())?;
+    Ok(Answer::Elements { bounds: None, rows })
+}
+
+/// An element that never existed has version 0.
+fn not_found(key: Key, version: u64) -> Refusal
+    ensures { result ≡ not_found key version }
+{
+    let id = Said::Id(key.id);
+    let kind = key.kind;
+    if version == 0 {
+        Refusal::NoElement { id, op: None, kind }
+    } else {
+        Refusal::NoSuchVersion { id, kind, version }
+    }
+}
+
+/// The refusal of a read, unless memory ran out.
+fn refused_read<'a>(fault: ReadFault) -> Result<Answer<'a>, Memory>
+    ensures { IfOk result (λ answer. (answer ≡ answers.Refused (read_refusal fault)) × (fault ≢ ReadFault.Memory)) }
+{
+    match fault {
+        ReadFault::NotFound { key, version } => Ok(Answer::Refused(not_found(key, version))),
+        ReadFault::Gone { key, version } => Ok(Answer::Refused(Refusal::Gone {
+            id: Said::Id(key.id),
+            op: None,
+            kind: key.kind,
+            version,
+        })),
+        ReadFault::Redacted {
+            key,
+            version,
+            redaction,
+        } => Ok(Answer::Refused(Refusal::Redacted {
+            id: Said::Id(key.id),
+            redaction,
+            kind: key.kind,
+            version,
+        })),
+        ReadFault::Memory => Err(Memory),
+    }
+}
+
+fn one_answer<'a>(
+    alloc: Global,
+    world: &'a World,
+    read: Result<Shown, ReadFault>,
+) -> Result<Answer<'a>, Memory>
+    ensures { IfOk result (λ answer. answer ≡ one_answer (state_of world.now) read) }
+{
+    match read {
+        Ok(shown) => {
+            let rows = element_rows(alloc, world, &[shown])?;
+            Ok(Answer::Elements { bounds: None, rows })
+        }
+        Err(fault) => refused_read(fault),
+    }
+}
+
+fn read_answer<'a>(
+    alloc: Global,
+    world: &'a World,
+    read: Result<Items<Shown>, ReadFault>,
+) -> Result<Answer<'a>, Memory>
+    ensures { (expected : Result (List Shown) ReadFault) → IsRead expected read → IfOk result (λ answer. answer ≡ read_answer (state_of world.now) expected) }
+{
+    match read {
+        Ok(shown) => elements_answer(alloc, world, &shown),
+        Err(fault) => refused_read(fault),
+    }
+}
+
+// ---- the map
+
+/// The elements of a box, with the box as their bounds.
+fn ask_map<'a, L: Ledger>(
+    alloc: Global,
+    world: &'a World,
+    within: &Box7,
+    steps: &mut Steps<L>,
+) -> Result<Answer<'a>, Memory>
+    ensures { IfOk result (λ answer. answer ≡ map_answer (state_of world.now) within.now (map_of (state_of world.now).elements within.now)) }
+{
+    match map(alloc, world, *within, steps) {
+        Ok(selection) => {
+            let rows = selected_rows(alloc, world, &selection)?;
+            Ok(Answer::Elements {
+                bounds: Some(*within),
+                rows,
+            })
+        }
+        Err(MapFault::TooLarge { area }) => Ok(Answer::Refused(Refusal::MapArea {
+            area,
+            limit: AREA_LIMIT,
+        })),
+        Err(MapFault::TooMany { nodes }) => Ok(Answer::Refused(Refusal::MapNodes {
+            limit: MAP_NODE_LIMIT,
+            nodes,
+        })),
+        Err(MapFault::Memory) => Err(Memory),
+    }
+}
+
+// ---- changesets
+
+fn ask_changeset<'a>(
+    alloc: Global,
+    world: &'a World,
+    at: Stamp,
+    id: u64,
+) -> Result<Answer<'a>, Memory>
+    ensures { IfOk result (λ answer. answer ≡ changeset_answer (read_changeset (state_of world.now) at id)) }
+{
+    match read(alloc, world, id, at) {
+        Ok(row) => Ok(Answer::Changeset(row)),
+        Err(ChangesetFault::NoChangeset { id }) => {
+            Ok(Answer::Refused(Refusal::NoChangeset { id }))
+        }
+        Err(ChangesetFault::Memory) => Err(Memory),
+    }
+}
+
+fn ask_download<'a>(alloc: Global, world: &'a World, id: u64) -> Result<Answer<'a>, Memory>
+    ensures { IfOk result (λ answer. answer ≡ download_answer (state_of world.now) (download (state_of world.now) id)) }
+{
+    match download(alloc, world, id) {
+        Ok(shown) => Ok(Answer::Change(element_rows(alloc, world, shown.items())?)),
+        Err(ChangesetFault::NoChangeset { id }) => {
+            Ok(Answer::Refused(Refusal::NoChangeset { id }))
+        }
+        Err(ChangesetFault::Memory) => Err(Memory),
+    }
+}

@@ -1,0 +1,34 @@
+-- Writing one text on the standard link.
+use Rattle.std.specs.Prelude.{◌≡◌, ℕ, ◌⊎◌, List}
+use Rattle.osm_outside.specs.Told.{Told, Rose}
+use Rattle.http_wire.specs.Written.{WrittenWhole, WrittenInPart}
+
+-- The text was written whole, and nothing else happened on the link.
+pub record WritesText (text : List ℕ) (before after : Told) (status : ℕ) : Type 0 where
+  pub written : WrittenWhole before after text
+  pub status_is : status ≡ 0
+
+-- A beginning of the text was written, a fault came, and nothing else happened on the link.
+pub record LosesText (text : List ℕ) (before after : Told) (status : ℕ) : Type 0 where
+  pub written : WrittenInPart before after text
+  pub failed : Rose before.write_faults after.write_faults
+  pub status_is : status ≡ 4
+
+-- what writing a text comes to
+abbrev pub Writes : List ℕ → Told → Told → ℕ → Type 0
+Writes text before after status = WritesText text before after status ⊎ LosesText text before after status
+
+-- A text of that kind was written.
+pub record WritesOne (fits : List ℕ → Type 0) (before after : Told) (status : ℕ) : Type 0 where
+  pub text : List ℕ
+  pub fitting : fits text
+  pub writes : Writes text before after status
+
+-- There was no memory, and the link was left alone.
+pub record LacksRoom (before after : Told) (status : ℕ) : Type 0 where
+  pub unserved : after ≡ before
+  pub status_is : status ≡ 5
+
+-- what a command that writes a text of that kind comes to
+abbrev pub Tells : (List ℕ → Type 0) → Told → Told → ℕ → Type 0
+Tells fits before after status = WritesOne fits before after status ⊎ LacksRoom before after status
