@@ -1,0 +1,29 @@
+-- The entry of a line, from what its tokens are read as.
+use Rattle.std.proofs.Common.{◌≡◌, ℕ, List, [], ◌∷◌, Option, Some, None, Result, Ok, Err, refl, sym, ap, ◌∙◌, subst}
+use Rattle.json.specs.Token.{Token}
+use Rattle.osm_model.specs.declared.commands.Entry.{Entry}
+use Rattle.journal_text.specs.Heard.{Hears, Finds, IsEntryRead}
+use Rattle.journal_text.specs.Read.{Parsed, alone}
+use Rattle.journal_text.specs.declared.faults.LineFault.{LineFault}
+use Rattle.journal_text.specs.declared.faults.LineFault.TheVariants.{NotLine, Memory}
+
+-- a fault that is passed on
+pub passed_on : (f : LineFault) (found : Parsed Entry) (new : List Token) → Hears {X = Entry} (λ e. e) (Err f) found new → Finds (Err f) (alone found)
+passed_on NotLine found new h = ap alone h
+passed_on Memory found new h = tt
+
+pub is_alone : (e : Entry) (found : Parsed Entry) (new : List Token) → found ≡ Some (e, new) → new ≡ [] → alone found ≡ Some e
+is_alone e found new h none = ap alone (h ∙ ap (λ ts. Some (e, ts)) none)
+
+pub not_alone : (e : Entry) (found : Parsed Entry) (new : List Token) (t : Token) (ts : List Token) → found ≡ Some (e, new) → new ≡ t ∷ ts → alone found ≡ None
+not_alone e found new t ts h more = ap alone (h ∙ ap (λ ts. Some (e, ts)) more)
+
+-- what was found is the entry
+pub found_is : (result : Result Entry LineFault) (found : Option Entry) (e : Entry) → Finds result found → found ≡ Some e → IsEntryRead result e
+found_is (Ok x) found e h is = let same : Some x ≡ Some e = sym h ∙ is in cc
+found_is (Err Memory) found e h is = tt
+found_is (Err NotLine) found e h is = let clash : Some e ≡ None = sym is ∙ h in cc
+
+-- an entry that is read so has this line
+pub read_is : (result : Result Entry LineFault) (x e : Entry) → result ≡ Ok x → IsEntryRead result e → x ≡ e
+read_is result x e is h = subst (λ r. IsEntryRead r e) is h

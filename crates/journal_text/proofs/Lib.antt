@@ -1,0 +1,10 @@
+mod Calls
+mod Complete
+mod Found
+mod Hearing
+mod Legal
+mod LinesRead
+mod PlainLine
+mod Sent
+mod InTurn
+mod Whole

@@ -1,0 +1,6 @@
+use Rattle.std.proofs.Common.{◌≡◌, ◌++◌, take}
+use Rattle.journal_text.specs.Text.{lines}
+use Rattle.journal_text.proofs.journals.lines_behind.Given as goal
+
+abbrev pub invariant-loop-entry : goal.invariant-loop-entry
+invariant-loop-entry l = l.text.items ≡ l.fn.bytes.items ++ lines (take l.entry-index l.entries)

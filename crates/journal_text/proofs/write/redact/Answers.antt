@@ -1,0 +1,6 @@
+use Rattle.journal_text.specs.Line.{command}
+use Rattle.journal_text.proofs.write.redact.Goals as goal
+
+pub returns : goal.returns
+unfolding command
+returns c = rw c.name_of.ensures at c.record.ensures

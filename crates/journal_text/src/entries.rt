@@ -1,0 +1,64 @@
+//! The entry of a line.
+ghost use Rattle.std.specs.Prelude.{◌≡◌, IfOk};
+ghost use Rattle.json.specs.Lex.{tokens};
+ghost use Rattle.osm_model.specs.declared.commands.Entry.{Entry};
+ghost use Rattle.journal_text.specs.Heard.{Finds, IsEntryRead};
+ghost use Rattle.journal_text.specs.Line.{line, IsEntry};
+ghost use Rattle.journal_text.specs.Read.{entry_next, alone};
+
+use crate::faults::LineFault;
+use crate::line::entry_line;
+use crate::read::entry;
+use json::{Reader, Scratch};
+use osm_change::changes_are_read_again;
+use osm_json::{parts_are_read_again, texts_are_read_again, values_are_read_again};
+use osm_model::Entry;
+use std::alloc::Global;
+
+/// The entry of an object that nothing follows.
+fn whole(alloc: Global, reader: &mut Reader<'_>) -> Result<Entry, LineFault>
+    ensures { Finds result (alone (entry_next reader.old)) }
+{
+    let found = entry(alloc, reader)?;
+    match reader.next() {
+        None => Ok(found),
+        Some(_) => Err(LineFault::NotLine),
+    }
+}
+
+fn candidate(alloc: Global, text: &str) -> Result<Entry, LineFault>
+    ensures { Finds result (alone (entry_next (tokens text.now))) }
+{
+    let mut scratch = Scratch::new(alloc);
+    let mut reader = Reader::new(text, &mut scratch)?;
+    whole(alloc, &mut reader)
+}
+
+/// What the bytes may be the line of, which is told by its own line alone.
+fn entry_like(alloc: Global, bytes: &[u8]) -> Result<Entry, LineFault>
+    ensures { (e : Entry) → IsEntry e → bytes.now ≡ line e → IsEntryRead result e }
+{
+    texts_are_read_again();
+    parts_are_read_again();
+    values_are_read_again();
+    changes_are_read_again();
+    match simdutf8::compat::from_utf8(bytes) {
+        Ok(text) => candidate(alloc, text),
+        Err(_) => Err(LineFault::NotLine),
+    }
+}
+
+/// The entry whose line this is: `NotLine` exactly where it isn't the line of any entry. It is read,
+/// and then told by the line that it has itself.
+pub fn read_entry(alloc: Global, bytes: &[u8]) -> Result<Entry, LineFault>
+    ensures line { IfOk result (λ e. bytes.now ≡ line e) }
+    ensures all { (e : Entry) → IsEntry e → bytes.now ≡ line e → IsEntryRead result e }
+{
+    let found = entry_like(alloc, bytes)?;
+    let own = entry_line(alloc, &found)?;
+    if own.as_slice() == bytes {
+        Ok(found)
+    } else {
+        Err(LineFault::NotLine)
+    }
+}

@@ -1,0 +1,21 @@
+//! The journal as a text, for audit and exchange: a header, and a line of JSON for each entry.
+#![tactic(auto)]
+
+mod entries;
+mod faults;
+mod journals;
+mod keepers;
+mod law;
+mod limits;
+mod line;
+mod read;
+mod turns;
+mod write;
+
+pub use entries::read_entry;
+pub use faults::{JournalFault, LineFault};
+pub use journals::{HEADER, journal_text, read_journal, read_line, read_lines};
+pub use keepers::Keeper;
+pub use law::lines_are_read_in_turn;
+pub use limits::TEXT_LIMIT;
+pub use line::entry_line;

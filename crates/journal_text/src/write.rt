@@ -1,0 +1,172 @@
+//! The parts of a line, written one after another.
+ghost use Rattle.std.specs.Prelude.{◌≡◌, ◌∷◌, [], ◌++◌, codes};
+ghost use Rattle.serde_json.specs.Data.{string};
+ghost use Rattle.osm_json.specs.Fields.{shown_fields};
+ghost use Rattle.osm_json.specs.Rows.{tags as tags_data};
+ghost use Rattle.osm_json.specs.Sent.{Sends, tokens_of};
+ghost use Rattle.osm_json.specs.Shown.{field, record_of, natural, kind_name};
+ghost use Rattle.osm_json.specs.Uploads.{change as change_data};
+ghost use Rattle.journal_text.specs.Line.{command as command_data, user as user_data, line_data};
+
+use json::Writer;
+use osm_base::{Key, Kind, User};
+use osm_change::Change;
+use osm_element::Tags;
+use osm_json::{Shown, write_change, write_members, write_record, write_tags};
+use osm_model::{Command, Entry};
+use std::alloc::AllocError;
+
+#[tactic(auto, unfolding(crate::specs::Line::user))]
+fn user(out: &mut Writer, user: &User) -> Result<(), AllocError>
+    ensures { Sends result out.old out.new (tokens_of (user_data user.now)) }
+{
+    write_record(
+        out,
+        &[
+            ("id", Shown::Natural(user.id)),
+            ("moderator", Shown::Flag(user.moderator)),
+            ("name", Shown::Text(user.name.as_str())),
+        ],
+    )
+}
+
+fn with_tags(out: &mut Writer, front: &[(&str, Shown<'_>)], tags: &Tags) -> Result<(), AllocError>
+    ensures { Sends result out.old out.new (tokens_of (record_of (shown_fields front.now ++ field (codes "tags") (tags_data tags.now) ∷ []))) }
+{
+    out.begin_object()?;
+    write_members(out, front)?;
+    out.key("tags")?;
+    write_tags(out, tags)?;
+    out.end_object()?;
+    Ok(())
+}
+
+fn with_change(
+    out: &mut Writer,
+    act: &str,
+    changeset: u64,
+    change: &Change,
+) -> Result<(), AllocError>
+    ensures { Sends result out.old out.new (tokens_of (record_of (
+        field (codes "act") (string act.now)
+        ∷ field (codes "changeset") (natural changeset)
+        ∷ field (codes "osmChange") (change_data change.now) ∷ []))) }
+{
+    out.begin_object()?;
+    write_members(
+        out,
+        &[
+            ("act", Shown::Text(act)),
+            ("changeset", Shown::Natural(changeset)),
+        ],
+    )?;
+    out.key("osmChange")?;
+    write_change(out, change)?;
+    out.end_object()?;
+    Ok(())
+}
+
+fn name_of(kind: Kind) -> &'static str
+    ensures { result.now ≡ kind_name kind }
+{
+    match kind {
+        Kind::Node => "node",
+        Kind::Way => "way",
+        Kind::Relation => "relation",
+    }
+}
+
+#[tactic(auto, unfolding(crate::specs::Line::command))]
+fn redact(out: &mut Writer, key: Key, version: u64, redaction: u64) -> Result<(), AllocError>
+    ensures { Sends result out.old out.new (tokens_of (command_data (Command.Redact key version redaction))) }
+{
+    write_record(
+        out,
+        &[
+            ("act", Shown::Text("redact")),
+            ("id", Shown::Natural(key.id)),
+            ("redaction", Shown::Natural(redaction)),
+            ("type", Shown::Text(name_of(key.kind))),
+            ("version", Shown::Natural(version)),
+        ],
+    )
+}
+
+#[tactic(auto, unfolding(crate::specs::Line::command))]
+fn unredact(out: &mut Writer, key: Key, version: u64) -> Result<(), AllocError>
+    ensures { Sends result out.old out.new (tokens_of (command_data (Command.Unredact key version))) }
+{
+    write_record(
+        out,
+        &[
+            ("act", Shown::Text("unredact")),
+            ("id", Shown::Natural(key.id)),
+            ("type", Shown::Text(name_of(key.kind))),
+            ("version", Shown::Natural(version)),
+        ],
+    )
+}
+
+#[tactic(auto, unfolding(crate::specs::Line::command))]
+fn command(out: &mut Writer, command: &Command) -> Result<(), AllocError>
+    ensures { Sends result out.old out.new (tokens_of (command_data command.now)) }
+{
+    match command {
+        Command::CreateChangeset { tags } => {
+            with_tags(out, &[("act", Shown::Text("create_changeset"))], tags)
+        }
+        Command::Retag { changeset, tags } => with_tags(
+            out,
+            &[
+                ("act", Shown::Text("retag")),
+                ("changeset", Shown::Natural(*changeset)),
+            ],
+            tags,
+        ),
+        Command::CloseChangeset { changeset } => write_record(
+            out,
+            &[
+                ("act", Shown::Text("close")),
+                ("changeset", Shown::Natural(*changeset)),
+            ],
+        ),
+        Command::Upload { changeset, change } => with_change(out, "upload", *changeset, change),
+        Command::Single { changeset, change } => {
+            with_change(out, "single", *changeset, change.change())
+        }
+        Command::MakeRedaction { title } => write_record(
+            out,
+            &[
+                ("act", Shown::Text("make_redaction")),
+                ("title", Shown::Text(title.as_str())),
+            ],
+        ),
+        Command::Redact {
+            key,
+            version,
+            redaction,
+        } => redact(out, *key, *version, *redaction),
+        Command::Unredact { key, version } => unredact(out, *key, *version),
+    }
+}
+
+#[tactic(auto, unfolding(crate::specs::Line::line_data))]
+pub(crate) fn entry(out: &mut Writer, entry: &Entry) -> Result<(), AllocError>
+    ensures { Sends result out.old out.new (tokens_of (line_data entry.now)) }
+{
+    out.begin_object()?;
+    write_members(
+        out,
+        &[
+            ("at", Shown::Natural(entry.stamp.seconds())),
+            ("call", Shown::Natural(entry.call)),
+        ],
+    )?;
+    out.key("command")?;
+    command(out, &entry.command)?;
+    write_members(out, &[("session", Shown::Natural(entry.session as u64))])?;
+    out.key("user")?;
+    user(out, &entry.user)?;
+    out.end_object()?;
+    Ok(())
+}
