@@ -99,6 +99,13 @@ impl Tags {
         self.ends.len()
     }
 
+    /// Whatever is made as tags has keys that rise: a law, with nothing to do.
+    pub fn keys_rise(&self)
+        ensures { KeysRise self.now }
+    {
+        let _ = &self.text;
+    }
+
     /// A key and its value, in the order of the keys.
     pub fn pair(&self, index: usize) -> (&str, &str)
         requires { index < length self.now }
