@@ -1,10 +1,10 @@
 -- The tokens of an entry's line are read as that entry.
-use Rattle.std.proofs.Common.{◌≡◌, ℕ, ◌^◌, ◌<◌, Bool, true, false, List, [], ◌∷◌, ◌++◌, length, codes, Option, Some, None, Result, Ok, refl, sym, ap, ◌∙◌, append_assoc, append-nil, arith}
-use Rattle.std.specs.Prelude.{◌==◌, if◌then◌else◌, nat_lt}
+use Rattle.std.proofs.Common.{◌≡◌, ℕ, ◌^◌, ◌<◌, Bool, List, [], ◌∷◌, ◌++◌, length, codes, Some, None, Result, Ok, refl, sym, ap, ◌∙◌, append_assoc, append-nil, arith}
+use Rattle.std.specs.Prelude.{if◌then◌else◌}
 use Rattle.std.proofs.lemmas.Bool.{eq-eqb, lt-ltb}
 use Rattle.json.specs.Token.{Token, begin_object, end_object}
 use Rattle.json.specs.Tree.{members_tokens}
-use Rattle.serde_json.specs.Data.{Data, boolean, string}
+use Rattle.serde_json.specs.Data.{boolean, string}
 use Rattle.serde_json.specs.Find.{as_bool, as_str}
 use Rattle.serde_json.specs.Written.{members_outline}
 use Rattle.osm_base.specs.declared.keys.Kind.{Kind}
@@ -26,7 +26,7 @@ use Rattle.osm_model.specs.declared.commands.Command.{Command}
 use Rattle.osm_model.specs.declared.commands.Command.TheVariants.{CreateChangeset, Retag, CloseChangeset, Upload, Single, MakeRedaction, Redact, Unredact}
 use Rattle.osm_model.specs.declared.commands.Entry.{Entry}
 use Rattle.journal_text.specs.Line.{command_fields, command, user_fields, user, entry_fields, line_data, IsCommand, IsEntry}
-use Rattle.journal_text.specs.Read.{Parsed, ◌>>=◌, begin_next, end_next, key_next, member_next, user_next, built, change_next, one_of, create_next, retag_next, close_next, upload_next, single_next, title_next, redact_next, unredact_next, by_act, command_next, as_session, session_next, entry_next}
+use Rattle.journal_text.specs.Read.{Parsed, ◌>>=◌, end_next, key_next, member_next, user_next, built, change_next, one_of, create_next, retag_next, close_next, upload_next, single_next, title_next, redact_next, unredact_next, by_act, command_next, as_session, session_next, entry_next}
 
 -- ---- the tokens of an object, with what stands behind it
 

@@ -1,11 +1,11 @@
 -- An entry that is the next one of its session is kept where its command is accepted.
-use Rattle.std.proofs.Common.{◌≡◌, ℕ, ◌+◌, Bool, true, false, ◌&&◌, List, [], ◌∷◌, ◌++◌, length, is_ok, Result, Ok, Err, refl, sym, ap, ◌∙◌, arith, length-append}
+use Rattle.std.proofs.Common.{◌≡◌, ◌+◌, Bool, true, false, ◌&&◌, List, [], ◌∷◌, length, is_ok, Result, Ok, Err, refl, sym, ap, ◌∙◌, arith, length-append}
 use Rattle.std.specs.Prelude.{◌==◌, nat_lt}
 use Rattle.std.proofs.lemmas.Bool.{and_parts, eqb-true, lt-ltb}
 use Rattle.osm_base.specs.Stamp.{stamp_after}
 use Rattle.osm_change.specs.declared.refusals.Refusal.{Refusal}
 use Rattle.osm_model.specs.Act.{Effect, judge}
-use Rattle.osm_model.specs.Journal.{calls_of, replay, next_entry, appended, journal_after}
+use Rattle.osm_model.specs.Journal.{calls_of, replay, appended, journal_after}
 use Rattle.osm_model.specs.declared.commands.Entry.{Entry}
 use Rattle.journal_text.specs.Kept.{may_follow, kept_by, is_in_turn}
 

@@ -1,18 +1,17 @@
 -- A text that is read line by line.
-use Rattle.std.proofs.Common.{◌≡◌, ℕ, suc, ◌+◌, ◌<◌, Bool, true, false, cond, not, ◌&&◌, List, [], ◌∷◌, ◌++◌, length, take, drop, Option, Some, None, refl, sym, ap, ◌∙◌, subst, arith, append_assoc, append-nil, length-append}
+use Rattle.std.proofs.Common.{◌≡◌, ℕ, suc, ◌+◌, ◌<◌, Bool, true, false, cond, not, List, [], ◌∷◌, ◌++◌, length, take, drop, Option, Some, None, refl, sym, ap, ◌∙◌, subst, arith, append_assoc, append-nil, length-append}
 use Rattle.std.specs.Prelude.{All, ◌==◌, nat_lt, Result, Ok, Err, IfErr}
 use Rattle.std.specs.Result.{IsErrAnd}
-use Rattle.std.specs.List.{prefix_len, position_or_len, before_first, after_first, list_all}
+use Rattle.std.specs.List.{position_or_len}
 use Rattle.std.proofs.lemmas.Bool.{and_parts, lt-ltb, ltb-true, eqb-true, true≢false}
-use Rattle.std.proofs.lemmas.List.{take_all, drop_all, take-append-le, drop-append-le}
-use Rattle.std.proofs.lemmas.List.Elements.{All-nil, All-cons, All-head, All-tail}
+use Rattle.std.proofs.lemmas.List.Elements.{All-head, All-tail}
 use Rattle.osm_base.specs.Parts.{is_byte, parted}
 use Rattle.osm_json.specs.Again.{is_one_line}
 use Rattle.osm_model.specs.Journal.{IsLegal}
 use Rattle.osm_model.specs.declared.commands.Entry.{Entry}
 use Rattle.journal_text.specs.Faults.{BeginsWithLine}
 use Rattle.journal_text.specs.Line.{line, IsEntry}
-use Rattle.journal_text.specs.Lines.{Follows, FollowsAlone, IsNoLine, IsLineFault, IsIllegalLine, Reads, StopsAtLine, StopsAtIllegal, IsLinesFault, IsRefused}
+use Rattle.journal_text.specs.Lines.{Follows, FollowsAlone, IsNoLine, IsLineFault, Reads, StopsAtLine, IsLinesFault, IsRefused}
 use Rattle.journal_text.specs.Text.{lines}
 use Rattle.journal_text.specs.declared.faults.JournalFault.{JournalFault}
 use Rattle.journal_text.specs.declared.faults.JournalFault.TheVariants.{Long, Header, Line, Illegal, Memory}

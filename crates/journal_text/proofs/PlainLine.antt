@@ -1,6 +1,5 @@
 -- The line of an entry is plain.
-use Rattle.std.proofs.Common.{◌≡◌, ℕ, ◌^◌, ◌<◌, List, [], ◌∷◌, refl, arith}
-use Rattle.serde_json.specs.Data.{Data}
+use Rattle.std.proofs.Common.{◌^◌, ◌<◌, List, refl, arith}
 use Rattle.osm_base.specs.declared.people.User.{User}
 use Rattle.osm_element.specs.Tags.{Tag, KeysRise}
 use Rattle.osm_change.specs.declared.operations.Op.{Op}

@@ -1,6 +1,7 @@
 -- What was written of a line, one part after another.
-use Rattle.std.proofs.Common.{◌≡◌, ℕ, List, [], ◌∷◌, ◌++◌, Some, None, Ok, flat_map, refl, sym, ap, ◌∙◌, append_assoc, append-nil}
+use Rattle.std.proofs.Common.{◌≡◌, ℕ, List, [], ◌∷◌, ◌++◌, Some, None, Ok, flat_map, refl, sym, ap, ◌∙◌, subst, append_assoc, append-nil}
 use Rattle.std.proofs.lemmas.Grind.{flat_map-append}
+use Rattle.std.specs.Str.{IsUtf8}
 use Rattle.std.specs.declared.alloc.AllocError.{AllocError}
 use Rattle.json.specs.Print.{print}
 use Rattle.json.specs.Token.{Token, begin_object, end_object}
@@ -56,3 +57,7 @@ record_sent {a} {b} {c} {d} {fs} begin fields end =
 pub text_behind : (before w : Written) (d : Data) → before.tokens ≡ [] → Appends before w (tokens_of d) → w.before ++ print w.tokens ≡ before.before ++ compact_text d
 unfolding tokens_of
 text_behind before w d empty p = rw (p.before, p.tokens, empty) (ap (λ text. before.before ++ text) (print-outline d))
+
+pub utf8_behind : (before w : Written) (d : Data) → before.tokens ≡ [] → Appends before w (tokens_of d) → IsUtf8 (print w.tokens) → IsUtf8 (compact_text d)
+unfolding tokens_of
+utf8_behind before w d empty p utf8 = subst IsUtf8 (ap print (p.tokens ∙ ap (λ ts. ts ++ tokens_of d) empty) ∙ print-outline d) utf8

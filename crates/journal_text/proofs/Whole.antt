@@ -4,7 +4,7 @@ use Rattle.osm_model.specs.declared.commands.Entry.{Entry}
 use Rattle.journal_text.specs.Faults.{Begins, IsFault}
 use Rattle.journal_text.specs.Line.{line}
 use Rattle.journal_text.specs.Lines.{IsLinesFault}
-use Rattle.journal_text.specs.Text.{header, lines, text_of}
+use Rattle.journal_text.specs.Text.{header, lines}
 use Rattle.osm_model.specs.Journal.{IsLegal}
 use Rattle.journal_text.specs.declared.faults.JournalFault.{JournalFault}
 use Rattle.journal_text.specs.declared.faults.JournalFault.TheVariants.{Long, Header, Line, Illegal, Memory}

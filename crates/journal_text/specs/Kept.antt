@@ -1,5 +1,5 @@
 -- Entries that are kept one after another.
-use Rattle.std.specs.Prelude.{ℕ, ◌+◌, Bool, true, false, ◌&&◌, ◌==◌, List, [], ◌∷◌, ◌++◌, Result, Ok, Err}
+use Rattle.std.specs.Prelude.{◌+◌, Bool, true, false, ◌&&◌, ◌==◌, List, [], ◌∷◌, ◌++◌, Result, Ok, Err}
 use Rattle.osm_base.specs.Stamp.{stamp_after}
 use Rattle.osm_model.specs.Journal.{takes, calls_of, replay}
 use Rattle.osm_model.specs.declared.commands.Entry.{Entry}

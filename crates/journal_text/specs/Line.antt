@@ -3,7 +3,6 @@ use Rattle.std.specs.Prelude.{◌≡◌, ℕ, ◌^◌, ◌<◌, List, [], ◌∷
 use Rattle.std.specs.Str.{IsUtf8}
 use Rattle.serde_json.specs.Data.{Data, boolean, string}
 use Rattle.serde_json.specs.Written.{compact_text}
-use Rattle.osm_base.specs.declared.keys.Key.{Key}
 use Rattle.osm_base.specs.declared.people.User.{User}
 use Rattle.osm_element.specs.Tags.{KeysRise}
 use Rattle.osm_json.specs.Rows.{tags as tags_data}

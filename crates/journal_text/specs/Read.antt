@@ -1,15 +1,13 @@
 -- What the tokens of a line are read as, token by token: members in their order, and no other ones.
-use Rattle.std.specs.Prelude.{◌≡◌, ℕ, ◌^◌, ◌==◌, nat_lt, List, [], ◌∷◌, length, codes, if◌then◌else◌, Option, Some, None, Result, Ok, Err}
+use Rattle.std.specs.Prelude.{ℕ, ◌^◌, ◌==◌, nat_lt, List, [], ◌∷◌, length, codes, if◌then◌else◌, Option, Some, None, Result, Ok, Err}
 use Rattle.std.specs.Str.{bytes_eq}
 use Rattle.json.specs.Token.{Token}
 use Rattle.serde_json.specs.Data.{Data}
 use Rattle.serde_json.specs.Find.{as_bool, as_str}
-use Rattle.osm_base.specs.declared.keys.Kind.{Kind}
 use Rattle.osm_base.specs.declared.people.User.{User}
 use Rattle.osm_change.specs.Build.{change_of}
 use Rattle.osm_change.specs.declared.causes.ShapeFault.{ShapeFault}
 use Rattle.osm_change.specs.declared.operations.Op.{Op}
-use Rattle.osm_change.specs.declared.raw.RawOp.{RawOp}
 use Rattle.osm_json.specs.Again.{natural_of, next_as, ops_of}
 use Rattle.osm_json.specs.Reading.{kind_of, tags_of}
 use Rattle.osm_model.specs.declared.commands.Command.{Command}

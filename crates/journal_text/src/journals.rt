@@ -1,11 +1,12 @@
 //! The journal as a text.
-ghost use Rattle.std.specs.Prelude.{◌≡◌, ◌+◌, [], ◌++◌, List, length, All, IfOk, IfErr, OnOk, OnErr};
+ghost use Rattle.std.specs.Prelude.{◌≡◌, ◌+◌, ◌≤◌, [], ◌++◌, List, length, All, IfOk, IfErr, OnOk, OnErr};
 ghost use Rattle.osm_model.specs.Journal.{IsLegal};
 ghost use Rattle.osm_model.specs.declared.commands.Entry.{Entry};
 ghost use Rattle.journal_text.specs.Faults.{IsFault, IsJournalRead};
 ghost use Rattle.journal_text.specs.Line.{line, IsEntry};
 ghost use Rattle.journal_text.specs.Lines.{Follows, FollowsAlone, IsLineFault, IsLinesFault, IsRefused};
 ghost use Rattle.journal_text.specs.Text.{lines, text_of, IsTextOf};
+ghost use Rattle.journal_text.specs.declared.limits.TheConstants.{TEXT_LIMIT};
 
 use crate::entries::read_entry;
 use crate::faults::{JournalFault, LineFault};
@@ -22,7 +23,8 @@ pub const HEADER: &[u8] = b"osm-journal 1\n";
 
 /// The lines of the entries, each ended by byte 10, behind what is there already.
 fn lines_behind(bytes: Vec<u8>, entries: &[Entry]) -> Result<Vec<u8>, Memory>
-    ensures { IfOk result (λ longer. longer.items ≡ bytes.items ++ lines entries.now) }
+    ensures lines { IfOk result (λ longer. longer.items ≡ bytes.items ++ lines entries.now) }
+    ensures typed { OnOk result (All IsEntry entries.now) }
 {
     let mut text = bytes;
     for entry in entries {
@@ -33,9 +35,12 @@ fn lines_behind(bytes: Vec<u8>, entries: &[Entry]) -> Result<Vec<u8>, Memory>
 }
 
 /// The text of a journal: a header, and the line of each entry, each ended by byte 10.
+/// `typed` and `again` are what `read_journal` asks for: within `TEXT_LIMIT` it reads that journal.
 pub fn journal_text(alloc: Global, entries: &[Entry]) -> Result<Bytes, Memory>
     requires { IsLegal entries.now }
-    ensures { IfOk result (λ bytes. bytes ≡ text_of entries.now) }
+    ensures text { IfOk result (λ bytes. bytes ≡ text_of entries.now) }
+    ensures typed { OnOk result (All IsEntry entries.now) }
+    ensures again { IfOk result (λ bytes. length bytes ≤ TEXT_LIMIT → IsTextOf bytes entries.now) }
 {
     let text = lines_behind(Vec::from_slice(alloc, HEADER)?, entries)?;
     Ok(Bytes::from_vec(text))

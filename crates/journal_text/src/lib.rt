@@ -10,6 +10,7 @@ mod limits;
 mod line;
 mod read;
 mod turns;
+mod typed;
 mod write;
 
 pub use entries::read_entry;

@@ -1,6 +1,6 @@
 use Rattle.std.proofs.Common.{sym, ap, ◌∙◌, subst, IsUtf8}
 use Rattle.json.specs.Lex.{tokens}
-use Rattle.journal_text.specs.Line.{line, line_data}
+use Rattle.journal_text.specs.Line.{line_data}
 use Rattle.journal_text.specs.Read.{entry_next, alone}
 use Rattle.journal_text.proofs.Complete.{entry_read}
 use Rattle.journal_text.proofs.Found.{found_is}

@@ -1,4 +1,4 @@
-use Rattle.std.proofs.Common.{◌≡◌, ◌+◌, ◌≤◌, ℕ, List, [], ◌∷◌, ◌++◌, length, length-append, ap, sym, ◌∙◌, subst, arith, rules, Some, None}
+use Rattle.std.proofs.Common.{◌≡◌, ◌+◌, ℕ, List, [], ◌∷◌, length, length-append, ap, sym, ◌∙◌, subst, arith, rules, Some}
 use Rattle.osm_base.specs.Parts.{parted}
 use Rattle.journal_text.specs.Lines.{IsLineFault, IsRefused, Reads}
 use Rattle.journal_text.proofs.LinesRead.{at_exit, cut_is, no_rest, some_rest}

@@ -1,4 +1,4 @@
-use Rattle.std.proofs.Common.{◌≡◌, ap, sym, ◌∙◌, length, nat_lt, Ok}
+use Rattle.std.proofs.Common.{◌≡◌, ap, sym, ◌∙◌, Ok}
 use Rattle.osm_base.specs.declared.memory.Memory.{Memory}
 use Rattle.osm_model.specs.Journal.{journal_after}
 use Rattle.journal_text.specs.Kept.{kept_by}
