@@ -1,0 +1,103 @@
+-- A text that is cut at its first such byte, with bytes before it or behind it.
+use Rattle.std.proofs.Common.{◌≡◌, ℕ, ◌+◌, ◌<◌, Bool, true, false, cond, not, List, [], ◌++◌, length, take, drop, Option, Some, None, refl, sym, ap, ◌∙◌, arith, length-append, length-drop, ne_eqb}
+use Rattle.std.specs.Prelude.{nat_lt, unwrap_or, ◌==◌}
+use Rattle.std.specs.List.{position_or_len}
+use Rattle.std.proofs.Math.Seq.{take-append-add, drop-append-add}
+use Rattle.std.proofs.lemmas.Bool.{lt-ltb, le-ltb, ltb-true, ltb-false, eq-eqb}
+use Rattle.std.proofs.lemmas.List.{take-append-le, drop-append-le}
+use Rattle.std.proofs.lemmas.List.Folds.{prefix_len-append}
+use Rattle.std.proofs.lemmas.List.Sums.{prefix_len-le-length}
+use Rattle.osm_base.specs.Parts.{is_byte, parted}
+
+abbrev Cut : Type 0
+Cut = Option (List ℕ × List ℕ)
+
+none_some : (a : List ℕ × List ℕ) → ◌≡◌ {A = Cut} None (Some a) → ⊥
+none_some a e = cc
+
+module _ (c : ℕ) where
+  abbrev place : List ℕ → ℕ
+  place text = position_or_len (is_byte c) text
+
+  -- the cut at a place, where the test says that there is one
+  abbrev cut_by : Bool → ℕ → List ℕ → Cut
+  cut_by b n text = cond b (Some (take n text, drop (n + 1) text)) None
+
+  record IsCut (text first rest : List ℕ) : Type 0 where
+    within : place text < length text
+    front : take (place text) text ≡ first
+    back : drop (place text + 1) text ≡ rest
+
+  cut_is : (text first rest : List ℕ) → parted c text ≡ Some (first, rest) → IsCut text first rest
+  cut_is text first rest is = by (nat_lt (place text) (length text)) refl is
+    where
+      by : (b : Bool) → nat_lt (place text) (length text) ≡ b → cut_by b (place text) text ≡ Some (first, rest) → IsCut text first rest
+      by true e same = record {
+        within = ltb-true (place text) (length text) e;
+        front = ap (λ (o : Cut). (unwrap_or o ([], [])).0) same;
+        back = ap (λ (o : Cut). (unwrap_or o ([], [])).1) same;
+      }
+      by false e same = absurd (none_some (first, rest) same)
+
+  no_cut : (text : List ℕ) → parted c text ≡ None → place text ≡ length text
+  no_cut text is = by (nat_lt (place text) (length text)) refl is
+    where
+      by : (b : Bool) → nat_lt (place text) (length text) ≡ b → cut_by b (place text) text ≡ None → place text ≡ length text
+      by true e same = cc
+      by false e same = omega (arith, ltb-false (place text) (length text) e, prefix_len-le-length (λ (x : ℕ). not (is_byte c x)) text)
+
+  cut_at : (text : List ℕ) (n : ℕ) → place text ≡ n → n < length text → parted c text ≡ Some (take n text, drop (n + 1) text)
+  cut_at text n is within =
+      ap (λ (k : ℕ). cut_by (nat_lt k (length text)) k text) is
+      ∙ ap (λ (b : Bool). cut_by b n text) (lt-ltb n (length text) within)
+
+  uncut : (text : List ℕ) → place text ≡ length text → parted c text ≡ None
+  uncut text is =
+      ap (λ (k : ℕ). cut_by (nat_lt k (length text)) k text) is
+      ∙ ap (λ (b : Bool). cut_by b (length text) text) (le-ltb (length text) (length text) (omega arith))
+
+  -- the place in a text with another one behind it
+  place-append : (xs ys : List ℕ) → place (xs ++ ys) ≡ cond (place xs == length xs) (length xs + place ys) (place xs)
+  place-append xs ys = prefix_len-append (λ (x : ℕ). not (is_byte c x)) xs ys
+
+  place_before : (xs ys : List ℕ) → place xs < length xs → place (xs ++ ys) ≡ place xs
+  place_before xs ys within =
+      place-append xs ys ∙ ap (λ (b : Bool). cond b (length xs + place ys) (place xs)) (ne_eqb (place xs) (length xs) (λ e. omega (arith, e, within)))
+
+  place_behind : (xs ys : List ℕ) → place xs ≡ length xs → place (xs ++ ys) ≡ length xs + place ys
+  place_behind xs ys none =
+      place-append xs ys ∙ ap (λ (b : Bool). cond b (length xs + place ys) (place xs)) (eq-eqb (place xs) (length xs) none)
+
+  -- more behind it goes to the rest
+  pub cut_with_more : (text first rest more : List ℕ) → parted c text ≡ Some (first, rest) → parted c (text ++ more) ≡ Some (first, rest ++ more)
+  cut_with_more text first rest more is =
+      let cut = cut_is text first rest is in
+      let n = place text in
+      let within : n < length text = cut.within in
+      let longer : n < length (text ++ more) = omega (arith, within, length-append text more) in
+      cut_at (text ++ more) n (place_before text more within) longer
+      ∙ ap (λ (xs : List ℕ). Some (xs, drop (n + 1) (text ++ more))) (take-append-le n text more (omega (arith, within)) ∙ cut.front)
+      ∙ ap (λ (xs : List ℕ). Some (first, xs)) (drop-append-le (n + 1) text more (omega (arith, within)) ∙ ap (λ (xs : List ℕ). xs ++ more) cut.back)
+
+  pub cut_shorter : (text first rest : List ℕ) → parted c text ≡ Some (first, rest) → length rest < length text
+  cut_shorter text first rest is =
+      let cut = cut_is text first rest is in
+      omega (arith, cut.within, ap length cut.back, length-drop (place text + 1) text)
+
+  -- uncut bytes before it go to the first part
+  pub cut_behind : (begun text first rest : List ℕ) → parted c begun ≡ None → parted c text ≡ Some (first, rest) → parted c (begun ++ text) ≡ Some (begun ++ first, rest)
+  cut_behind begun text first rest none is =
+      let cut = cut_is text first rest is in
+      let n = place text in
+      let within : n < length text = cut.within in
+      let at : place (begun ++ text) ≡ length begun + n = place_behind begun text (no_cut begun none) in
+      let longer : length begun + n < length (begun ++ text) = omega (arith, within, length-append begun text) in
+      let next : length begun + n + 1 ≡ length begun + (n + 1) = omega arith in
+      cut_at (begun ++ text) (length begun + n) at longer
+      ∙ ap (λ (xs : List ℕ). Some (xs, drop (length begun + n + 1) (begun ++ text))) (take-append-add begun text n ∙ ap (λ (xs : List ℕ). begun ++ xs) cut.front)
+      ∙ ap (λ (xs : List ℕ). Some (begun ++ first, xs)) (ap (λ (k : ℕ). drop k (begun ++ text)) next ∙ drop-append-add begun text (n + 1) ∙ cut.back)
+
+  -- two uncut texts
+  pub uncut_both : (xs ys : List ℕ) → parted c xs ≡ None → parted c ys ≡ None → parted c (xs ++ ys) ≡ None
+  uncut_both xs ys none also =
+      uncut (xs ++ ys) (place_behind xs ys (no_cut xs none) ∙ ap (λ (n : ℕ). length xs + n) (no_cut ys also) ∙ sym (length-append xs ys))

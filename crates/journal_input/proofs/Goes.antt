@@ -1,0 +1,65 @@
+-- The invariants of the loops over an input.
+use Rattle.std.proofs.Common.{◌≡◌, ℕ, ◌+◌, ◌<◌, List, [], ◌++◌, length, refl, sym, ap, ◌∙◌, subst, append_assoc, append-nil, length-append, arith}
+use Rattle.osm_model.specs.declared.commands.Entry.{Entry}
+use Rattle.osm_outside.specs.Told.{Told}
+use Rattle.http_wire.specs.Received.{Fills}
+use Rattle.journal_text.specs.Text.{header}
+use Rattle.journal_input.specs.declared.lines.Lines.{Lines}
+use Rattle.journal_text.specs.declared.faults.JournalFault.{JournalFault}
+use Rattle.journal_input.specs.Going.{SoFar, Stands, LinesFail, Fails, Gone}
+use Rattle.journal_input.proofs.Ends.{lines_fail}
+use Rattle.journal_input.proofs.SoFarLemmas.{one_more, behind}
+
+-- more of a text was read, and so many bytes of it are read now
+pub record Longer (before now : Told) (text : List ℕ) (count : ℕ) : Type 0 where
+  pub more : List ℕ
+  pub so_far : SoFar before now (text ++ more)
+  pub size : count ≡ length (text ++ more)
+
+pub no_longer : (a b : Told) (text : List ℕ) (count : ℕ) → SoFar a b text → count ≡ length text → Longer a b text count
+no_longer a b text count so_far size = record {
+  more = [];
+  so_far = subst (λ (t : List ℕ). SoFar a b t) (sym (append-nil text)) so_far;
+  size = size ∙ ap length (sym (append-nil text));
+}
+
+-- the text with one more piece, and its length
+pub with_piece : (a b c : Told) (text more piece : List ℕ) (n : ℕ) → SoFar a b (text ++ more) → 0 < n → Fills b c [] piece n → SoFar a c (text ++ (more ++ piece))
+with_piece a b c text more piece n so_far some f =
+    one_more a b c (text ++ more) (text ++ (more ++ piece)) n some so_far
+    (behind b c (text ++ more) (text ++ (more ++ piece)) piece n f (sym (append_assoc text more piece)))
+
+pub size_with_piece : (b c : Told) (text more piece : List ℕ) (n count next : ℕ) → Fills b c [] piece n → count ≡ length (text ++ more) → next ≡ count + n → next ≡ length (text ++ (more ++ piece))
+size_with_piece b c text more piece n count next f size is =
+    let one : length piece ≡ n = ap length f.joined ∙ f.size in
+    omega (arith, size, is, one, length-append text more, length-append text (more ++ piece), length-append more piece)
+
+pub longer : (a b c : Told) (text piece : List ℕ) (count next n : ℕ) → Longer a b text count → 0 < n → Fills b c [] piece n → next ≡ count + n → Longer a c text next
+longer a b c text piece count next n l some f is = record {
+  more = l.more ++ piece;
+  so_far = with_piece a b c text l.more piece n l.so_far some f;
+  size = size_with_piece b c text l.more piece n count next f l.size is;
+}
+
+-- the lines behind a header, before the first one
+pub gone_nowhere : (a b : Told) (journal : List Entry) (lines : Lines) (count : ℕ) → SoFar a b header → count ≡ length header → Stands [] journal lines [] → Gone a b journal lines count
+gone_nowhere a b journal lines count so_far size stands = record { bytes = []; so_far = so_far; size = size; stands = stands }
+
+pub gone_on : (a b c : Told) (old new : List Entry) (lines next : Lines) (piece other : List ℕ) (count n : ℕ) → (gone : Gone a b old lines count) → 0 < n → Fills b c [] other n
+    → Stands (gone.bytes ++ piece) new next [] → piece ≡ other → Gone a c new next (count + n)
+gone_on a b c old new lines next piece other count n gone some f stands same =
+    let filled = subst (λ (p : List ℕ). Fills b c [] p n) (sym same) f in
+    record {
+      bytes = gone.bytes ++ piece;
+      so_far = with_piece a b c header gone.bytes piece n gone.so_far some filled;
+      size = size_with_piece b c header gone.bytes piece n count (count + n) filled gone.size refl;
+      stands = stands;
+    }
+
+-- a fault of the lines is the text's, as whoever reads its rest asks for it
+pub fails_there : (a b c : Told) (old : List Entry) (lines : Lines) (piece other : List ℕ) (count n : ℕ) (why : JournalFault) (Result : Type 0) → (gone : Gone a b old lines count) → 0 < n
+    → Fills b c [] other n → LinesFail why (gone.bytes ++ piece) → ((text : List ℕ) → SoFar a c text → count + n ≡ length text → Fails why text → Result) → piece ≡ other → Result
+fails_there a b c old lines piece other count n why Result gone some f fail refuse same =
+    let filled = subst (λ (p : List ℕ). Fills b c [] p n) (sym same) f in
+    refuse (header ++ (gone.bytes ++ piece)) (with_piece a b c header gone.bytes piece n gone.so_far some filled)
+    (size_with_piece b c header gone.bytes piece n count (count + n) filled gone.size refl) (lines_fail why (gone.bytes ++ piece) fail)

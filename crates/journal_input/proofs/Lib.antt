@@ -1,0 +1,7 @@
+mod Received
+mod SoFarLemmas
+mod Cut
+mod LinesLemmas
+mod Ends
+mod Exits
+mod Goes

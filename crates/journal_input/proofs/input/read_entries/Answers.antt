@@ -1,0 +1,30 @@
+use Rattle.std.proofs.Common.{◌≡◌, length, arith, rules}
+use Rattle.journal_text.specs.Text.{header}
+use Rattle.journal_input.proofs.Ends.{short_input, whole_front, header_fails}
+use Rattle.journal_input.proofs.Exits.{read_exit}
+use Rattle.journal_input.proofs.SoFarLemmas.{stops_is_fault}
+use Rattle.journal_input.proofs.input.read_entries.Goals as goal
+
+pub returns-in_err-front : goal.returns-in_err-front
+returns-in_err-front g c =
+    let why = c.in_err-front.field-0.0 in
+    read_exit c.from_residual-in_err-front.result why _ _ _ c.from_residual-in_err-front.ensures.1 (stops_is_fault why _ _ c.in_err-front.ensures.fault)
+
+pub returns-then-eq : goal.returns-then-eq
+returns-then-eq g c =
+    let same : c.in_ok-front.front.items ≡ header = search rules in
+    c.read_lines.ensures _ (whole_front _ _ _ c.in_ok-front.ensures.front same)
+
+pub returns-then-len : goal.returns-then-len
+returns-then-len g c =
+    short_input _ _ c.in_ok-front.front.items c.in_ok-front.ensures.front
+    (first_of (omega (arith, c.if-len.true, c.len.ensures, c.in_ok-front.front.ok), search arith, search (arith, rules)))
+
+pub returns : goal.returns
+returns g c =
+    let front = c.in_ok-front.front.items in
+    let is = c.in_ok-front.ensures.front in
+    let within = is.within in
+    let size : length front ≡ length header = first_of (omega (arith, within, c.if-len.false, c.len.ensures, c.in_ok-front.front.ok), search (arith, within)) in
+    let other : front ≡ header → ⊥ = λ same. first_of (search (rules, same), grind (arith, same)) in
+    c.refuse.ensures _ front (is.whole size) (first_of (search arith, omega (arith, c.len-else-len.ensures, c.in_ok-front.front.ok))) (header_fails front size other)

@@ -1,0 +1,61 @@
+-- An input whose lines were judged so far.
+use Rattle.std.specs.Prelude.{◌≡◌, ℕ, ◌+◌, ◌<◌, ◌≤◌, List, [], ◌++◌, length, None}
+use Rattle.std.specs.List.{concat}
+use Rattle.osm_base.specs.Parts.{parted}
+use Rattle.osm_model.specs.declared.commands.Entry.{Entry}
+use Rattle.osm_outside.specs.Told.{Told, Rose}
+use Rattle.http_wire.specs.Received.{Taken, HaveBytes}
+use Rattle.journal_text.specs.Faults.{IsFault}
+use Rattle.journal_text.specs.Lines.{Reads, IsLinesFault, IsRefused}
+use Rattle.journal_text.specs.Text.{header}
+use Rattle.journal_text.specs.declared.faults.JournalFault.{JournalFault}
+use Rattle.journal_text.specs.declared.faults.JournalFault.TheVariants as fault
+use Rattle.journal_text.specs.declared.limits.TheConstants.{TEXT_LIMIT}
+use Rattle.journal_input.specs.Input.{IsInput, IsStopped, IsOfNone}
+use Rattle.journal_input.specs.declared.faults.InputFault.{InputFault}
+use Rattle.journal_input.specs.declared.faults.InputFault.TheVariants as why
+use Rattle.journal_input.specs.declared.lines.Lines.{Lines}
+
+-- this text was read, each piece of it with a byte at least, and nothing else happened
+pub record SoFar (before now : Told) (text : List ℕ) : Type 0 where
+  pub pieces : List (List ℕ)
+  pub taken : Taken before now pieces
+  pub joined : text ≡ concat pieces
+  pub some : HaveBytes pieces
+
+-- a header's bytes were read, or all bytes of an input that has fewer
+pub record IsFront (before now : Told) (front : List ℕ) : Type 0 where
+  pub within : length front ≤ length header
+  pub whole : length front ≡ length header → SoFar before now front
+  pub short : length front < length header → IsInput before now front
+
+-- Reading failed or memory ran out, and nothing else happened.
+abbrev pub Stops : InputFault → Told → Told → Type 0
+Stops why.Failed before after = IsStopped before after × Rose before.read_faults after.read_faults
+Stops (why.Text fault.Memory) before after = IsStopped before after
+Stops (why.Text other) before after = ⊥
+
+-- ---- lines
+
+-- Of all these bytes the lines before the rest were judged, whatever follows: their entries are kept, the begun line has no byte 10, and it has the next number.
+pub record Stands (bytes : List ℕ) (journal : List Entry) (lines : Lines) (rest : List ℕ) : Type 0 where
+  pub reads : (more : List ℕ) → Reads (bytes ++ more) journal ((lines.begun.items ++ rest) ++ more)
+  pub open_line : parted 10 lines.begun.items ≡ None
+  pub number : lines.number ≡ length journal + 2
+
+-- the lines have this fault, whatever follows
+pub record LinesFail (why : JournalFault) (bytes : List ℕ) : Type 0 where
+  pub fails : (more : List ℕ) → IsLinesFault why (bytes ++ more) × IsRefused why (bytes ++ more)
+
+-- the text has this fault, whatever follows, where it isn't too long
+pub record Fails (why : JournalFault) (text : List ℕ) : Type 0 where
+  pub fails : (more : List ℕ) → length (text ++ more) ≤ TEXT_LIMIT → IsFault why (text ++ more) × IsOfNone why (text ++ more)
+
+-- ---- the input
+
+-- the header was read and all lines behind it that are whole, in so many bytes
+pub record Gone (before now : Told) (journal : List Entry) (lines : Lines) (count : ℕ) : Type 0 where
+  pub bytes : List ℕ
+  pub so_far : SoFar before now (header ++ bytes)
+  pub size : count ≡ length (header ++ bytes)
+  pub stands : Stands bytes journal lines []

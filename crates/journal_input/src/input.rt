@@ -1,0 +1,70 @@
+//! The entries of an input.
+ghost use Rattle.std.specs.Prelude.{◌≡◌, ◌<◌, [], length};
+ghost use Rattle.osm_outside.specs.Told.{Told};
+ghost use Rattle.journal_text.specs.Text.{header};
+ghost use Rattle.journal_input.specs.Going.{SoFar};
+ghost use Rattle.journal_input.specs.Input.{IsRead};
+
+use crate::faults::InputFault;
+use crate::front::read_front;
+use crate::lines::{Lines, end, judge_piece};
+use crate::pieces::{PIECE_ROOM, read_piece};
+use crate::refusal::refuse;
+use journal_text::{HEADER, JournalFault, Keeper, TEXT_LIMIT, lines_are_read_in_turn};
+use osm_outside::{Outside, Source};
+use std::alloc::Global;
+
+/// Reads a journal's text from a source to its end, or to one byte past `TEXT_LIMIT`, and has its
+/// entries kept line by line by a keeper that keeps nothing yet. Beside what is kept, one line and one
+/// piece of at most 65,536 bytes are in memory. After a fault the entries before the faulty line are
+/// kept, and the rest of the input is read and thrown away; want of memory stops reading.
+pub fn read_entries<S: Source, K: Keeper>(
+    alloc: Global,
+    source: &mut S,
+    keeper: &mut K,
+) -> Result<(), InputFault>
+    requires { K.kept keeper.old ≡ [] }
+    ensures { IsRead (S.told source.old) (S.told source.new) (K.kept keeper.new) result }
+{
+    let mut room = Vec::from_elem(alloc, 0, PIECE_ROOM)?;
+    let front = read_front(alloc, source, &mut room)?;
+    if front.as_slice() == HEADER {
+        read_lines(alloc, source, &mut room, keeper)
+    } else if front.len() < HEADER.len() {
+        Err(InputFault::Text(JournalFault::Header))
+    } else {
+        Err(refuse(source, &mut room, JournalFault::Header, front.len()))
+    }
+}
+
+/// Reads the lines behind a header, and has their entries kept.
+fn read_lines<S: Source, K: Keeper>(
+    alloc: Global,
+    source: &mut S,
+    room: &mut [u8],
+    keeper: &mut K,
+) -> Result<(), InputFault>
+    requires none { K.kept keeper.old ≡ [] }
+    requires some { 0 < length room.old }
+    ensures { (before : Told) → SoFar before (S.told source.old) header → IsRead before (S.told source.new) (K.kept keeper.new) result }
+{
+    lines_are_read_in_turn();
+    let mut lines = Lines {
+        begun: Vec::new(alloc),
+        number: 2,
+    };
+    let mut count = HEADER.len();
+    'pieces: while count <= TEXT_LIMIT {
+        let most = (TEXT_LIMIT + 1 - count).min(room.len());
+        let more = read_piece(source, &mut room[..most])?;
+        if more == 0 {
+            end(&lines)?;
+            return Ok(());
+        }
+        count += more;
+        if let Err(fault) = judge_piece(alloc, &mut lines, &room[..more], keeper) {
+            return Err(refuse(source, room, fault, count));
+        }
+    }
+    Err(InputFault::Text(JournalFault::Long))
+}
