@@ -1,0 +1,2 @@
+pub mod Unfailing
+pub mod Messages
