@@ -5,3 +5,4 @@ pub mod Lengths
 pub mod LeftLemmas
 pub mod UserLemmas
 pub mod TableLemmas
+pub mod OnlyMemory
