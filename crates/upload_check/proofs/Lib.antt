@@ -1,3 +1,4 @@
+mod Noted
 mod Users
 mod FirstUser
 mod Named

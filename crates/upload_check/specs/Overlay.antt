@@ -1,6 +1,7 @@
 -- What an upload has come to after some of its operations, beside the elements of before.
-use Rattle.std.specs.Prelude.{◌≡◌, ℕ, ◌<◌, ◌≤◌, Bool, false, not, ◌&&◌, List, [], length, take, slice_get, Option, Some, None, is_some, option_and_then, unwrap_or}
+use Rattle.std.specs.Prelude.{◌≡◌, ℕ, ◌-◌, ◌<◌, ◌≤◌, nat_lt, if◌then◌else◌, Bool, false, not, ◌&&◌, List, [], length, take, slice_get, Option, Some, None, is_some, option_and_then, unwrap_or}
 use Rattle.std.specs.Map.{lookup}
+use Rattle.std.specs.Option.{option_or}
 use Rattle.std.specs.Ordering.{nat_cmp}
 use Rattle.std.specs.BTreeMap.{is_at}
 use Rattle.osm_base.specs.Key.{key_eq, lists_key}
@@ -18,22 +19,39 @@ use Rattle.upload_check.specs.declared.standings.Standing.{Standing}
 use Rattle.upload_check.specs.declared.standings.Holds.{Holds}
 use Rattle.upload_check.specs.declared.standings.Holds.TheVariants.{AsBefore, Nothing, FromOperation}
 
--- what is noted of elements, by id
+-- what is noted of elements of one kind: of those created, whose ids rise from the first new one, in
+-- their order, of others by id
+pub record KindNotes : Type 0 where
+  pub first : ℕ
+  pub created : List Standing
+  pub older : List (ℕ × Standing)
+
+abbrev pub no_notes_from : ℕ → KindNotes
+no_notes_from first = record { first = first; created = []; older = [] }
+
+abbrev pub created_at : KindNotes → ℕ → Option Standing
+created_at n id = if nat_lt id n.first then None else slice_get n.created (id - n.first)
+
+abbrev pub older_at : KindNotes → ℕ → Option Standing
+older_at n id = lookup (is_at (nat_cmp id)) n.older
+
+-- of the created ones first
+abbrev pub noted_at : KindNotes → ℕ → Option Standing
+noted_at n id = option_or (created_at n id) (older_at n id)
+
+-- what is noted of elements
 pub record Notes : Type 0 where
-  pub nodes : List (ℕ × Standing)
-  pub ways : List (ℕ × Standing)
-  pub relations : List (ℕ × Standing)
+  pub nodes : KindNotes
+  pub ways : KindNotes
+  pub relations : KindNotes
 
-abbrev pub no_notes : Notes
-no_notes = record { nodes = []; ways = []; relations = [] }
-
-abbrev pub notes_of : Notes → Kind → List (ℕ × Standing)
+abbrev pub notes_of : Notes → Kind → KindNotes
 notes_of n kind.Node = n.nodes
 notes_of n kind.Way = n.ways
 notes_of n kind.Relation = n.relations
 
 abbrev pub noted : Notes → Key → Option Standing
-noted n k = lookup (is_at (nat_cmp k.id)) (notes_of n k.kind)
+noted n k = noted_at (notes_of n k.kind) k.id
 
 -- the elements of the operations so far, the ids that come next, and what is noted
 pub record Overlaid : Type 0 where

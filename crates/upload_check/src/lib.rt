@@ -5,6 +5,7 @@
 mod checks;
 mod counts;
 mod judged;
+mod kind_standings;
 mod names;
 mod overlays;
 mod references;

@@ -60,7 +60,7 @@ impl Overlay {
         Ok(Overlay {
             keys,
             next,
-            standings: Standings::new(alloc),
+            standings: Standings::new(alloc, next),
             scratch: Vec::new(alloc),
         })
     }

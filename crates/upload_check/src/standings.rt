@@ -1,12 +1,13 @@
-ghost use Rattle.std.specs.Prelude.{◌≡◌, Some, if◌then◌else◌, option_copied, OnOk};
+ghost use Rattle.std.specs.Prelude.{◌≡◌, None, Some, if◌then◌else◌, OnOk};
 ghost use Rattle.osm_base.specs.Key.{key_eq};
 ghost use Rattle.osm_base.specs.declared.keys.Key.{Key};
-ghost use Rattle.upload_check.specs.Overlay.{no_notes, noted};
+ghost use Rattle.upload_check.specs.Overlay.{noted};
 
+use crate::kind_standings::KindStandings;
 use osm_base::{Key, Kind, Memory};
+use osm_change::FirstIds;
 use osm_world::World;
 use std::alloc::Global;
-use std::collections::BTreeMap;
 use std::marker::Model;
 
 /// Where an element's content stands.
@@ -29,13 +30,12 @@ pub struct Standing {
     pub users: u64,
 }
 
-/// Where the elements stand of which the operations changed anything. A look takes the logarithm of
-/// their number, whatever ids a client chooses.
+/// Where the elements stand of which the operations changed anything.
 #[derive(Drop)]
 pub struct Standings {
-    nodes: BTreeMap<u64, Standing>,
-    ways: BTreeMap<u64, Standing>,
-    relations: BTreeMap<u64, Standing>,
+    nodes: KindStandings,
+    ways: KindStandings,
+    relations: KindStandings,
 }
 
 impl Model for Standings {
@@ -43,18 +43,18 @@ impl Model for Standings {
 
     ghost Value = { Notes };
 
-    ghost view = { λ s. record { nodes = s.nodes.entries; ways = s.ways.entries; relations = s.relations.entries } };
+    ghost view = { λ s. record { nodes = s.nodes; ways = s.ways; relations = s.relations } };
 }
 
 impl Standings {
-    /// Nothing is noted. It takes no memory.
-    pub fn new(alloc: Global) -> Standings
-        ensures { result ≡ no_notes }
+    /// Nothing is noted, and created elements have ids from `first` on. It takes no memory.
+    pub fn new(alloc: Global, first: FirstIds) -> Standings
+        ensures { (k : Key) → noted result k ≡ None }
     {
         Standings {
-            nodes: BTreeMap::new(alloc),
-            ways: BTreeMap::new(alloc),
-            relations: BTreeMap::new(alloc),
+            nodes: KindStandings::new(alloc, first.node),
+            ways: KindStandings::new(alloc, first.way),
+            relations: KindStandings::new(alloc, first.relation),
         }
     }
 
@@ -63,9 +63,9 @@ impl Standings {
         ensures { result ≡ noted self.now key }
     {
         match key.kind {
-            Kind::Node => self.nodes.get(&key.id).copied(),
-            Kind::Way => self.ways.get(&key.id).copied(),
-            Kind::Relation => self.relations.get(&key.id).copied(),
+            Kind::Node => self.nodes.look(key.id),
+            Kind::Way => self.ways.look(key.id),
+            Kind::Relation => self.relations.look(key.id),
         }
     }
 
@@ -74,23 +74,11 @@ impl Standings {
         ensures { OnOk result ((k : Key) → noted self.new k ≡ (if key_eq k key then Some standing else noted self.old k)) }
     {
         match key.kind {
-            Kind::Node => set_in(&mut self.nodes, key.id, standing),
-            Kind::Way => set_in(&mut self.ways, key.id, standing),
-            Kind::Relation => set_in(&mut self.relations, key.id, standing),
+            Kind::Node => self.nodes.set(key.id, standing),
+            Kind::Way => self.ways.set(key.id, standing),
+            Kind::Relation => self.relations.set(key.id, standing),
         }
     }
-}
-
-ghost use Rattle.std.specs.Prelude.{ℕ, ◌==◌};
-ghost use Rattle.std.specs.Map.{lookup};
-ghost use Rattle.std.specs.Ordering.{nat_cmp};
-ghost use Rattle.std.specs.BTreeMap.{is_at};
-
-fn set_in(notes: &mut BTreeMap<u64, Standing>, id: u64, standing: Standing) -> Result<(), Memory>
-    ensures { OnOk result ((i : ℕ) → lookup (is_at (nat_cmp i)) notes.new.entries ≡ (if i == id then Some standing else lookup (is_at (nat_cmp i)) notes.old.entries)) }
-{
-    notes.insert(id, standing)?;
-    Ok(())
 }
 
 ghost use Rattle.osm_world.specs.World.{state_of};

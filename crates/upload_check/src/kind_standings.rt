@@ -1,0 +1,99 @@
+ghost use Rattle.std.specs.Prelude.{◌≡◌, ℕ, ◌≤◌, ◌==◌, [], Option, None, Some, if◌then◌else◌, length, slice_get, OnOk};
+ghost use Rattle.std.specs.Map.{lookup};
+ghost use Rattle.std.specs.Ordering.{nat_cmp};
+ghost use Rattle.std.specs.BTreeMap.{is_at};
+ghost use Rattle.upload_check.specs.Overlay.{created_at, noted_at, no_notes_from};
+
+use crate::standings::Standing;
+use osm_base::Memory;
+use std::alloc::Global;
+use std::collections::BTreeMap;
+use std::marker::Model;
+
+/// Where the elements of one kind stand of which the operations changed anything. Ids of created
+/// elements rise by one from `first`, so those stand in a list; a look at one takes the same time
+/// however many there are. A look at an older element takes the logarithm of their number, whatever
+/// ids a client chooses.
+#[derive(Drop)]
+pub struct KindStandings {
+    first: u64,
+    created: Vec<Standing>,
+    older: BTreeMap<u64, Standing>,
+}
+
+impl Model for KindStandings {
+    ghost use Rattle.upload_check.specs.Overlay.{KindNotes};
+
+    ghost Value = { KindNotes };
+
+    ghost view = { λ s. record { first = s.first; created = s.created.items; older = s.older.entries } };
+}
+
+impl KindStandings {
+    /// Nothing is noted, and created elements have ids from `first` on. It takes no memory.
+    pub fn new(alloc: Global, first: u64) -> KindStandings
+        ensures { result ≡ no_notes_from first }
+    {
+        KindStandings {
+            first,
+            created: Vec::new(alloc),
+            older: BTreeMap::new(alloc),
+        }
+    }
+
+    /// What is noted of an element.
+    pub fn look(&self, id: u64) -> Option<Standing>
+        ensures { result ≡ noted_at self.now id }
+    {
+        match self.created(id) {
+            Some(standing) => Some(standing),
+            None => self.older.get(&id).copied(),
+        }
+    }
+
+    fn created(&self, id: u64) -> Option<Standing>
+        ensures { result ≡ created_at self.now id }
+    {
+        if id < self.first {
+            None
+        } else {
+            let place = (id - self.first) as usize;
+            self.created.get(place).copied()
+        }
+    }
+
+    /// Notes where an element stands now.
+    #[tactic(auto, using(crate::proofs::Noted::set_created, crate::proofs::Noted::set_early, crate::proofs::Noted::set_beyond))]
+    pub fn set(&mut self, id: u64, standing: Standing) -> Result<(), Memory>
+        ensures { OnOk result ((i : ℕ) → noted_at self.new i ≡ (if i == id then Some standing else noted_at self.old i)) }
+    {
+        if id < self.first {
+            return set_older(&mut self.older, id, standing);
+        }
+        let place = (id - self.first) as usize;
+        if place > self.created.len() {
+            return set_older(&mut self.older, id, standing);
+        }
+        set_created(&mut self.created, place, standing)
+    }
+}
+
+/// Sets what stands at a place of a list, or adds it at the end.
+fn set_created(created: &mut Vec<Standing>, place: usize, standing: Standing) -> Result<(), Memory>
+    requires { place ≤ length created.old.items }
+    ensures { OnOk result ((i : ℕ) → slice_get created.new.items i ≡ (if i == place then Some standing else slice_get created.old.items i)) }
+{
+    if place < created.len() {
+        created[place] = standing;
+    } else {
+        created.push(standing)?;
+    }
+    Ok(())
+}
+
+fn set_older(older: &mut BTreeMap<u64, Standing>, id: u64, standing: Standing) -> Result<(), Memory>
+    ensures { OnOk result ((i : ℕ) → lookup (is_at (nat_cmp i)) older.new.entries ≡ (if i == id then Some standing else lookup (is_at (nat_cmp i)) older.old.entries)) }
+{
+    older.insert(id, standing)?;
+    Ok(())
+}
