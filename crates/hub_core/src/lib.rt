@@ -6,6 +6,7 @@ mod books;
 mod dones;
 mod events;
 mod law;
+mod list_outlet;
 mod outlets;
 mod running;
 
@@ -13,5 +14,6 @@ pub use books::Book;
 pub use dones::{Done, Path};
 pub use events::{Event, Seen};
 pub use law::core_law;
+pub use list_outlet::ListOutlet;
 pub use outlets::{NoOutlet, Outlet};
 pub use running::{Run, interleave};

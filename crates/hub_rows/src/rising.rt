@@ -12,7 +12,8 @@ pub struct Rising;
 
 impl Machine for Rising {
     ghost use Rattle.std.specs.Prelude.{◌≡◌, ◌<◌, [], vec_len, vec_capacity};
-    ghost use Rattle.hub_rows.specs.Rising.{rising_rules, added_taken, nothing_consistent, added_consistent};
+    ghost use Rattle.hub_rows.specs.Rising.{rising_rules};
+    ghost use Rattle.hub_rows.specs.Laws.{added_taken, nothing_consistent, added_consistent};
 
     type World = Vec<u64>;
 

@@ -1,0 +1,80 @@
+//! An outlet in memory.
+ghost use Rattle.std.specs.Prelude.{◌≡◌, [], MatchResult, OnErr};
+ghost use Rattle.hub_core.specs.Outlets.{no_offer, counted, IsTaken, IsKept};
+
+use crate::outlets::Outlet;
+use osm_base::Memory;
+use std::alloc::Global;
+use std::marker::Model;
+
+/// An outlet that holds what it is offered. Offers are counted from 0, those that are refused too;
+/// an offer whose number is in a list is refused, as if memory ran out. An offer looks through that
+/// list once, and takes memory for its entry alone.
+#[derive(Drop)]
+pub struct ListOutlet<E> {
+    entries: Vec<E>,
+    offers: u64,
+    refused: Vec<u64>,
+}
+
+impl<E> Model for ListOutlet<E> {
+    ghost use Rattle.hub_core.specs.Outlets.{Listed};
+
+    ghost Value = { Listed E };
+
+    ghost view = { λ o. record { held = o.entries.items; made = o.offers; bad = o.refused.items } };
+}
+
+impl<E: Drop> ListOutlet<E> {
+    /// An outlet that holds nothing, and the numbers of the offers that it will refuse. It takes no
+    /// memory.
+    pub fn new(alloc: Global, bad: Vec<u64>) -> ListOutlet<E>
+        ensures { result ≡ no_offer bad.items }
+    {
+        ListOutlet {
+            entries: Vec::new(alloc),
+            offers: 0,
+            refused: bad,
+        }
+    }
+
+    /// The entries, in the order of their offers.
+    pub fn held(&self) -> &[E]
+        ensures { result.now ≡ self.now.held }
+    {
+        self.entries.as_slice()
+    }
+
+    /// Lets go of all entries. The count of offers goes on.
+    pub fn clear(&mut self)
+        ensures { self.new ≡ record self.old { held = [] } }
+    {
+        self.entries.clear();
+    }
+}
+
+impl<E: Drop> Outlet<E> for ListOutlet<E> {
+    ghost use Rattle.std.proofs.Common.{inl, refl};
+    ghost use Rattle.hub_core.specs.Outlets.{IsTaken, IsKept};
+
+    ghost welcomes = { λ outlet entry. Unit {0} };
+
+    ghost offered = { λ before entry after. IsTaken before entry after };
+
+    ghost kept = { λ before after. IsKept before after };
+
+    fn offer(&mut self, entry: E) -> Result<(), Memory>
+        ensures offers { MatchResult result (λ _. IsTaken self.old entry self.new) (λ _. IsKept self.old self.new) }
+        ensures refused { OnErr result (self.new ≡ counted self.old) }
+    {
+        let number = self.offers;
+        self.offers = number.saturating_add(1);
+        if self.refused.contains(&number) {
+            return Err(Memory);
+        }
+        self.entries.push(entry)?;
+        Ok(())
+    }
+
+    ghost keeps_itself = { λ outlet. inl refl };
+}
