@@ -1,5 +1,5 @@
 -- What the map's book keeps is a journal of the map, and a commit does what a command does to it.
-use Rattle.std.proofs.Common.{◌≡◌, ℕ, ◌+◌, ◌≤◌, ◌&&◌, ◌==◌, Bool, length, List, [], ◌∷◌, ◌++◌, Result, Ok, Err, sym, refl, ap, ◌∙◌, arith}
+use Rattle.std.proofs.Common.{◌≡◌, ℕ, ◌+◌, ◌≤◌, ◌&&◌, ◌==◌, Bool, length, List, [], ◌∷◌, ◌++◌, Result, Ok, Err, sym, refl, ap, ◌∙◌}
 use Rattle.std.proofs.lemmas.List.Sums.{count_by-le-length}
 use Rattle.hub_core.specs.Journal.{IsJournal, extended, is_numbered as numbered_by}
 use Rattle.machine_law.specs.Rules.{is_legal_from as legal_by}
@@ -7,7 +7,7 @@ use Rattle.osm_base.specs.declared.people.User.{User}
 use Rattle.osm_change.specs.declared.refusals.Refusal.{Refusal}
 use Rattle.osm_model.specs.Act.{Effect, judge}
 use Rattle.osm_model.specs.Answered.{stamp_on}
-use Rattle.osm_model.specs.Journal.{IsLegal, is_legal_from, is_numbered, takes, after, replay, calls_of, entry_of, next_entry, appended, journal_after}
+use Rattle.osm_model.specs.Journal.{IsLegal, is_legal_from, is_numbered, takes, after, replay, calls_of, entry_of, appended, journal_after}
 use Rattle.osm_model.specs.State.{empty}
 use Rattle.osm_model.specs.declared.commands.Command.{Command}
 use Rattle.osm_model.specs.declared.commands.Entry.{Entry}

@@ -6,3 +6,4 @@ pub mod Sessions
 pub mod Worked
 pub mod RowSteps
 pub mod Told
+pub mod Loads

@@ -1,5 +1,5 @@
 -- The laws of the map's rules that no call has to meet.
-use Rattle.std.proofs.Common.{◌≡◌, ℕ, ◌<◌, Bool, true, false, List, [], Result, Ok, Err, length, refl, ap, arith}
+use Rattle.std.proofs.Common.{◌≡◌, ℕ, Bool, true, false, [], Result, Ok, Err, length, refl, ap, arith}
 use Rattle.std.specs.Prelude.{IfSome, ◌&&◌, ◌==◌, is_ok}
 use Rattle.std.proofs.lemmas.Bool.Decides.{nat_tests}
 use Rattle.osm_base.specs.Stamp.{stamp_after}

@@ -9,3 +9,4 @@ pub mod Machine
 pub mod Laws
 pub mod Answers
 pub mod Desk
+pub mod Loads

@@ -1,5 +1,5 @@
 -- What a message asks, by the users of the server.
-use Rattle.std.specs.Prelude.{ℕ, Bool, false, not, List, map, slice_get, option_map, Option, Some, None, Result, Ok, Err}
+use Rattle.std.specs.Prelude.{ℕ, Bool, false, not, List, map, slice_get, Option, Some, None, Result, Ok, Err}
 use Rattle.std.specs.Option.{option_map_or}
 use Rattle.osm_base.specs.Outcome.{◌>>=◌, refuse_if}
 use Rattle.osm_base.specs.declared.people.User.{User}

@@ -1,8 +1,6 @@
-use Rattle.std.proofs.Common.{◌≡◌, [], append-nil, ◌∙◌}
-use Rattle.hub_core.specs.Paths.{IsDone}
+use Rattle.std.proofs.Common.{[], append-nil, ◌∙◌}
 use Rattle.osm_model.specs.Act.{act}
 use Rattle.osm_model.specs.Journal.{replay}
-use Rattle.api_desk.specs.Machine.{act_as}
 use Rattle.api_desk.proofs.Journals.{extended_after}
 use Rattle.api_desk.proofs.ReplyBytes.{bytes_long, read_back, read_status}
 use Rattle.api_desk.proofs.desk.change.Goals as goal

@@ -1,4 +1,4 @@
-use Rattle.std.proofs.Common.{◌≤◌, length, ap, sym, arith}
+use Rattle.std.proofs.Common.{length, ap, arith}
 use Rattle.osm_model.specs.declared.commands.Entry.{Entry}
 use Rattle.std.proofs.Common.{List}
 use Rattle.api_desk.proofs.Journals.{calls_within}

@@ -1,4 +1,4 @@
-use Rattle.std.proofs.Common.{◌≡◌, List, ℕ, ap, ◌∙◌}
+use Rattle.std.proofs.Common.{ap, ◌∙◌}
 use Rattle.osm_model.specs.Ask.{ask}
 use Rattle.osm_model.specs.Journal.{replay}
 use Rattle.osm_model.specs.declared.states.State.{State}
