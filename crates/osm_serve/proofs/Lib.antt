@@ -1,6 +1,7 @@
 pub mod Serving
 pub mod Measuring
 pub mod SentLemmas
-pub mod TableLemmas
 pub mod DoneLemmas
 pub mod PlayLemmas
+pub mod KeepLemmas
+pub mod Replaying

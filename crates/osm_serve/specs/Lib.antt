@@ -1,10 +1,10 @@
 pub mod Serve
 pub mod Users
 pub mod Tell
-pub mod Unfailing
-pub mod Reading
 pub mod Sending
 pub mod OneThread
 pub mod Played
 pub mod Measure
+pub mod Export
+pub mod Replay
 pub mod Run

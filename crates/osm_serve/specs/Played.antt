@@ -1,12 +1,11 @@
 -- What a load comes to, from the empty journal on.
-use Rattle.std.specs.Prelude.{◌≡◌, ℕ, List, [], length, count_by, Option, Ok}
+use Rattle.std.specs.Prelude.{◌≡◌, ℕ, List, [], length, count_by, Option}
 use Rattle.osm_model.specs.declared.commands.Entry.{Entry}
 use Rattle.osm_model.specs.Journal.{IsLegal, replay}
 use Rattle.user_table.specs.Rows.{Row}
-use Rattle.user_table.specs.Users.{table_of}
 use Rattle.load_summary.specs.Figures.{figures_of}
 use Rattle.workload.specs.declared.sent.Sent.{Sent}
-use Rattle.workload.specs.Users.{users_text}
+use Rattle.workload.specs.Users.{AreUsersOf}
 use Rattle.workload.specs.Request.{requests}
 use Rattle.osm_serve.specs.declared.play.Played.{Played}
 use Rattle.osm_serve.specs.declared.sending.Replies.{Replies}
@@ -21,14 +20,10 @@ pub record AreReplied (users : List Row) (load : List Sent) (old new : List Entr
   pub refused : replies.refused ≡ count_by refuses statuses
   pub lacking : replies.lacking ≡ count_by lacks_memory statuses
 
--- the users of a load
-abbrev pub IsTable : ℕ → List Row → Type 0
-IsTable sessions users = table_of (users_text sessions) ≡ Ok users
-
 -- The requests of a load were sent from the empty journal on, by its users, and made that journal.
 pub record Plays (seed sessions uploads : ℕ) (journal : List Entry) (replies : Replies) : Type 0 where
   pub users : List Row
-  pub table : IsTable sessions users
+  pub table : AreUsersOf sessions users
   pub legal : IsLegal journal
   pub sent : AreReplied users (requests seed sessions uploads) [] journal replies
   -- where no reply told of want of memory, the journal is that of the run on one thread

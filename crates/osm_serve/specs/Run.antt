@@ -9,6 +9,8 @@ use Rattle.osm_words.specs.declared.words.Load.{Load}
 use Rattle.osm_words.specs.Words.{Reading, pipe, measure, export, replay}
 use Rattle.osm_serve.specs.Serve.{ServesPipe}
 use Rattle.osm_serve.specs.Measure.{AreLines}
+use Rattle.osm_serve.specs.Export.{IsExport}
+use Rattle.osm_serve.specs.Replay.{Replays}
 use Rattle.osm_serve.specs.Tell.{LacksRoom, Tells}
 use Rattle.osm_serve.specs.Users.{IsTextOf, IsRefused}
 
@@ -71,19 +73,29 @@ pub record RunsMeasure (load : Load) (host host' : HostTold) (before after : Tol
   pub host_stays : host' ≡ host
   pub tells : Tells (AreLines load) before after status
 
+-- what `export` comes to, with the host left alone
+pub record RunsExport (load : Load) (host host' : HostTold) (before after : Told) (status : ℕ) : Type 0 where
+  pub host_stays : host' ≡ host
+  pub tells : Tells (IsExport load.seed load.sessions load.uploads) before after status
+
+-- what `replay` comes to, with the host left alone
+pub record RunsReplay (host host' : HostTold) (before after : Told) (status : ℕ) : Type 0 where
+  pub host_stays : host' ≡ host
+  pub replays : Replays before after status
+
 -- The host and the link were left alone, and the program ended with that status.
 pub record IsUnserved (wanted : ℕ) (host host' : HostTold) (before after : Told) (status : ℕ) : Type 0 where
   pub host_stays : host' ≡ host
   pub link_stays : after ≡ before
   pub status_is : status ≡ wanted
 
--- what words come to: those without a reading are status 1, and so are those of a command that isn't built yet
+-- what words come to: those without a reading are status 1
 abbrev pub ComesTo : Option Reading → HostTold → HostTold → Told → Told → ℕ → Type 0
 ComesTo None = IsUnserved 1
 ComesTo (Some (pipe users at)) = RunsPipe at
 ComesTo (Some (measure load)) = RunsMeasure load
-ComesTo (Some (export load)) = IsUnserved 1
-ComesTo (Some replay) = IsUnserved 1
+ComesTo (Some (export load)) = RunsExport load
+ComesTo (Some replay) = RunsReplay
 
 -- the same, or there was no memory for reading the words
 abbrev pub Runs : Option Reading → HostTold → HostTold → Told → Told → ℕ → Type 0

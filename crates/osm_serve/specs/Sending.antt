@@ -7,7 +7,7 @@ use Rattle.http_link.specs.declared.desk.Reply.{Reply}
 use Rattle.user_table.specs.Rows.{Row}
 use Rattle.api_desk.specs.Answers.{Answers}
 use Rattle.workload.specs.declared.sent.Sent.{Sent}
-use Rattle.osm_serve.specs.Reading.{HasNoMessage}
+use Rattle.whole_messages.specs.Messages.{HasNoMessage}
 
 -- the moment of every request: 2023-11-14T22:13:20Z
 abbrev pub moment_of_load : ℕ

@@ -1,15 +1,16 @@
 //! The map server's top call: a run of the program on a host and its standard link, which serves
-//! the link or sends itself a generated load.
+//! the link, or sends itself a generated load and writes its numbers or its journal.
 #![tactic(auto)]
 
+mod export;
+mod keeper;
 mod measure;
 mod play;
-mod reading;
+mod replay;
 mod sending;
 mod serve;
 mod tell;
 mod top;
-mod unfailing;
 mod users;
 
 pub use top::run;

@@ -2,19 +2,19 @@
 ghost use Rattle.std.specs.Prelude.{◌≡◌, ◌<◌, ◌≤◌, IfOk, length};
 ghost use Rattle.osm_base.specs.declared.limits.TheConstants.{SESSION_LIMIT};
 ghost use Rattle.osm_model.specs.Journal.{IsLegal, replay};
-ghost use Rattle.user_table.specs.declared.faults.UsersFault.TheVariants as UsersFault;
 ghost use Rattle.load_summary.specs.Figures.{figures_of};
 ghost use Rattle.api_desk.specs.Desk.{entries_of};
-ghost use Rattle.osm_serve.specs.Played.{IsTable, IsPlayed};
+ghost use Rattle.osm_serve.specs.Played.{IsPlayed};
+ghost use Rattle.osm_serve.specs.Export.{IsExport};
 
 use crate::sending::{Replies, send_each};
 use api_desk::{MapMachine, OneDesk};
 use hub_core::Book;
+use journal_text::journal_text;
 use load_summary::{Figures, figures_of};
-use osm_base::{Memory, SESSION_LIMIT};
+use osm_base::{Bytes, Memory, SESSION_LIMIT};
 use std::alloc::Global;
-use user_table::{UserTable, UsersFault};
-use workload::{Load, users_are_read, users_text};
+use workload::{Load, users_of_load};
 
 const FIRST_SESSION: u32 = 0;
 
@@ -24,29 +24,6 @@ pub struct Played {
     /// The numbers of its journal, and of the map that it makes.
     pub figures: Figures,
     pub replies: Replies,
-}
-
-/// The table of a load's users.
-fn table_of(alloc: Global, sessions: u32) -> Result<UserTable, Memory>
-    requires { sessions ≤ SESSION_LIMIT }
-    ensures { IfOk result (IsTable sessions) }
-{
-    users_are_read();
-    let text = users_text(alloc, sessions)?;
-    match UserTable::read(alloc, text.as_slice()) {
-        Ok(users) => Ok(users),
-        Err(fault) => Err(memory_of(fault)),
-    }
-}
-
-/// The one fault that a load's users text may have.
-fn memory_of(fault: UsersFault) -> Memory
-    requires { fault ≡ UsersFault.Memory }
-{
-    match fault {
-        UsersFault::Memory => Memory,
-        _ => unreachable!(),
-    }
 }
 
 /// The numbers of a desk's journal and of its map.
@@ -65,10 +42,32 @@ pub fn run_load(alloc: Global, seed: u64, sessions: u32, uploads: u32) -> Result
     requires few { sessions ≤ SESSION_LIMIT }
     ensures { IfOk result (IsPlayed seed sessions uploads) }
 {
-    let users = table_of(alloc, sessions)?;
+    let users = users_of_load(alloc, sessions)?;
     let mut book = Book::<MapMachine>::new(alloc);
     let mut desk = OneDesk::new(alloc, &mut book, &users, FIRST_SESSION)?;
     let replies = send_each(alloc, Load::new(seed, sessions, uploads), &mut desk)?;
     let figures = figures_at(&desk);
     Ok(Played { figures, replies })
+}
+
+/// The text of the journal that a run of the load makes. A reply that tells of want of memory is
+/// `Memory` too.
+pub fn journal_of_load(
+    alloc: Global,
+    seed: u64,
+    sessions: u32,
+    uploads: u32,
+) -> Result<Bytes, Memory>
+    requires some { 0 < sessions }
+    requires few { sessions ≤ SESSION_LIMIT }
+    ensures { IfOk result (IsExport seed sessions uploads) }
+{
+    let users = users_of_load(alloc, sessions)?;
+    let mut book = Book::<MapMachine>::new(alloc);
+    let mut desk = OneDesk::new(alloc, &mut book, &users, FIRST_SESSION)?;
+    let replies = send_each(alloc, Load::new(seed, sessions, uploads), &mut desk)?;
+    if replies.lacking > 0 {
+        return Err(Memory);
+    }
+    journal_text(alloc, desk.entries())
 }

@@ -4,12 +4,12 @@ ghost use Rattle.api_desk.specs.Desk.{entries_of, users_of};
 ghost use Rattle.osm_serve.specs.Sending.{IsAnswered, IsSent, refuses, lacks_memory};
 ghost use Rattle.osm_serve.specs.Played.{AreReplied};
 
-use crate::reading::read_message;
 use api_desk::OneDesk;
 use http_link::Desk;
 use http_wire::Message;
 use osm_base::Memory;
 use std::alloc::Global;
+use whole_messages::whole_message;
 use workload::{Load, Sent};
 
 /// The moment of every request, in seconds since 1970: 2023-11-14T22:13:20Z.
@@ -39,7 +39,7 @@ fn send(alloc: Global, desk: &mut OneDesk<'_>, sent: Sent) -> Result<Option<u16>
     ensures users { users_of desk.new ≡ users_of desk.old }
 {
     let Sent { session, bytes } = sent;
-    match read_message(alloc, bytes)? {
+    match whole_message(alloc, bytes)? {
         Some(message) => Ok(Some(answer(alloc, desk, session, message))),
         None => Ok(None),
     }

@@ -3,7 +3,9 @@ ghost use Rattle.std.specs.Prelude.{◌≡◌, map, string_bytes};
 ghost use Rattle.osm_words.specs.Words.{HaveSessions, reading_of, shown};
 ghost use Rattle.osm_serve.specs.Run.{Runs, ComesTo, RunsPipe, ServesFrom, IsStarted, status_of};
 
+use crate::export::export;
 use crate::measure::measure;
+use crate::replay::replay;
 use crate::serve::serve_pipe;
 use crate::users::{NoUsers, read_users};
 use http_link::LinkEnd;
@@ -60,8 +62,7 @@ fn run_pipe<H: Host, L: Link>(
     }
 }
 
-/// Does what was read of the words. A command that isn't built yet ends as words without a reading
-/// do.
+/// Does what was read of the words.
 fn run_words<H: Host, L: Link>(
     alloc: Global,
     words: Words<'_>,
@@ -75,15 +76,15 @@ fn run_words<H: Host, L: Link>(
     match words {
         Words::Pipe { users, at } => run_pipe(alloc, users, at, host, standard),
         Words::Measure(load) => measure(alloc, load, standard),
-        Words::Export(_) => 1,
-        Words::Replay => 1,
+        Words::Export(load) => export(alloc, load, standard),
+        Words::Replay => replay(alloc, standard),
     }
 }
 
 /// Does what the words ask on the host and the standard link, and answers the program's status: 1
 /// where the words have no reading, 2 where the users text is refused, 3 for a fault of the host
 /// or in reading, 4 for a fault in writing, 5 for want of memory outside an answer, 7 where what
-/// came on the link was refused, and 0 otherwise.
+/// came on the link was refused, 8 where a journal's text was, and 0 otherwise.
 pub fn run<H: Host, L: Link>(alloc: Global, words: &[String], host: &mut H, standard: &mut L) -> u8
     ensures { Runs (reading_of (map string_bytes words.now)) (H.told host.old) (H.told host.new)
         (L.told standard.old) (L.told standard.new) result }

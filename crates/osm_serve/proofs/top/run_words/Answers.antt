@@ -13,8 +13,13 @@ measure-requires g c =
 pub returns-in-Measure : goal.returns-in-Measure
 returns-in-Measure g c = rw c.in-Measure.is (record { host_stays = refl; tells = c.measure.ensures })
 
+pub export-requires : goal.export-requires
+export-requires g c =
+    let has : HasSessions c.in-Export.load = rw c.in-Export.is at c.requires in
+    record { some = has.some; few = has.few }
+
 pub returns-in-Export : goal.returns-in-Export
-returns-in-Export g c = rw c.in-Export.is (record { host_stays = refl; link_stays = refl; status_is = refl })
+returns-in-Export g c = rw c.in-Export.is (record { host_stays = refl; tells = c.export.ensures })
 
 pub returns-in-Replay : goal.returns-in-Replay
-returns-in-Replay g c = rw c.in-Replay.is (record { host_stays = refl; link_stays = refl; status_is = refl })
+returns-in-Replay g c = rw c.in-Replay.is (record { host_stays = refl; replays = c.replay.ensures })

@@ -1,0 +1,27 @@
+use Rattle.std.proofs.Common.{◌≡◌, [], append-nil, refl, ap, sym, ◌∙◌, Ok}
+use Rattle.osm_base.specs.declared.memory.Memory.{Memory}
+use Rattle.osm_model.specs.Journal.{replay}
+use Rattle.hub_core.specs.Paths.{IsDone}
+use Rattle.api_desk.specs.Machine.{act_as}
+use Rattle.journal_text.specs.Kept.{kept_by}
+use Rattle.osm_serve.proofs.KeepLemmas.{kept_at, next, placed}
+use Rattle.osm_serve.proofs.keeper.take.Goals as goal
+
+pub commit-requires-clause-made : goal.commit-requires-clause-made
+commit-requires-clause-made g c = (c.args.book.now, _, ([], append-nil c.args.book.now), c.in_ok-plan.ensures.0)
+
+pub commit-requires-clause-next : goal.commit-requires-clause-next
+commit-requires-clause-next g c = next c.args.book.now c.args.entry c.requires.turn
+
+pub returns-clause-answer : goal.returns-clause-answer
+returns-clause-answer g c =
+    let es = c.args.book.now in
+    let acts = rw c.seconds.ensures at (c.in_ok-done.ensures.acts es _ ([], append-nil es) c.in_ok-plan.ensures.0) in
+    c.is_some.ensures ∙ placed es c.args.entry _ _ c.requires.turn refl acts.placed
+
+pub returns-clause-kept : goal.returns-clause-kept
+returns-clause-kept g c =
+    let es = c.args.book.now in
+    let acts = rw c.seconds.ensures at (c.in_ok-done.ensures.acts es _ ([], append-nil es) c.in_ok-plan.ensures.0) in
+    kept_at es c.args.entry _ _ c.requires.turn refl acts.entered
+    ∙ ap (λ b. kept_by {E = Memory} (Ok b) es c.args.entry) (sym (c.is_some.ensures ∙ placed es c.args.entry _ _ c.requires.turn refl acts.placed))

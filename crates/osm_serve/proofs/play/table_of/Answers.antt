@@ -1,9 +1,0 @@
-use Rattle.std.proofs.Common.{ap, ◌∙◌}
-use Rattle.user_table.specs.Users.{table_of}
-use Rattle.osm_serve.proofs.TableLemmas.{only_memory}
-use Rattle.osm_serve.proofs.play.table_of.Goals as goal
-
-pub memory_of-requires : goal.memory_of-requires
-memory_of-requires c =
-    only_memory _ _ c.in-Err.fault (ap table_of (c.as_slice.ensures ∙ c.in_ok-text.ensures))
-    (c.users_are_read.ensures c.args.sessions c.requires) (rw c.in-Err.is at c.read.ensures)

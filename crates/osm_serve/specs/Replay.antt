@@ -1,0 +1,47 @@
+-- What `replay` reads, and what it writes.
+use Rattle.std.specs.Prelude.{◌≡◌, ℕ, ◌⊎◌, List, length, Ok, Err}
+use Rattle.osm_model.specs.declared.commands.Entry.{Entry}
+use Rattle.osm_model.specs.Journal.{replay}
+use Rattle.osm_outside.specs.Told.{Told}
+use Rattle.load_summary.specs.Figures.{figures_of}
+use Rattle.load_summary.specs.Summary.{replay_summary}
+use Rattle.journal_text.specs.declared.faults.JournalFault.{JournalFault}
+use Rattle.journal_text.specs.declared.faults.JournalFault.TheVariants.{Long, Header, Line, Illegal, Memory}
+use Rattle.journal_input.specs.Input.{IsRead}
+use Rattle.journal_input.specs.declared.faults.InputFault.{InputFault}
+use Rattle.journal_input.specs.declared.faults.InputFault.TheVariants.{Failed, Text}
+use Rattle.osm_serve.specs.Tell.{Tells}
+
+-- the lines that tell of the replay of a journal
+abbrev pub AreReplayLines : List Entry → List ℕ → Type 0
+AreReplayLines journal text = text ≡ replay_summary (figures_of (replay journal).elements (length journal))
+
+-- The input was read as the text of a journal, and then the lines of its replay were written.
+pub record TellsReplay (before after : Told) (status : ℕ) : Type 0 where
+  pub journal : List Entry
+  pub between : Told
+  pub read : IsRead {X = Unit {0}} before between journal (Ok tt)
+  pub tells : Tells (AreReplayLines journal) between after status
+
+-- a text that is refused is 8, a failed read 3 and want of memory 5
+abbrev pub status_of_text : JournalFault → ℕ
+status_of_text Memory = 5
+status_of_text Long = 8
+status_of_text Header = 8
+status_of_text (Line n) = 8
+status_of_text (Illegal n) = 8
+
+abbrev pub status_of_input : InputFault → ℕ
+status_of_input Failed = 3
+status_of_input (Text why) = status_of_text why
+
+-- Reading ended with a fault, and nothing was written.
+pub record StopsReplay (before after : Told) (status : ℕ) : Type 0 where
+  pub journal : List Entry
+  pub fault : InputFault
+  pub read : IsRead {X = Unit {0}} before after journal (Err fault)
+  pub status_is : status ≡ status_of_input fault
+
+-- what `replay` comes to
+abbrev pub Replays : Told → Told → ℕ → Type 0
+Replays before after status = TellsReplay before after status ⊎ StopsReplay before after status

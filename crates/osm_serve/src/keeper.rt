@@ -1,0 +1,113 @@
+//! The map's book, as the keeper of a text's entries.
+ghost use Rattle.std.specs.Prelude.{◌≡◌, ◌<◌, ◌≤◌, ◌+◌, length, true, [], IfOk};
+ghost use Rattle.journal_text.specs.Kept.{may_follow, kept_by, is_in_turn};
+
+use api_desk::{Asked, MapMachine};
+use hub_core::{Book, NoOutlet};
+use journal_text::Keeper;
+use machine_law::{Machine, Tag};
+use osm_base::{Memory, Stamp, Steps};
+use osm_model::Entry;
+use std::alloc::Global;
+use std::marker::{Brand, Model};
+use std::sync::ledger::{Blank, Ledger};
+
+/// How many sessions may stand in a text. A book has a place for each session up to the greatest, so
+/// one line could ask for many gigabytes.
+const SESSION_PLACES: u32 = 16_777_216;
+
+/// A book that keeps entries which were made before, each where the map accepts it. Sessions from
+/// `SESSION_PLACES` on are want of memory.
+#[derive(Drop)]
+pub struct BookKeeper {
+    book: Book<MapMachine>,
+}
+
+impl Model for BookKeeper {
+    ghost use Rattle.std.specs.Prelude.{List};
+    ghost use Rattle.osm_model.specs.declared.commands.Entry.{Entry};
+
+    ghost Value = { List Entry };
+
+    ghost view = { λ keeper. keeper.book };
+}
+
+impl BookKeeper {
+    /// A keeper of no entry. It takes no memory.
+    pub fn new(alloc: Global) -> BookKeeper
+        ensures { result ≡ [] }
+    {
+        BookKeeper {
+            book: Book::new(alloc),
+        }
+    }
+
+    /// The book of what is kept.
+    pub fn book(&self) -> &Book<MapMachine>
+        ensures { result.now ≡ self.now }
+    {
+        &self.book
+    }
+}
+
+impl Keeper for BookKeeper {
+    ghost kept = { λ entries. entries };
+
+    fn keep(&mut self, alloc: Global, entry: Entry) -> Result<bool, Memory> {
+        if !is_in_turn(&self.book, &entry) {
+            return Ok(false);
+        }
+        if entry.session >= SESSION_PLACES {
+            return Err(Memory);
+        }
+        take::<Brand>(alloc, &mut self.book, entry, Blank::new(1))
+    }
+}
+
+/// Whether the entry has the next number of its session, and a stamp that the last one allows.
+fn is_in_turn(book: &Book<MapMachine>, entry: &Entry) -> bool
+    ensures { result ≡ is_in_turn book.now entry.now }
+{
+    let call = one_more(book.calls(entry.session), book.journal());
+    let stamp = Stamp::after(book.world().world().last_stamp(), entry.stamp.seconds());
+    entry.call == call && stamp.seconds() == entry.stamp.seconds()
+}
+
+/// A number of some of these entries, and one.
+fn one_more(calls: u64, entries: &[Entry]) -> u64
+    requires { calls ≤ length entries.now }
+    ensures { result ≡ calls + 1 }
+{
+    let _all = entries.len();
+    calls + 1
+}
+
+/// Keeps the entry where its command is accepted.
+fn take<L: Ledger>(
+    alloc: Global,
+    book: &mut Book<MapMachine>,
+    entry: Entry,
+    blank: Blank,
+) -> Result<bool, Memory>
+    requires name { blank.name ≡ L.name }
+    requires parts { blank.parts ≡ L.parts }
+    requires some { 0 < blank.parts }
+    requires turn { is_in_turn book.old entry ≡ true }
+    ensures answer { IfOk result (λ b. b ≡ may_follow book.old entry) }
+    ensures kept { book.new ≡ kept_by result book.old entry }
+{
+    let (ledger, share) = blank.open::<L>();
+    let mut steps = Steps::of(ledger, share);
+    let Entry {
+        session,
+        call,
+        user,
+        stamp,
+        command,
+    } = entry;
+    let asked = Asked { user, command };
+    let plan = MapMachine::plan(alloc, book.world(), asked, &mut steps)?;
+    let tag = Tag { session, call };
+    let done = book.commit(plan, stamp.seconds(), tag, &mut NoOutlet, &mut steps)?;
+    Ok(done.place.is_some())
+}

@@ -1,0 +1,70 @@
+//! Reading a journal's text and telling of its map.
+ghost use Rattle.std.specs.Prelude.{◌≡◌, IfOk};
+ghost use Rattle.osm_serve.specs.Replay.{AreReplayLines, Replays, status_of_input, status_of_text};
+ghost use Rattle.osm_serve.specs.Tell.{Tells};
+
+use crate::keeper::BookKeeper;
+use crate::tell::tell;
+use api_desk::MapMachine;
+use hub_core::Book;
+use journal_input::{InputFault, read_entries};
+use journal_text::JournalFault;
+use load_summary::{figures_of, replay_summary};
+use osm_base::{Memory, Text};
+use osm_outside::{Link, Outside};
+use std::alloc::Global;
+
+/// The lines that tell of a book's map.
+fn lines_of(alloc: Global, book: &Book<MapMachine>) -> Result<Text, Memory>
+    ensures { IfOk result (AreReplayLines book.now) }
+{
+    let entries = book.journal().len() as u64;
+    replay_summary(alloc, &figures_of(book.world().world().store(), entries))
+}
+
+/// Writes the lines that tell of a book's map.
+fn tell_of<L: Link>(alloc: Global, book: &Book<MapMachine>, link: &mut L) -> u8
+    ensures { Tells (AreReplayLines book.now) (L.told link.old) (L.told link.new) result }
+{
+    match lines_of(alloc, book) {
+        Ok(text) => tell(text.as_str().as_bytes(), link),
+        Err(_) => 5,
+    }
+}
+
+/// The status that a fault of a text is: 5 for want of memory, and 8 where the text is refused.
+fn status_of_text(fault: JournalFault) -> u8
+    ensures { result ≡ status_of_text fault }
+{
+    match fault {
+        JournalFault::Memory => 5,
+        JournalFault::Long
+        | JournalFault::Header
+        | JournalFault::Line { .. }
+        | JournalFault::Illegal { .. } => 8,
+    }
+}
+
+/// The status that a fault of an input is: 3 where a read failed.
+fn status_of_input(fault: InputFault) -> u8
+    ensures { result ≡ status_of_input fault }
+{
+    match fault {
+        InputFault::Failed => 3,
+        InputFault::Text(fault) => status_of_text(fault),
+    }
+}
+
+/// Reads the text of a journal from the link, to the input's end or to one byte past the most that a
+/// text may have, and writes the lines that tell of its map. The status is 0 where they were written
+/// whole, 3 for a fault in reading, 4 for one in writing, 5 for want of memory, and 8 where the text
+/// is refused.
+pub fn replay<L: Link>(alloc: Global, link: &mut L) -> u8
+    ensures { Replays (L.told link.old) (L.told link.new) result }
+{
+    let mut keeper = BookKeeper::new(alloc);
+    match read_entries(alloc, link, &mut keeper) {
+        Ok(()) => tell_of(alloc, keeper.book(), link),
+        Err(fault) => status_of_input(fault),
+    }
+}
