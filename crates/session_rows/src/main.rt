@@ -2,12 +2,10 @@
 //! and what must come of them. docs/ROWS.md has the format.
 #![tactic(auto)]
 
-mod lines;
 mod plays;
 mod rows;
 mod sweeps;
 mod tally;
-mod wire;
 
 use std::alloc::Global;
 use std::io;

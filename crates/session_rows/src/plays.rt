@@ -1,9 +1,9 @@
 //! One run of the server for a row, and whether what came is what must come.
-use crate::lines::RowFault;
 use crate::rows::Row;
 use osm_base::Bytes;
 use osm_outside::{MemHost, MemLink};
 use osm_serve::run;
+use row_lines::{RowFault, shown};
 use std::alloc::Global;
 use std::fmt;
 
@@ -140,8 +140,8 @@ fn differing(
     let status = came.status;
     let written = came.written.as_slice();
     let start = same(wanted, written).saturating_sub(SHOWN_BEFORE);
-    let wanted = shown(alloc, wanted, start)?;
-    let written = shown(alloc, written, start)?;
+    let wanted = shown_from(alloc, wanted, start)?;
+    let written = shown_from(alloc, written, start)?;
     Ok(format!(in alloc;
         "{way}\n    wanted: status {due}, {wanted}\n    came:   status {status}, {written}"
     )?)
@@ -153,16 +153,8 @@ fn same(wanted: &[u8], came: &[u8]) -> usize {
     pairs.take_while(|(wanted, came)| wanted == came).count()
 }
 
-/// The bytes from there on, as a line of text.
-fn shown(alloc: Global, bytes: &[u8], start: usize) -> Result<String, RowFault> {
-    let mut text = String::new(alloc);
-    for byte in bytes.iter().skip(start).take(SHOWN) {
-        match *byte {
-            b'\r' => text.push_str("\\r")?,
-            b'\n' => text.push_str("\\n")?,
-            b' '..=b'~' => text.push(char::from(*byte))?,
-            other => text.push_str(format!(in alloc; "\\x{other:02x}")?.as_str())?,
-        }
-    }
-    Ok(text)
+/// Some bytes from there on, as a line of text.
+fn shown_from(alloc: Global, bytes: &[u8], start: usize) -> Result<String, RowFault> {
+    let rest = bytes.get(start..).unwrap_or(&[]);
+    shown(alloc, rest.get(..SHOWN).unwrap_or(rest))
 }

@@ -1,6 +1,5 @@
 //! A row: a session on one link, and what must come of it.
-use crate::lines::{RowFault, number, numbered, unescaped, written_out};
-use crate::wire::{reply, request};
+use row_lines::{RowFault, number, numbered, reply, request, unescaped, written_out};
 use std::alloc::Global;
 
 /// The words of most rows, and those of a row by the link's own clock.

@@ -1,7 +1,7 @@
 //! The runs of a row: as it is, and in each of its sweeps.
-use crate::lines::RowFault;
 use crate::plays::{Play, Way};
 use crate::rows::{Row, Sweep};
+use row_lines::RowFault;
 use std::alloc::Global;
 
 /// The runs of a row: how many there were, and what was wrong.

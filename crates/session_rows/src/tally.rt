@@ -1,7 +1,7 @@
 //! What was played, and how much of it was wrong.
-use crate::lines::RowFault;
 use crate::rows::Row;
 use crate::sweeps::{Runs, played};
+use row_lines::RowFault;
 use std::alloc::Global;
 use std::io;
 

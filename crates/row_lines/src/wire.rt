@@ -1,16 +1,42 @@
 //! The bytes of requests and replies.
-use crate::lines::RowFault;
+use crate::faults::RowFault;
 use std::alloc::Global;
 
-/// The field that tells who asks.
-fn token_of(caller: &str) -> Result<&'static str, RowFault> {
-    match caller {
-        "alice" => Ok("Authorization: Bearer alicetoken\r\n"),
-        "bob" => Ok("Authorization: Bearer bobtoken\r\n"),
-        "stranger" => Ok("Authorization: Bearer carolstoken\r\n"),
-        "nobody" => Ok(""),
-        _ => Err(RowFault::Unread),
+/// The fields that tell who asks.
+const TOKENS: [(&str, &str); 5] = [
+    ("alice", "Authorization: Bearer alicetoken\r\n"),
+    ("bob", "Authorization: Bearer bobtoken\r\n"),
+    ("carol", "Authorization: Bearer caroltoken\r\n"),
+    ("stranger", "Authorization: Bearer carolstoken\r\n"),
+    ("nobody", ""),
+];
+
+/// The reasons of statuses (RFC 9110, section 15; RFC 6585, section 5).
+const REASONS: [(&str, &str); 14] = [
+    ("200", "OK"),
+    ("400", "Bad Request"),
+    ("401", "Unauthorized"),
+    ("403", "Forbidden"),
+    ("404", "Not Found"),
+    ("405", "Method Not Allowed"),
+    ("409", "Conflict"),
+    ("410", "Gone"),
+    ("412", "Precondition Failed"),
+    ("413", "Content Too Large"),
+    ("415", "Unsupported Media Type"),
+    ("431", "Request Header Fields Too Large"),
+    ("501", "Not Implemented"),
+    ("503", "Service Unavailable"),
+];
+
+/// What a table has beside a word.
+fn looked_up(table: &[(&'static str, &'static str)], word: &str) -> Result<&'static str, RowFault> {
+    for (name, text) in table {
+        if *name == word {
+            return Ok(*text);
+        }
     }
+    Err(RowFault::Unread)
 }
 
 /// What stands behind the fields of a request: its length and its body, where it has one.
@@ -33,7 +59,7 @@ pub fn request(alloc: Global, fields: &[u8], line: &str) -> Result<Vec<u8>, RowF
     let (caller, rest) = line.split_once(' ').ok_or(RowFault::Unread)?;
     let (method, rest) = rest.split_once(' ').ok_or(RowFault::Unread)?;
     let (path, body) = rest.split_once(' ').unwrap_or((rest, ""));
-    let token = token_of(caller)?;
+    let token = looked_up(&TOKENS, caller)?;
     let start = request_line(alloc, method, path)?;
     let end = ending(alloc, body)?;
     let mut made = start.into_bytes();
@@ -43,27 +69,6 @@ pub fn request(alloc: Global, fields: &[u8], line: &str) -> Result<Vec<u8>, RowF
     Ok(made)
 }
 
-/// The status line of a status (RFC 9110, section 15; RFC 6585, section 5).
-fn status_line(status: &str) -> Result<&'static str, RowFault> {
-    match status {
-        "200" => Ok("200 OK"),
-        "400" => Ok("400 Bad Request"),
-        "401" => Ok("401 Unauthorized"),
-        "403" => Ok("403 Forbidden"),
-        "404" => Ok("404 Not Found"),
-        "405" => Ok("405 Method Not Allowed"),
-        "409" => Ok("409 Conflict"),
-        "410" => Ok("410 Gone"),
-        "412" => Ok("412 Precondition Failed"),
-        "413" => Ok("413 Content Too Large"),
-        "415" => Ok("415 Unsupported Media Type"),
-        "431" => Ok("431 Request Header Fields Too Large"),
-        "501" => Ok("501 Not Implemented"),
-        "503" => Ok("503 Service Unavailable"),
-        _ => Err(RowFault::Unread),
-    }
-}
-
 /// The bytes of a reply line: `STATUS BODY`, or `STATUS close BODY` where the link is closed.
 pub fn reply(alloc: Global, line: &str) -> Result<Vec<u8>, RowFault> {
     let (status, rest) = line.split_once(' ').ok_or(RowFault::Unread)?;
@@ -71,9 +76,11 @@ pub fn reply(alloc: Global, line: &str) -> Result<Vec<u8>, RowFault> {
         Some(body) => ("Connection: close\r\n", body),
         None => ("", rest),
     };
-    let line = status_line(status)?;
+    let reason = looked_up(&REASONS, status)?;
     let length = body.len();
     let head = "Content-Type: application/json\r\nContent-Length: ";
-    let text = format!(in alloc; "HTTP/1.1 {line}\r\n{head}{length}\r\n{connection}\r\n{body}")?;
+    let text = format!(in alloc;
+        "HTTP/1.1 {status} {reason}\r\n{head}{length}\r\n{connection}\r\n{body}"
+    )?;
     Ok(text.into_bytes())
 }
