@@ -1,5 +1,5 @@
 use Rattle.std.proofs.Common.{◌≡◌, ◌-◌, length}
-use Rattle.world_rows.proofs.beside.Beside.catch_up.Given as goal
+use Rattle.same_maps.proofs.anew.Anew.take_all.Given as goal
 
 abbrev pub invariant-entries : goal.invariant-entries
 invariant-entries l = l.self.entries ≡ l.initial.self.entries

@@ -1,12 +1,12 @@
 use Rattle.std.proofs.Common.{◌≡◌, ◌<◌, true, ap, sym, subst, ◌∙◌, get_or, length}
 use Rattle.osm_model.specs.Journal.{takes}
 use Rattle.osm_model.specs.declared.states.State.{State}
-use Rattle.world_rows.proofs.Points.{taken-at}
-use Rattle.world_rows.proofs.beside.Beside.take_next.Goals as goal
+use Rattle.same_maps.proofs.Points.{taken-at}
+use Rattle.same_maps.proofs.anew.Anew.take_next.Goals as goal
 
 pub apply-requires-clause-accepted : goal.apply-requires-clause-accepted
 apply-requires-clause-accepted c =
-    let es = c.self.inside.journal in
+    let es = c.self.inside.journal.now in
     let i = c.self.inside.seen in
     let d = c.index-entries-self.result in
     let e = c.in_ok-entry.entry in

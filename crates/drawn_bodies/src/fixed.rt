@@ -1,6 +1,0 @@
-//! A body whose order matters.
-
-/// Elements that one upload creates, uses, frees and deletes, some of them in `if-unused` blocks, and
-/// one of them once more after that. It holds on any map.
-pub const LIVES: &str =
-    r#"{"osmChange":[{"create":[{"type":"node","id":-1,"lat7":481400000,"lon7":115400000},{"type":"node","id":-2,"lat7":481500000,"lon7":115400000},{"type":"way","id":-1,"nodes":[-1,-2,-1]},{"type":"relation","id":-1,"members":[{"type":"node","ref":-1,"role":"a"},{"type":"way","ref":-1},{"type":"way","ref":-1,"role":"b"}]},{"type":"relation","id":-2,"members":[{"type":"relation","ref":-1}]}]},{"delete":[{"type":"way","id":-1,"version":1}],"if-unused":true},{"modify":[{"type":"relation","id":-1,"version":1,"members":[{"type":"relation","ref":-1},{"type":"node","ref":-2}]},{"type":"way","id":-1,"version":1,"nodes":[-2]},{"type":"node","id":-1,"version":1,"lat7":-1,"lon7":-1}]},{"delete":[{"type":"node","id":-1,"version":2},{"type":"way","id":-1,"version":2}]},{"modify":[{"type":"node","id":-1,"version":3,"lat7":0,"lon7":0}]},{"delete":[{"type":"relation","id":-2,"version":1},{"type":"relation","id":-1,"version":2}],"if-unused":true},{"delete":[{"type":"node","id":-2,"version":1}]}]}"#;
