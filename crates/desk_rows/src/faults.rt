@@ -1,17 +1,16 @@
-//! Why a play ends early.
-use http_wire::WireEnd;
+//! Why a row ends early.
 use osm_base::Memory;
-use std::alloc::{AllocError, AllocFailed};
+use row_lines::RowFault;
 use std::io;
 use user_table::UsersFault;
 
 #[derive(Debug, Drop)]
 pub enum Fault {
     Memory,
+    /// A line isn't of the format.
+    Line,
     /// The users text isn't one.
     Users(UsersFault),
-    /// The bytes of a request are none.
-    Wire(WireEnd),
     Print(io::Error),
 }
 
@@ -21,27 +20,18 @@ impl From<Memory> for Fault {
     }
 }
 
-impl From<AllocError> for Fault {
-    fn from(_: AllocError) -> Fault {
-        Fault::Memory
-    }
-}
-
-impl<T: Drop> From<AllocFailed<T>> for Fault {
-    fn from(_: AllocFailed<T>) -> Fault {
-        Fault::Memory
+impl From<RowFault> for Fault {
+    fn from(why: RowFault) -> Fault {
+        match why {
+            RowFault::Unread => Fault::Line,
+            RowFault::Memory => Fault::Memory,
+        }
     }
 }
 
 impl From<UsersFault> for Fault {
     fn from(why: UsersFault) -> Fault {
         Fault::Users(why)
-    }
-}
-
-impl From<WireEnd> for Fault {
-    fn from(why: WireEnd) -> Fault {
-        Fault::Wire(why)
     }
 }
 

@@ -1,101 +1,84 @@
-//! Plays requests on the plain program and on the fast one, and compares each reply byte by byte,
-//! and the journals at the end. docs/ROWS.md tells which requests.
+//! Plays rows of requests on the plain program and on the fast one. Each reply must be the same, byte
+//! by byte, each entry of the two journals, and after each entry each part of the two maps.
+//! docs/ROWS.md has the format.
 #![tactic(auto)]
 
-mod callers;
-mod drafts;
-mod drawing;
-mod edits;
+mod counts;
+mod desks;
 mod faults;
-mod hostile;
-mod hostile_texts;
-mod large;
+mod interleaves;
 mod plain;
 mod plays;
-mod reached;
-mod reads;
-mod scenes;
+mod rows;
+mod steps;
 
-use api_desk::{MapMachine, OneDesk};
-use callers::USERS;
-use drawing::{BEGIN, Plan, send_drawn};
 use faults::Fault;
-use hub_core::Book;
 use plain::PlainDesk;
 use plays::Play;
-use reached::Reached;
+use rows::play_row;
 use std::alloc::Global;
 use std::io;
 use std::process::ExitCode;
 use user_table::UserTable;
 
-const FIRST_SESSION: u32 = 0;
+/// The users of the rows: bob is a moderator, Carol's name has to be escaped in JSON, and the others
+/// send the loads.
+const USERS: &str =
+    "1 alicetoken user alice\n2 bobtoken moderator bob\n3 caroltoken user Carol \"Ö\" \\ 3\n4 t1 user m1\n5 t2 user m2\n6 t3 user m3\n";
 
-/// Requests of all kinds, most of them sensible.
-const USUAL: Plan = Plan {
-    name: "usual",
-    seed: 11,
-    requests: 2_000,
-    is_hostile: false,
-    late: 0,
-};
-
-/// Requests of which a third is hostile, and of which the last come at the limit of the stamps.
-const HOSTILE: Plan = Plan {
-    name: "hostile",
-    seed: 12,
-    requests: 3_000,
-    is_hostile: true,
-    late: 150,
-};
-
-/// Plays the requests of a plan on empty maps.
-fn play_drawn<R: Print>(
+/// Plays a row on a plain desk of its own, which it gives.
+fn play_next<'u, R: Print>(
     rt: &R,
     alloc: Global,
-    users: &UserTable,
-    plan: &Plan,
-    reached: &mut Reached,
-) -> Result<bool, Fault> {
-    let mut book = Book::<MapMachine>::new(alloc);
-    let fast = OneDesk::new(alloc, &mut book, users, FIRST_SESSION)?;
-    let mut play = Play::new(alloc, fast, PlainDesk::new(alloc, users)?);
-    send_drawn(rt, alloc, plan, &mut play, reached)?;
-    play.tell(rt, plan.name)
+    users: &'u UserTable,
+    play: &mut Play,
+    above: &PlainDesk<'_>,
+    row: &str,
+) -> Result<PlainDesk<'u>, Fault> {
+    let mut plain = PlainDesk::new(alloc, users)?;
+    play_row(
+        rt,
+        alloc,
+        users,
+        &mut plain,
+        play,
+        above.journal().entries(),
+        row,
+    )?;
+    Ok(plain)
 }
 
-/// Plays the large requests on empty maps.
-fn play_large<R: Print>(
+/// Plays each row of the text.
+fn play_rows<R: Print>(
     rt: &R,
     alloc: Global,
     users: &UserTable,
-    reached: &mut Reached,
-) -> Result<bool, Fault> {
-    let mut book = Book::<MapMachine>::new(alloc);
-    let fast = OneDesk::new(alloc, &mut book, users, FIRST_SESSION)?;
-    let mut play = Play::new(alloc, fast, PlainDesk::new(alloc, users)?);
-    for draft in &large::drafts(alloc)? {
-        play.send(rt, draft, FIRST_SESSION, BEGIN, reached)?;
+    play: &mut Play,
+    text: &str,
+) -> Result<(), Fault> {
+    let mut above = PlainDesk::new(alloc, users)?;
+    for row in text.split("\n== ").skip(1) {
+        above = play_next(rt, alloc, users, play, &above, row)?;
     }
-    play.tell(rt, "large")
+    Ok(())
 }
 
-fn play_all<R: Print>(rt: &R, alloc: Global) -> Result<bool, Fault> {
+/// Plays the rows, and tells how often each route was answered and each refusal came.
+fn play_all<R: Print>(rt: &R, alloc: Global, text: &str) -> Result<bool, Fault> {
     let users = UserTable::read(alloc, USERS.as_bytes())?;
-    let mut reached = Reached::nothing(alloc)?;
-    let is_usual_right = play_drawn(rt, alloc, &users, &USUAL, &mut reached)?;
-    let is_hostile_right = play_drawn(rt, alloc, &users, &HOSTILE, &mut reached)?;
-    let is_large_right = play_large(rt, alloc, &users, &mut reached)?;
-    reached.tell(rt, alloc)?;
-    Ok(is_usual_right && is_hostile_right && is_large_right && reached.is_all())
+    let mut play = Play::new(alloc);
+    play_rows(rt, alloc, &users, &mut play, text)?;
+    play.counts.tell(rt)?;
+    Ok(play.is_right())
 }
 
 fn main(rt: HostRuntime) -> io::Result<ExitCode> {
-    match play_all(&rt, rt.alloc()) {
+    let text = io::read_to_string(rt.alloc(), rt.stdin())?;
+    match play_all(&rt, rt.alloc(), text.as_str()) {
         Ok(true) => Ok(ExitCode::SUCCESS),
         Ok(false) => Ok(ExitCode::FAILURE),
         Err(why) => {
-            println!(rt; "a play ended early: {why:?}")?;
+            println!(rt; "a row ended early: {why:?}")?;
             Ok(ExitCode::FAILURE)
         }
     }

@@ -13,9 +13,9 @@ use http_wire::Message;
 use osm_base::Memory;
 use osm_change::Answer;
 use osm_json::{answer_body, answer_status};
-use osm_model::{Entry, Journal, Query, State};
+use osm_model::{Journal, Query};
 use plain_reads::plain_ask;
-use route_table::{Call, Routes};
+use route_table::Routes;
 use std::alloc::Global;
 use user_table::UserTable;
 
@@ -77,19 +77,9 @@ impl<'a> PlainDesk<'a> {
         })
     }
 
-    pub fn entries(&self) -> &[Entry] {
-        self.journal.entries()
-    }
-
-    pub fn state(&self) -> &State {
-        self.journal.state()
-    }
-
-    /// The call that a message asks for, where its request line has one.
-    pub fn call_of(&self, alloc: Global, message: &Message) -> Option<Call> {
-        let method = message.method.as_slice();
-        let target = message.target.as_slice();
-        self.routes.route(alloc, method, target).ok()
+    /// The journal, and the map that it makes.
+    pub fn journal(&self) -> &Journal {
+        &self.journal
     }
 
     /// Answers a message of a session.

@@ -1,127 +1,110 @@
-//! A play: requests, each sent to both desks.
-use crate::drafts::{Draft, message_of};
+//! A play: who sends the next request and when, and how much of the row was played.
+use crate::counts::Counts;
+use crate::desks::Replies;
 use crate::faults::Fault;
-use crate::plain::PlainDesk;
-use crate::reached::Reached;
-use api_desk::OneDesk;
-use http_link::{Desk, Reply};
-use journal_text::entry_line;
-use osm_base::Memory;
-use osm_model::{Entry, State};
+use row_lines::shown;
 use std::alloc::Global;
+use std::io;
 
-/// How many differences are shown.
-const SHOWN: u64 = 5;
+/// When a row begins, in seconds since 1970: 2023-11-14T22:13:20Z.
+const BEGIN: u64 = 1_700_000_000;
 
-/// Both desks, and how many of their replies differed.
 #[derive(Drop)]
-pub struct Play<'a> {
-    alloc: Global,
-    fast: OneDesk<'a>,
-    plain: PlainDesk<'a>,
-    requests: u64,
-    differing: u64,
+pub struct Play {
+    pub session: u32,
+    pub moment: u64,
+    pub requests: u64,
+    /// The entries after which the maps were compared.
+    pub entries: usize,
+    wrong: u64,
+    /// How much was wrong in the rows before.
+    wrong_before: u64,
+    pub counts: Counts,
 }
 
-impl<'a> Play<'a> {
-    pub fn new(alloc: Global, fast: OneDesk<'a>, plain: PlainDesk<'a>) -> Play<'a> {
+impl Play {
+    pub fn new(alloc: Global) -> Play {
         Play {
-            alloc,
-            fast,
-            plain,
+            session: 0,
+            moment: BEGIN,
             requests: 0,
-            differing: 0,
+            entries: 0,
+            wrong: 0,
+            wrong_before: 0,
+            counts: Counts::none(alloc),
         }
     }
 
-    /// The plain map.
-    pub fn state(&self) -> &State {
-        self.plain.state()
+    /// Begins a row.
+    pub fn begin(&mut self) {
+        self.session = 0;
+        self.moment = BEGIN;
+        self.requests = 0;
+        self.entries = 0;
+        self.wrong_before = self.wrong.saturating_add(self.wrong_before);
+        self.wrong = 0;
     }
 
-    /// Sends a request of a session to both, and shows their replies where they differ.
-    pub fn send<R: Print>(
+    pub fn is_right(&self) -> bool {
+        self.wrong == 0 && self.wrong_before == 0
+    }
+
+    pub fn wait(&mut self, seconds: u64) {
+        self.moment = self.moment.saturating_add(seconds);
+    }
+
+    /// Counts and tells a part that differs, where one does.
+    pub fn note<R: Print>(&mut self, rt: &R, part: Option<&'static str>) -> io::Result<()> {
+        let Some(part) = part else {
+            return Ok(());
+        };
+        self.wrong = self.wrong.saturating_add(1);
+        let entries = self.entries;
+        println!(rt; "wrong: with {entries} entries: {part}")
+    }
+
+    /// So many entries must have been accepted.
+    pub fn want<R: Print>(&mut self, rt: &R, count: u64) -> io::Result<()> {
+        let is_right = count == self.entries as u64;
+        self.note(rt, if is_right { None } else { Some("their number") })
+    }
+
+    /// Counts a request, and shows it where the replies differ.
+    pub fn note_replies<R: Print>(
         &mut self,
         rt: &R,
-        draft: &Draft,
-        session: u32,
-        moment: u64,
-        reached: &mut Reached,
+        alloc: Global,
+        bytes: &[u8],
+        replies: &Replies,
     ) -> Result<(), Fault> {
-        let bytes = draft.bytes(self.alloc)?;
-        let message = message_of(self.alloc, bytes.as_slice())?;
-        let call = self.plain.call_of(self.alloc, &message);
-        let plain = self.plain.answer(self.alloc, session, &message, moment)?;
-        self.fast.switch_to(session);
-        let fast = self.fast.answer(self.alloc, message, moment)?;
         self.requests = self.requests.saturating_add(1);
-        reached.note(&call, plain.status, plain.body.as_slice());
-        if is_same(&plain, &fast) {
+        if replies.are_same() {
             return Ok(());
         }
-        self.differing = self.differing.saturating_add(1);
-        if self.differing > SHOWN {
-            return Ok(());
-        }
-        println!(rt; "session {session} sends at {moment}")?;
-        show(rt, self.alloc, bytes.as_slice())?;
-        show_reply(rt, self.alloc, "plain", &plain)?;
-        show_reply(rt, self.alloc, "fast", &fast)
+        self.wrong = self.wrong.saturating_add(1);
+        self.show(rt, alloc, bytes, replies)
     }
 
-    /// How many entries of the two journals differ, those that one of them lacks among them.
-    fn entries_differing(&self) -> Result<u64, Memory> {
-        let plain = self.plain.entries();
-        let fast = self.fast.entries();
-        let mut differing = plain.len().abs_diff(fast.len()) as u64;
-        for (one, other) in plain.iter().zip(fast.iter()) {
-            if !is_same_entry(self.alloc, one, other)? {
-                differing = differing.saturating_add(1);
-            }
-        }
-        Ok(differing)
+    fn show<R: Print>(
+        &self,
+        rt: &R,
+        alloc: Global,
+        bytes: &[u8],
+        replies: &Replies,
+    ) -> Result<(), Fault> {
+        let (session, moment) = (self.session, self.moment);
+        let sent = shown(alloc, bytes)?;
+        let plain = shown(alloc, replies.plain.body.as_slice())?;
+        let fast = shown(alloc, replies.fast.body.as_slice())?;
+        let (status, other) = (replies.plain.status, replies.fast.status);
+        println!(rt; "wrong: session {session} at {moment}: {sent}")?;
+        println!(rt; "    plain: {status} {plain}\n    fast:  {other} {fast}")?;
+        Ok(())
     }
 
-    /// Says how many replies and entries differ, and answers whether none does.
-    pub fn tell<R: Print>(&self, rt: &R, name: &str) -> Result<bool, Fault> {
-        let entries = self.entries_differing()?;
-        let requests = self.requests;
-        let differing = self.differing;
-        println!(rt;
-            "{name}: {requests} requests, {differing} replies differ, {entries} entries differ"
-        )?;
-        Ok(differing == 0 && entries == 0)
+    /// Says how much was played.
+    pub fn tell<R: Print>(&self, rt: &R, name: &str) -> io::Result<()> {
+        let (requests, entries, wrong) = (self.requests, self.entries, self.wrong);
+        println!(rt; "{name}: {requests} requests, {entries} entries, {wrong} wrong")
     }
-}
-
-fn is_same(plain: &Reply, fast: &Reply) -> bool {
-    plain.status == fast.status && plain.body.as_slice() == fast.body.as_slice()
-}
-
-/// Whether both have one line in the text of a journal, which tells all of an entry.
-fn is_same_entry(alloc: Global, plain: &Entry, fast: &Entry) -> Result<bool, Memory> {
-    let plain = entry_line(alloc, plain)?;
-    let fast = entry_line(alloc, fast)?;
-    Ok(plain.as_slice() == fast.as_slice())
-}
-
-/// Bytes as a line of text.
-fn show<R: Print>(rt: &R, alloc: Global, bytes: &[u8]) -> Result<(), Fault> {
-    let mut text = String::new(alloc);
-    for byte in bytes {
-        match *byte {
-            b'\r' => text.push_str("\\r")?,
-            b'\n' => text.push_str("\\n")?,
-            b' '..=b'~' => text.push(char::from(*byte))?,
-            other => text.push_str(format!(in alloc; "\\x{other:02x}")?.as_str())?,
-        }
-    }
-    println!(rt; "    {text}")?;
-    Ok(())
-}
-
-fn show_reply<R: Print>(rt: &R, alloc: Global, name: &str, reply: &Reply) -> Result<(), Fault> {
-    let status = reply.status;
-    println!(rt; "{name}: {status}")?;
-    show(rt, alloc, reply.body.as_slice())
 }
