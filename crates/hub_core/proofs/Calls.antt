@@ -4,7 +4,7 @@ use Rattle.std.specs.Prelude.{count_by}
 use Rattle.std.specs.List.{sum_by}
 use Rattle.std.proofs.lemmas.List.{take-append-drop, take-append-le, length-take-le}
 use Rattle.std.proofs.lemmas.List.Sums.{sum_by-append}
-use Rattle.std.proofs.lemmas.Bool.Decides.{nat_tests}
+use Rattle.std.proofs.lemmas.Bool.{eq-eqb, ne_eqb}
 use Rattle.machine_law.specs.declared.tags.Tag.{Tag}
 use Rattle.std.proofs.Common.{set, get_or, zero, suc, refl}
 use Rattle.std.proofs.lemmas.List.{get_or-set_same, get_or-set_other}
@@ -12,10 +12,10 @@ use native.Mathlib.Decide.{ℕ_discrete}
 use Rattle.hub_core.specs.Journal.{calls_of, AreCounted}
 
 same_session : (session : ℕ) → (session == session) ≡ true
-same_session session = grind (arith, nat_tests)
+same_session session = eq-eqb session session refl
 
 other_session : (session other : ℕ) → session ≢ other → (other == session) ≡ false
-other_session session other apart = grind (arith, nat_tests)
+other_session session other apart = ne_eqb other session (λ same. apart (sym same))
 
 module _ {E : Type 0} where
   count_push : (p : E → Bool) (xs : List E) (e : E) → p e ≡ true → count_by p (xs ++ e ∷ []) ≡ count_by p xs + 1

@@ -3,7 +3,7 @@ use Rattle.std.proofs.Common.{◌≡◌, ◌≢◌, ℕ, ◌+◌, ◌≤◌, ◌
 use Rattle.std.specs.Prelude.{IfSome, nat_lt, nat_le, if◌then◌else◌}
 use Rattle.std.proofs.lemmas.List.{take-append-le}
 use Rattle.std.proofs.Math.Seq.{take-length}
-use Rattle.std.proofs.lemmas.Bool.Decides.{nat_tests}
+use Rattle.std.proofs.lemmas.Bool.{eqb-true, eqb-false, leb-true}
 use mathlib.Core.List.{IsPrefix}
 use Rattle.machine_law.specs.declared.tags.Tag.{Tag}
 use Rattle.machine_law.specs.Rules.{Rules, replay}
@@ -22,8 +22,8 @@ put_all : {C : Type 0} (P : ℕ → SessionState C → Type 0) (sessions : ℕ �
     → P session state → ((k : ℕ) → k ≢ session → P k (sessions k)) → (k : ℕ) → P k (put sessions session state k)
 put_all {C} P sessions session state here others k = go (k == session) refl where
   go : (b : Bool) → (k == session) ≡ b → P k (if b then state else sessions k)
-  go true is = let same : session ≡ k = grind (arith, nat_tests) in subst (λ (j : ℕ). P j state) same here
-  go false is = let apart : k ≢ session = grind (arith, nat_tests) in others k apart
+  go true is = subst (λ (j : ℕ). P j state) (sym (eqb-true k session is)) here
+  go false is = others k (eqb-false k session is)
 
 based_more : {C : Type 0} (plan : Option (Intent C)) (less more : ℕ) → less ≤ more → IsBased less plan → IsBased more plan
 based_more None less more le h = tt
@@ -31,7 +31,7 @@ based_more (Some intent) less more le h = omega arith
 
 -- the session may read, so it saw no more than what is published
 reads_more : {C E : Type 0} (core : CoreState C E) (session : ℕ) → can_read core session ≡ true → (core.sessions session).seen ≤ core.published
-reads_more core session h = let p = both_true (nat_lt session core.count) (nat_le (core.sessions session).seen core.published) h in grind (arith, nat_tests, p.1)
+reads_more core session h = let p = both_true (nat_lt session core.count) (nat_le (core.sessions session).seen core.published) h in leb-true (core.sessions session).seen core.published p.1
 
 module _ {S C Q P E K : Type 0} (rules : Rules S C Q P E K) where
   -- the laws of a machine that no call of it tells

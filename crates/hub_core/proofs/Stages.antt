@@ -1,9 +1,10 @@
 -- What is put in the place of one session keeps what stands for the others.
 use Rattle.std.proofs.Common.{◌≡◌, ◌≢◌, ℕ, ◌+◌, ◌≤◌, ◌<◌, ◌==◌, Bool, true, false, length, take, drop, drop-cons, suc, set, get_or, sym, subst, List, [], ◌∷◌, ◌++◌, Option, Some, None, ap, refl, ◌∙◌, arith, length-append}
-use Rattle.std.specs.Prelude.{MatchOption, nat_lt, if◌then◌else◌}
+use Rattle.std.specs.Prelude.{Result, Ok, Err, IfOk, MatchOption, nat_lt, if◌then◌else◌}
 use Rattle.std.proofs.lemmas.List.{get_or-set_same, get_or-set_other, take-append-drop, take-append-le}
+use Rattle.std.proofs.lemmas.List.Sums.{fold_more}
 use Rattle.std.proofs.Math.ListN.{length-set}
-use Rattle.std.proofs.lemmas.Bool.Decides.{nat_tests}
+use Rattle.std.proofs.lemmas.Bool.{eq-eqb, ne_eqb, ltb-true, lt-ltb}
 use native.Mathlib.Decide.{ℕ_discrete}
 use mathlib.Core.List.{IsPrefix}
 use Rattle.machine_law.specs.declared.tags.Settled.{Settled}
@@ -26,10 +27,10 @@ set_all {A} P xs i x lt here others k other within = go (ℕ_discrete k i) where
   go (no apart) = subst (P k) (sym (get_or-set_other xs i k x other apart)) (others k other (omega (arith, length-set xs i x)) apart)
 
 put_same : {C : Type 0} (sessions : ℕ → SessionState C) (session : ℕ) (state : SessionState C) → put sessions session state session ≡ state
-put_same sessions session state = let here : (session == session) ≡ true = grind (arith, nat_tests) in rw here refl
+put_same sessions session state = let here : (session == session) ≡ true = eq-eqb session session refl in rw here refl
 
 put_other : {C : Type 0} (sessions : ℕ → SessionState C) (session k : ℕ) (state : SessionState C) → k ≢ session → put sessions session state k ≡ sessions k
-put_other sessions session k state apart = let other : (k == session) ≡ false = grind (arith, nat_tests) in rw other refl
+put_other sessions session k state apart = let other : (k == session) ≡ false = ne_eqb k session apart in rw other refl
 
 -- the journal after a commit that gave this place
 abbrev pub IsCommittedTo : {E : Type 0} → Option ℕ → List E → List E → Type 0
@@ -40,6 +41,11 @@ pub committed_to : {E : Type 0} (U : Type 0) (V W : E → Type 0) (place : Optio
     → MatchOption place ((new ≡ old) × U) (λ _. (e : E) × (new ≡ old ++ e ∷ []) × V e × W e) → IsCommittedTo place old new
 committed_to U V W None old new h = h.0
 committed_to U V W (Some place) old new h = (h.0, h.1)
+
+-- what holds of an entry holds of its copy
+pub if_copied : {A E : Type 0} (P : A → Type 0) (copy : Result A E) (x : A) → P x → IfOk copy (λ y. y ≡ x) → IfOk copy P
+if_copied P (Ok y) x p same = subst P (sym same) p
+if_copied P (Err e) x p same = tt
 
 -- what is published stays where the journal grows
 pub shown_grown : {E : Type 0} (place : Option ℕ) (old new : List E) (published : ℕ)
@@ -54,6 +60,10 @@ module _ {S C Q P E K : Type 0} (rules : Rules S C Q P E K) where
       let parts : take i xs ++ (get_or xs i e ∷ drop (suc i) xs) ≡ xs = ap (λ r. take i xs ++ r) (sym (drop-cons xs i e lt)) ∙ take-append-drop i xs in
       let rest = legal_rest rules rules.start (take i xs) (get_or xs i e ∷ drop (suc i) xs) (subst (λ (l : List E). is_legal rules l ≡ true) (sym parts) legal) in
       ap (rules.takes (replay rules (take i xs))) is ∙ (legal_head rules (replay rules (take i xs)) (get_or xs i e) (drop (suc i) xs) rest).0
+
+  -- what is shown follows one entry more
+  pub replay_more : (xs : List E) (i : ℕ) (e : E) → i < length xs → e ≡ get_or xs i e → rules.after (replay rules (take i xs)) e ≡ replay rules (take (i + 1) xs)
+  replay_more xs i e lt is = ap (rules.after (replay rules (take i xs))) is ∙ sym (fold_more rules.after rules.start xs i e lt)
 
   -- ---- the plans that are kept
 
@@ -142,12 +152,12 @@ module _ {S C Q P E K : Type 0} (rules : Rules S C Q P E K) where
     go : (b : Bool) → nat_lt session core.count ≡ b → (if b then (core.sessions session).plan else None) ≡ None
     go false is = refl
     go true is =
-        let lt : session < length callers = let same = s.count in grind (arith, nat_tests) in
+        let lt : session < length callers = subst (λ (n : ℕ). session < n) (sym s.count) (ltb-true session core.count is) in
         let empty : Caller P = record { seen = 0; plan = None } in
         no_intent core.journal (core.sessions session).plan (subst (λ (p : Option P). HasPlan rules core.journal (core.sessions session).plan p) (none empty lt) (s.sessions session empty lt).1)
 
   pub plan_there : (core : CoreState C E) (session : ℕ) (intent : Intent C) → session < core.count → (core.sessions session).plan ≡ Some intent → plan_of core session ≡ Some intent
-  plan_there core session intent lt is = let yes_there : nat_lt session core.count ≡ true = grind (arith, nat_tests) in rw yes_there is
+  plan_there core session intent lt is = rw (lt-ltb session core.count lt) is
 
   pub commit_told : (core : CoreState C E) (session moment call : ℕ) (intent : Intent C) (book new : List E) (published : ℕ) (callers : List (Caller P)) (done : Done K) (settled : Settled E)
       → plan_of core session ≡ Some intent → book ≡ core.journal → call ≡ calls_of rules.tag_of session book + 1

@@ -1,7 +1,7 @@
-ghost use Rattle.std.specs.Prelude.{◌≡◌, ◌+◌, ◌<◌, ℕ, true, [], ◌∷◌, ◌++◌, length, IfOk, OnOk, OnErr, IfSome, MatchOption, List, slice_index_or};
+ghost use Rattle.std.specs.Prelude.{◌≡◌, ◌+◌, ◌<◌, ℕ, true, [], ◌∷◌, ◌++◌, length, IfOk, OnOk, OnErr, IfSome, MatchOption, List, slice_index_or, vec_len, vec_capacity};
 ghost use mathlib.Core.List.{IsPrefix};
 ghost use Rattle.machine_law.specs.Rules.{replay, Later, IsForeseen};
-ghost use Rattle.hub_core.specs.Journal.{calls_of, IsJournal, IsMadeBefore};
+ghost use Rattle.hub_core.specs.Journal.{calls_of, extended, place_of, IsJournal, IsMadeBefore};
 ghost use Rattle.hub_core.specs.Paths.{MatchPath, IsPath, IsDone};
 
 use crate::dones::{Done, Path};
@@ -104,17 +104,44 @@ impl<M: Machine> Book<M> {
         ensures err { OnErr result ((self.new ≡ self.old) × O.kept outlet.old outlet.new) }
     {
         let session = tag.session as usize;
-        let kept = M::copy(self.alloc, &entry)?;
-        let offered = M::copy(self.alloc, &entry)?;
-        self.journal.reserve(1)?;
-        make_place(&mut self.calls, session)?;
-        M::make_room(self.alloc, &mut self.world, &entry)?;
+        make_ready::<M>(
+            self.alloc,
+            &mut self.journal,
+            &mut self.calls,
+            &mut self.world,
+            &entry,
+            session,
+        )?;
+        let kept = offer_copy::<M, O>(self.alloc, &entry, outlet)?;
         let place = self.journal.len() as u64;
-        outlet.offer(offered)?;
         M::apply(&mut self.world, entry);
         self.journal.push_reserved(kept);
         self.calls[session] = tag.call;
         Ok(place)
+    }
+
+    // Puts an entry at the end, if there is one. It returns its place.
+    fn enter<O: Outlet<M::Entry>>(
+        &mut self,
+        entry: Option<M::Entry>,
+        tag: Tag,
+        outlet: &mut O,
+    ) -> Result<Option<u64>, Memory>
+        requires fits { IfSome entry (λ e. (M.rules.takes (replay M.rules self.old) e ≡ true) × (M.rules.tag_of e ≡ tag)) }
+        requires next { tag.call ≡ calls_of M.rules.tag_of tag.session self.old + 1 }
+        requires welcome { (entry : M.Entry) → M.rules.takes (replay M.rules self.old) entry ≡ true → O.welcomes outlet.old entry }
+        ensures entered { OnOk result (self.new ≡ extended self.old entry) }
+        ensures placed { IfOk result (λ place. place ≡ place_of self.old entry) }
+        ensures offers { IfOk result (λ place. MatchOption place ((self.new ≡ self.old) × (outlet.new ≡ outlet.old)) (λ place. (entry : M.Entry) × (self.new ≡ self.old ++ entry ∷ []) × (M.rules.tag_of entry ≡ tag) × O.offered outlet.old entry outlet.new)) }
+        ensures err { OnErr result ((self.new ≡ self.old) × O.kept outlet.old outlet.new) }
+    {
+        match entry {
+            Some(entry) => match self.append(entry, tag, outlet) {
+                Ok(place) => Ok(Some(place)),
+                Err(memory) => Err(memory),
+            },
+            None => Ok(None),
+        }
     }
 
     /// Settles a plan at the end of the journal, as the session's next call at that moment. All
@@ -136,18 +163,38 @@ impl<M: Machine> Book<M> {
         ensures fast { IfOk result (λ done. MatchPath done.path (steps.new ≡ steps.old) (λ look. Unit {0})) }
         ensures err { OnErr result ((self.new ≡ self.old) × O.kept outlet.old outlet.new) }
     {
-        let (settled, path) = judge::<M, L>(self.alloc, &self.world, &plan, tag, moment, steps)?;
+        let path = path_of::<M>(&self.world, &plan);
+        let settled = settle_by::<M, L>(self.alloc, &self.world, &plan, &path, tag, moment, steps)?;
         let Settled { answer, entry } = settled;
-        let place = match entry {
-            Some(entry) => Some(self.append(entry, tag, outlet)?),
-            None => None,
-        };
+        let place = self.enter(entry, tag, outlet)?;
         Ok(Done {
             answer,
             place,
             path,
         })
     }
+}
+
+// Takes all memory that an entry of a session needs, but for its copies.
+fn make_ready<M: Machine>(
+    alloc: Global,
+    journal: &mut Vec<M::Entry>,
+    calls: &mut Vec<u64>,
+    world: &mut M::World,
+    entry: &M::Entry,
+    session: usize,
+) -> Result<(), Memory>
+    requires { M.rules.takes (M.state world.old) entry.now ≡ true }
+    ensures journal { journal.new.items ≡ journal.old.items }
+    ensures calls { (other : ℕ) → slice_index_or calls.new.items other 0 ≡ slice_index_or calls.old.items other 0 }
+    ensures world { M.state world.new ≡ M.state world.old }
+    ensures journal_room { OnOk result (vec_len journal.new < vec_capacity journal.new) }
+    ensures calls_room { OnOk result (session < length calls.new.items) }
+    ensures world_room { OnOk result (M.has_room world.new entry.now) }
+{
+    journal.reserve(1)?;
+    make_place(calls, session)?;
+    M::make_room(alloc, world, entry)
 }
 
 // Gives a session a place among the counts.
@@ -161,29 +208,50 @@ fn make_place(calls: &mut Vec<u64>, session: usize) -> Result<(), Memory>
     Ok(())
 }
 
+// Offers a copy of an entry, and returns another.
+fn offer_copy<M: Machine, O: Outlet<M::Entry>>(
+    alloc: Global,
+    entry: &M::Entry,
+    outlet: &mut O,
+) -> Result<M::Entry, Memory>
+    requires { O.welcomes outlet.old entry.now }
+    ensures ok { IfOk result (λ kept. (kept ≡ entry.now) × O.offered outlet.old entry.now outlet.new) }
+    ensures err { OnErr result (O.kept outlet.old outlet.new) }
+{
+    let kept = M::copy(alloc, entry)?;
+    let offered = M::copy(alloc, entry)?;
+    outlet.offer(offered)?;
+    Ok(kept)
+}
+
+// Whether a plan stands.
+fn path_of<M: Machine>(world: &M::World, plan: &M::Plan) -> Path<M::Look>
+    ensures { IsPath M.rules plan.now (M.state world.now) result }
+{
+    match M::still(world, plan) {
+        Ok(()) => Path::Fast,
+        Err(look) => Path::Slow(look),
+    }
+}
+
 // Settles a plan that stands, and checks its command again otherwise.
-fn judge<M: Machine, L: Ledger>(
+fn settle_by<M: Machine, L: Ledger>(
     alloc: Global,
     world: &M::World,
     plan: &M::Plan,
+    path: &Path<M::Look>,
     tag: Tag,
     moment: u64,
     steps: &mut Steps<L>,
-) -> Result<(Settled<M::Entry>, Path<M::Look>), Memory>
-    requires { IsForeseen M.rules plan.now (M.state world.now) }
-    ensures acts { (begun : M.State) (command : M.Command) → M.rules.planned begun command plan.now → Later M.rules begun (M.state world.now) → IfOk result (λ r. r.0 ≡ M.rules.act (M.state world.now) tag moment command) }
-    ensures entry { IfOk result (λ r. IfSome r.0.entry (λ e. (M.rules.takes (M.state world.now) e ≡ true) × (M.rules.tag_of e ≡ tag))) }
-    ensures path { IfOk result (λ r. IsPath M.rules plan.now (M.state world.now) r.1) }
-    ensures fast { IfOk result (λ r. MatchPath r.1 (steps.new ≡ steps.old) (λ look. Unit {0})) }
+) -> Result<Settled<M::Entry>, Memory>
+    requires foreseen { IsForeseen M.rules plan.now (M.state world.now) }
+    requires path { IsPath M.rules plan.now (M.state world.now) path.now }
+    ensures acts { (begun : M.State) (command : M.Command) → M.rules.planned begun command plan.now → Later M.rules begun (M.state world.now) → IfOk result (λ s. s ≡ M.rules.act (M.state world.now) tag moment command) }
+    ensures entry { IfOk result (λ s. IfSome s.entry (λ e. (M.rules.takes (M.state world.now) e ≡ true) × (M.rules.tag_of e ≡ tag))) }
+    ensures fast { MatchPath path.now (steps.new ≡ steps.old) (λ look. Unit {0}) }
 {
-    match M::still(world, plan) {
-        Ok(()) => {
-            let settled = M::settle(alloc, world, plan, tag, moment, steps)?;
-            Ok((settled, Path::Fast))
-        }
-        Err(look) => {
-            let settled = M::again(alloc, world, plan, tag, moment, steps)?;
-            Ok((settled, Path::Slow(look)))
-        }
+    match path {
+        Path::Fast => M::settle(alloc, world, plan, tag, moment, steps),
+        Path::Slow(_) => M::again(alloc, world, plan, tag, moment, steps),
     }
 }

@@ -1,8 +1,10 @@
 //! The core as a program: one list of events, played in order.
-ghost use Rattle.std.specs.Prelude.{◌≡◌, false, ◌+◌, ◌<◌, MatchOption, None, Some, slice_index_or, slice_set, length, IfOk, OnOk, IsTrue};
+ghost use Rattle.std.specs.Prelude.{◌≡◌, false, ◌+◌, ◌<◌, ◌^◌, [], ◌∷◌, ◌++◌, fold, MatchOption, None, Some, slice_index_or, slice_set, length, take, true, IfOk, OnOk, OnErr, IsTrue};
 ghost use Rattle.hub_core.specs.declared.events.Event.TheVariants.{Plan, Commit, Ask, Freshen};
+ghost use Rattle.machine_law.specs.Rules.{replay};
 ghost use Rattle.hub_core.specs.Journal.{IsJournal};
 ghost use Rattle.hub_core.specs.Core.{CoreState, core_start, core_step, core_after, core_tells, all_told, can_read, saw};
+ghost use Rattle.hub_core.specs.declared.events.Seen.{Seen};
 ghost use Rattle.hub_core.specs.declared.running.Caller.{Caller};
 ghost use Rattle.hub_core.specs.Stages.{StandsFor, IsTold, AreTold};
 
@@ -121,16 +123,24 @@ impl<M: Machine> Core<M> {
         Ok(Seen::Answered(bytes))
     }
 
+    // A copy of the first entry that isn't shown.
+    fn next_entry(&self) -> Result<M::Entry, Memory>
+        requires { self.now.published < length self.now.journal }
+        ensures taken { IfOk result (λ entry. M.rules.takes (replay M.rules (take self.now.published self.now.journal)) entry ≡ true) }
+        ensures item { IfOk result (λ entry. entry ≡ slice_index_or self.now.journal self.now.published entry) }
+        ensures few { self.now.published + 1 < 2 ^ 64 }
+    {
+        M::copy(self.alloc, &self.book.journal()[self.published])
+    }
+
     // Lets the world that is shown follow one entry more.
     fn show_next(&mut self) -> Result<(), Memory>
         requires { self.old.published < length self.old.journal }
         ensures same { (self.new.journal ≡ self.old.journal) × (self.new.callers ≡ self.old.callers) }
         ensures ok { OnOk result (self.new.published ≡ self.old.published + 1) }
     {
-        let entry = &self.book.journal()[self.published];
-        let copy = M::copy(self.alloc, entry)?;
-        M::make_room(self.alloc, &mut self.shown, entry)?;
-        M::apply(&mut self.shown, copy);
+        let entry = self.next_entry()?;
+        follow::<M>(self.alloc, &mut self.shown, entry)?;
         self.published += 1;
         Ok(())
     }
@@ -213,6 +223,61 @@ impl<M: Machine> Core<M> {
             }
         }
     }
+
+    // Plays an event, and puts what it gives behind the replies.
+    fn play_one<L: Ledger>(
+        &mut self,
+        event: Event<M::Command, M::Query>,
+        replies: &mut Vec<Seen<M::Look>>,
+        steps: &mut Steps<L>,
+    ) -> Result<(), Memory>
+        ensures { (core : CoreState M.Command M.Entry) → StandsFor M.rules core self.old → OnOk result (StandsFor M.rules (core_step M.rules core event) self.new × ((seen : Seen M.Look) × (replies.new.items ≡ replies.old.items ++ seen ∷ []) × IsTold M.rules (core_tells M.rules core event) seen)) }
+    {
+        let seen = self.step(event, steps)?;
+        replies.push(seen)?;
+        Ok(())
+    }
+
+    // What events give, one after the other.
+    fn play<L: Ledger>(
+        &mut self,
+        events: Vec<Event<M::Command, M::Query>>,
+        steps: &mut Steps<L>,
+    ) -> Result<Vec<Seen<M::Look>>, Memory>
+        ensures { (core : CoreState M.Command M.Entry) → StandsFor M.rules core self.old → IfOk result (λ replies. StandsFor M.rules (fold (core_step M.rules) core events.items) self.new × AreTold M.rules (all_told M.rules core events.items) replies.items) }
+    {
+        let mut replies = Vec::with_capacity(self.alloc, events.len())?;
+        for event in events {
+            self.play_one(event, &mut replies, steps)?;
+        }
+        Ok(replies)
+    }
+
+    // The journal alone.
+    fn into_journal(self) -> Vec<M::Entry>
+        ensures journal { result.items ≡ self.journal }
+        ensures kept { IsJournal M.rules result.items }
+    {
+        let Core {
+            alloc: _,
+            book,
+            shown: _,
+            published: _,
+            callers: _,
+        } = self;
+        book.into_journal()
+    }
+}
+
+// Applies an entry to a world, once there is room for it.
+fn follow<M: Machine>(alloc: Global, world: &mut M::World, entry: M::Entry) -> Result<(), Memory>
+    requires { M.rules.takes (M.state world.old) entry ≡ true }
+    ensures ok { OnOk result (M.state world.new ≡ M.rules.after (M.state world.old) entry) }
+    ensures err { OnErr result (M.state world.new ≡ M.state world.old) }
+{
+    M::make_room(alloc, world, &entry)?;
+    M::apply(world, entry);
+    Ok(())
 }
 
 // Takes the plan of a caller, if it is there and has one.
@@ -245,20 +310,9 @@ pub fn interleave<M: Machine, L: Ledger>(
     ensures kept { IfOk result (λ run. IsJournal M.rules run.journal.items) }
 {
     let mut core = Core::<M>::new(alloc, sessions)?;
-    let mut replies = Vec::with_capacity(alloc, events.len())?;
-    for event in events {
-        let seen = core.step(event, steps)?;
-        replies.push(seen)?;
-    }
-    let Core {
-        alloc: _,
-        book,
-        shown: _,
-        published: _,
-        callers: _,
-    } = core;
+    let replies = core.play(events, steps)?;
     Ok(Run {
-        journal: book.into_journal(),
+        journal: core.into_journal(),
         replies,
     })
 }

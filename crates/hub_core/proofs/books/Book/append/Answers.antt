@@ -1,4 +1,4 @@
-use Rattle.std.proofs.Common.{◌≡◌, sym, ◌∙◌, ◌++◌, ◌∷◌, [], ◌+◌, true}
+use Rattle.std.proofs.Common.{◌≡◌, sym, refl, ◌∙◌, ◌++◌, ◌∷◌, [], ◌+◌, true}
 use Rattle.std.proofs.lemmas.List.Sums.{fold_push}
 use Rattle.machine_law.specs.Rules.{replay}
 use Rattle.hub_core.specs.Journal.{calls_of, AreCounted}
@@ -12,13 +12,13 @@ invariant_of-self-2 g c =
     let entry = c.args.entry in
     let tag = c.args.tag in
     let journal = c.self.inside.journal.items in
-    let items : c.push_reserved.new.self.items ≡ journal ++ entry ∷ [] = cc (c.push_reserved.ensures.items, c.reserve.ensures.items, c.in_ok-kept.ensures) in
+    let items : c.push_reserved.new.self.items ≡ journal ++ entry ∷ [] = rw (c.push_reserved.ensures.items, c.make_ready.ensures.journal, c.in_ok-kept.ensures.ok.0) refl in
     let taken : rules.takes (replay rules journal) entry ≡ true = rw c.self.view_is c.requires.taken in
     let next : tag.call ≡ calls_of rules.tag_of tag.session journal + 1 = rw c.self.view_is c.requires.next in
     let next_of : (rules.tag_of entry).call ≡ calls_of rules.tag_of (rules.tag_of entry).session journal + 1 = rw c.requires.tagged next in
-    let counted : AreCounted rules.tag_of c.make_place.new.calls.items journal = λ session. c.make_place.ensures.same session ∙ c.self.invariant.2 session in
+    let counted : AreCounted rules.tag_of c.make_ready.new.calls.items journal = λ session. c.make_ready.ensures.calls session ∙ c.self.invariant.2 session in
     rw items (
-      rw (c.apply.ensures, c.make_room.ensures.same, c.self.invariant.0) (sym (fold_push rules.after rules.start journal entry)),
+      rw (c.apply.ensures, c.make_ready.ensures.world, c.self.invariant.0) (sym (fold_push rules.after rules.start journal entry)),
       journal_push rules g.met.M.Machine.after_consistent journal entry c.self.invariant.1 taken next_of,
-      counted_push rules.tag_of c.make_place.new.calls.items journal entry tag counted c.requires.tagged c.in_ok-make_place.ensures.there next,
+      counted_push rules.tag_of c.make_ready.new.calls.items journal entry tag counted c.requires.tagged c.in_ok-make_ready.ensures.calls_room next,
     )

@@ -1,19 +1,17 @@
-use Rattle.std.proofs.Common.{◌<◌, ap, ◌∙◌, get_or, length}
-use Rattle.hub_core.proofs.Stages.{taken_at}
+use Rattle.std.proofs.Common.{◌≡◌, ◌+◌, ◌<◌, ◌^◌, ap, sym, subst, get_or, length, arith}
+use Rattle.hub_core.proofs.Stages.{replay_more}
 use Rattle.hub_core.proofs.running.Core.show_next.Goals as goal
 
-pub make_room-requires : goal.make_room-requires
-make_room-requires g c =
-    let of_machine = g.M.Machine.rules in
-    let book = c.self.inside.book in
-    let within : c.self.inside.published < length book = rw (ap (λ s. s.published) c.self.view_is, ap (λ s. s.journal) c.self.view_is) c.requires in
-    let entry = c.index-journal-self.result in
-    rw c.self.invariant.0 (taken_at of_machine book c.self.inside.published entry c.journal.ensures.kept.legal within (c.index-journal-self.is ∙ ap (λ j. get_or j c.self.inside.published entry) c.journal.ensures.journal))
+pub overflow_add-self : goal.overflow_add-self
+overflow_add-self g c =
+    let few : c.self.inside.published + 1 < 2 ^ 64 = subst (λ s. s.published + 1 < 2 ^ 64) (sym c.self.view_is) c.next_entry.ensures.few in
+    omega (arith, few)
 
-pub apply-requires-clause-taken : goal.apply-requires-clause-taken
-apply-requires-clause-taken g c =
+pub invariant_of-self-2 : goal.invariant_of-self-2
+invariant_of-self-2 g c =
     let of_machine = g.M.Machine.rules in
-    let book = c.self.inside.book in
-    let within : c.self.inside.published < length book = rw (ap (λ s. s.published) c.self.view_is, ap (λ s. s.journal) c.self.view_is) c.requires in
-    let entry = c.index-journal-self.result in
-    rw (c.make_room.ensures.same, c.in_ok-copy.ensures, c.self.invariant.0) (taken_at of_machine book c.self.inside.published entry c.journal.ensures.kept.legal within (c.index-journal-self.is ∙ ap (λ j. get_or j c.self.inside.published entry) c.journal.ensures.journal))
+    let inside = c.self.inside in
+    let entry = c.in_ok-entry.entry in
+    let within : inside.published < length inside.book = rw (ap (λ s. s.published) c.self.view_is, ap (λ s. s.journal) c.self.view_is) c.requires in
+    let item = subst (λ s. entry ≡ get_or s.journal s.published entry) (sym c.self.view_is) c.in_ok-entry.ensures.item in
+    (rw (c.in_ok-follow.ensures.ok, c.self.invariant.0) (replay_more of_machine inside.book inside.published entry within item), omega (arith, within), c.self.invariant.2)
