@@ -13,7 +13,7 @@ use std::alloc::Global;
 
 /// What a request line asks for, one for each route. Ids and versions are from 1 to
 /// 9,223,372,036,854,775,807.
-#[derive(Debug, Drop)]
+#[derive(Drop)]
 pub enum Call {
     CreateChangeset,
     Changeset {
@@ -85,7 +85,6 @@ pub enum Call {
 }
 
 /// The call of a resource by a method.
-#[tactic(auto, unfolding(crate::specs::Calls::call_at))]
 pub fn call_at(
     alloc: Global,
     resource: Resource,
@@ -96,37 +95,84 @@ pub fn call_at(
     ensures numbers { IfOk result HasPathNumbers }
     ensures memory { result ≡ Err RouteFault.Memory → has_parameters resource ≡ true }
 {
-    match (resource, method) {
-        (Resource::NewChangeset, Method::Put) => Ok(Call::CreateChangeset),
-        (Resource::Changeset, Method::Get) => Ok(Call::Changeset { id: details.id()? }),
-        (Resource::Changeset, Method::Put) => Ok(Call::Retag { id: details.id()? }),
-        (Resource::ChangesetClosing, Method::Put) => Ok(Call::CloseChangeset { id: details.id()? }),
-        (Resource::ChangesetUpload, Method::Post) => Ok(Call::Upload { id: details.id()? }),
-        (Resource::ChangesetDownload, Method::Get) => Ok(Call::Download { id: details.id()? }),
-        (Resource::Changesets, Method::Get) => changesets(alloc, details),
-        (Resource::Map, Method::Get) => map_call(alloc, details),
-        (Resource::Redactions, Method::Post) => Ok(Call::MakeRedaction),
-        (Resource::NewElement(kind), Method::Put) => Ok(Call::CreateSingle { kind }),
-        (Resource::Element(kind), Method::Get) => Ok(Call::One {
+    match method {
+        Method::Get => get_call(alloc, resource, details),
+        Method::Put => put_call(resource, details),
+        Method::Post => post_call(alloc, resource, details),
+        Method::Delete => delete_call(resource, details),
+    }
+}
+
+#[tactic(auto, unfolding(crate::specs::Calls::call_at))]
+fn get_call(alloc: Global, resource: Resource, details: &Details<'_>) -> Result<Call, RouteFault>
+    ensures call { Gives (call_at resource Method.Get details.now) result }
+    ensures numbers { IfOk result HasPathNumbers }
+    ensures memory { result ≡ Err RouteFault.Memory → has_parameters resource ≡ true }
+{
+    match resource {
+        Resource::Changeset => Ok(Call::Changeset { id: details.id()? }),
+        Resource::ChangesetDownload => Ok(Call::Download { id: details.id()? }),
+        Resource::Changesets => changesets(alloc, details),
+        Resource::Map => map_call(alloc, details),
+        Resource::Element(kind) => Ok(Call::One {
             key: details.key(kind)?,
         }),
-        (Resource::Element(kind), Method::Put) => Ok(Call::ModifySingle {
+        Resource::History(kind) => history(alloc, kind, details),
+        Resource::Version(kind) => numbered(alloc, kind, details),
+        Resource::Relations(kind) => Ok(Call::RelationsOf {
             key: details.key(kind)?,
         }),
-        (Resource::Element(kind), Method::Delete) => Ok(Call::DeleteSingle {
+        Resource::NodeWays => Ok(Call::WaysOf { id: details.id()? }),
+        Resource::Full(kind) => Ok(Call::Full {
             key: details.key(kind)?,
         }),
-        (Resource::History(kind), Method::Get) => history(alloc, kind, details),
-        (Resource::Version(kind), Method::Get) => numbered(alloc, kind, details),
-        (Resource::VersionRedaction(kind), Method::Post) => redact(alloc, kind, details),
-        (Resource::Relations(kind), Method::Get) => Ok(Call::RelationsOf {
+        Resource::Elements(kind) => many(alloc, kind, details),
+        _ => Err(RouteFault::WrongMethod),
+    }
+}
+
+#[tactic(auto, unfolding(crate::specs::Calls::call_at))]
+fn put_call(resource: Resource, details: &Details<'_>) -> Result<Call, RouteFault>
+    ensures call { Gives (call_at resource Method.Put details.now) result }
+    ensures numbers { IfOk result HasPathNumbers }
+    ensures memory { result ≡ Err RouteFault.Memory → has_parameters resource ≡ true }
+{
+    match resource {
+        Resource::NewChangeset => Ok(Call::CreateChangeset),
+        Resource::Changeset => Ok(Call::Retag { id: details.id()? }),
+        Resource::ChangesetClosing => Ok(Call::CloseChangeset { id: details.id()? }),
+        Resource::NewElement(kind) => Ok(Call::CreateSingle { kind }),
+        Resource::Element(kind) => Ok(Call::ModifySingle {
             key: details.key(kind)?,
         }),
-        (Resource::NodeWays, Method::Get) => Ok(Call::WaysOf { id: details.id()? }),
-        (Resource::Full(kind), Method::Get) => Ok(Call::Full {
+        _ => Err(RouteFault::WrongMethod),
+    }
+}
+
+#[tactic(auto, unfolding(crate::specs::Calls::call_at))]
+fn post_call(alloc: Global, resource: Resource, details: &Details<'_>) -> Result<Call, RouteFault>
+    ensures call { Gives (call_at resource Method.Post details.now) result }
+    ensures numbers { IfOk result HasPathNumbers }
+    ensures memory { result ≡ Err RouteFault.Memory → has_parameters resource ≡ true }
+{
+    match resource {
+        Resource::ChangesetUpload => Ok(Call::Upload { id: details.id()? }),
+        Resource::Redactions => Ok(Call::MakeRedaction),
+        Resource::VersionRedaction(kind) => redact(alloc, kind, details),
+        _ => Err(RouteFault::WrongMethod),
+    }
+}
+
+#[tactic(auto, unfolding(crate::specs::Calls::call_at))]
+fn delete_call(resource: Resource, details: &Details<'_>) -> Result<Call, RouteFault>
+    ensures call { Gives (call_at resource Method.Delete details.now) result }
+    ensures numbers { IfOk result HasPathNumbers }
+    ensures memory { result ≡ Err RouteFault.Memory → has_parameters resource ≡ true }
+{
+    match resource {
+        Resource::Element(kind) => Ok(Call::DeleteSingle {
             key: details.key(kind)?,
         }),
-        (Resource::Elements(kind), Method::Get) => many(alloc, kind, details),
         _ => Err(RouteFault::WrongMethod),
     }
 }

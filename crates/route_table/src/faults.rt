@@ -2,7 +2,7 @@ use osm_base::{Memory, Text};
 use std::alloc::AllocError;
 
 /// Why a request line has no call. The lowest that holds is named.
-#[derive(Debug, Drop)]
+#[derive(Drop)]
 pub enum RouteFault {
     /// The target isn't ASCII, or its path has no route.
     NoPath,

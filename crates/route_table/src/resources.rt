@@ -5,7 +5,7 @@ ghost use Rattle.route_table.specs.Paths.{paths};
 use osm_base::Kind;
 
 /// What a path of the API is a path of.
-#[derive(Clone, Copy, Debug)]
+#[derive(Clone, Copy)]
 pub enum Resource {
     NewChangeset,
     Changeset,
