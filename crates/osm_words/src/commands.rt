@@ -1,6 +1,6 @@
 //! What `clap` is told of each command, and what it finds in words.
 ghost use Rattle.std.specs.Prelude.{◌≡◌, IfOk, map, string_bytes, true, false};
-ghost use Rattle.clap.specs.Words.{app_of, rule_of, is_simple_and_free, kind_of};
+ghost use Rattle.clap.specs.Words.{app_of, rule_of, with_rule, is_simple_and_free, kind_of};
 ghost use Rattle.osm_words.specs.Commands.{option, plain, pipe_app, load_app, found};
 ghost use Rattle.osm_words.specs.Found.{Finds, Tells};
 
@@ -26,23 +26,33 @@ pub fn plain<'a>(alloc: Global, name: &'a str) -> Command<'a>
         .disable_version_flag(true)
 }
 
+/// The command with one more option.
+fn with_option<'a>(
+    alloc: Global,
+    command: Command<'a>,
+    name: &'a str,
+    is_needed: bool,
+) -> Result<Command<'a>, AllocError>
+    ensures { IfOk result (λ made. app_of made ≡ with_rule (app_of command.entry) (option name.entry.now is_needed)) }
+{
+    command.arg(option(alloc, name, is_needed))
+}
+
 /// `pipe --users FILE [--at SECONDS]`.
 pub fn pipe<'a>(alloc: Global) -> Result<Command<'a>, AllocError>
     ensures { IfOk result (λ command. app_of command ≡ pipe_app) }
 {
-    plain(alloc, "pipe")
-        .arg(option(alloc, "users", true))?
-        .arg(option(alloc, "at", false))
+    let needed = with_option(alloc, plain(alloc, "pipe"), "users", true)?;
+    with_option(alloc, needed, "at", false)
 }
 
 /// `NAME --seed N --sessions N --uploads N`.
 pub fn load<'a>(alloc: Global, name: &'a str) -> Result<Command<'a>, AllocError>
     ensures { IfOk result (λ command. app_of command ≡ load_app name.entry.now) }
 {
-    plain(alloc, name)
-        .arg(option(alloc, "seed", true))?
-        .arg(option(alloc, "sessions", true))?
-        .arg(option(alloc, "uploads", true))
+    let seeded = with_option(alloc, plain(alloc, name), "seed", true)?;
+    let shared = with_option(alloc, seeded, "sessions", true)?;
+    with_option(alloc, shared, "uploads", true)
 }
 
 /// Words that are refused have no reading, but for want of memory.

@@ -16,7 +16,7 @@ const _: () = prove!(UPLOAD_LIMIT == SESSION_LIMIT * UPLOADS_A_SESSION);
 
 /// A generated load: what its positions begin with, how many sessions send it, and how many uploads
 /// they send in all, at most `UPLOADS_A_SESSION` for each session.
-#[derive(Clone, Copy, Debug, PartialEq, Eq)]
+#[derive(Clone, Copy)]
 pub struct Load {
     pub seed: u64,
     pub sessions: u32,
@@ -24,7 +24,7 @@ pub struct Load {
 }
 
 /// A command of the program, with its options.
-#[derive(Clone, Copy, Debug)]
+#[derive(Clone, Copy)]
 pub enum Words<'a> {
     /// To serve the standard link, with the users of the text at that path, and with the clock fixed
     /// at that moment where one is given, in seconds since 1970.
@@ -38,7 +38,7 @@ pub enum Words<'a> {
 }
 
 /// Why words give no command.
-#[derive(Clone, Copy, Debug, PartialEq, Eq)]
+#[derive(Clone, Copy)]
 pub enum WordsFault {
     /// The words have no reading.
     NoReading,
