@@ -1,6 +1,7 @@
 mod Each
 mod Steps
 mod Positions
+mod Placed
 mod Looks
 mod Reading
 mod Built

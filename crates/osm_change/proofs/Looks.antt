@@ -1,9 +1,9 @@
 -- The bound placeholders are those of the creates before.
-use Rattle.std.proofs.Common.{◌≡◌, ℕ, suc, ◌+◌, ◌≤◌, Bool, true, false, cond, not, ◌&&◌, ltb, eqb, List, [], ◌∷◌, ◌++◌, length, Option, Some, None, ℤ, refl, sym, ap, ◌∙◌, arith}
+use Rattle.std.proofs.Common.{◌≡◌, inl, inr, ℕ, suc, ◌+◌, ◌<◌, ◌≤◌, Bool, true, false, cond, not, ◌&&◌, ltb, eqb, List, [], ◌∷◌, ◌++◌, length, Option, Some, None, ℤ, refl, sym, ap, ◌∙◌, arith}
 use Rattle.std.specs.Prelude.{position}
 use Rattle.std.specs.List.{position_or_len}
 use Rattle.std.specs.Ordering.{int_eq}
-use Rattle.std.proofs.lemmas.Bool.Decides.{nat_tests}
+use Rattle.std.proofs.lemmas.Bool.{cond-true, cond-false, lt-ltb, le-ltb, eq-eqb, ne_eqb, cases_lt}
 use Rattle.std.proofs.lemmas.List.{length-append}
 use Rattle.std.proofs.lemmas.List.Folds.{position_or_len_push}
 use Rattle.osm_base.specs.Key.{kind_eq}
@@ -48,8 +48,29 @@ look-bound m Relation id place free Node p = or_else-None (look_of m Node p)
 look-bound m Relation id place free Way p = or_else-None (look_of m Way p)
 look-bound m Relation id place free Relation p = with_binding-push m.relations id place p free
 
+-- where an item before the new one passes
+place-before : (n len m : ℕ) (later : Option ℕ) → n < len → m ≡ n → cond (ltb m (len + 1)) (Some m) None ≡ or_else (cond (ltb n len) (Some n) None) later
+place-before n len m later lt same =
+    cond-true (ltb m (len + 1)) (Some m) None (lt-ltb m (len + 1) (omega arith))
+    ∙ ap Some same
+    ∙ sym (ap (λ o. or_else o later) (cond-true (ltb n len) (Some n) None (lt-ltb n len lt)))
+
+-- where none before it does
+place-last : (n len : ℕ) (b : Bool) (m : ℕ) → n ≡ len → m ≡ len + cond b 0 1 → cond (ltb m (len + 1)) (Some m) None ≡ or_else (cond (ltb n len) (Some n) None) (cond b (Some len) None)
+place-last n len true m at e =
+    let same : m ≡ len = omega arith in
+    cond-true (ltb m (len + 1)) (Some m) None (lt-ltb m (len + 1) (omega arith))
+    ∙ ap Some same
+    ∙ sym (ap (λ o. or_else o (Some len)) (cond-false (ltb n len) (Some n) None (le-ltb n len (omega arith))))
+place-last n len false m at e =
+    cond-false (ltb m (len + 1)) (Some m) None (le-ltb m (len + 1) (omega arith))
+    ∙ sym (ap (λ o. or_else o None) (cond-false (ltb n len) (Some n) None (le-ltb n len (omega arith))))
+
 place-step : (n len : ℕ) (b : Bool) (m : ℕ) → n ≤ len → m ≡ cond (eqb n len) (len + cond b 0 1) n → cond (ltb m (len + 1)) (Some m) None ≡ or_else (cond (ltb n len) (Some n) None) (cond b (Some len) None)
-place-step n len b m le e = grind (arith, nat_tests)
+place-step n len b m le e = elim (cases_lt n len) [
+  | inl lt ↦ place-before n len m (cond b (Some len) None) lt (e ∙ cond-false (eqb n len) (len + cond b 0 1) n (ne_eqb n len (λ same. omega arith)))
+  | inr past ↦ let same : n ≡ len = omega arith in place-last n len b m same (e ∙ cond-true (eqb n len) (len + cond b 0 1) n (eq-eqb n len same))
+]
 
 place-within : {A : Type 0} (test : A → Bool) (xs : List A) → position_or_len test xs ≤ length xs
 place-within test [] = omega arith

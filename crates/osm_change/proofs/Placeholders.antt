@@ -3,8 +3,8 @@ use Rattle.std.proofs.Common.{◌≡◌, ℕ, zero, suc, ◌+◌, ◌<◌, Bool,
 use Rattle.std.specs.Prelude.{All, option_and_then, position}
 use Rattle.std.specs.Ordering.{int_eq}
 use Rattle.std.specs.List.{position_or_len}
-use Rattle.std.proofs.lemmas.Bool.{cases_order}
-use Rattle.std.proofs.lemmas.Bool.Decides.{nat_tests, Decides-int_eq}
+use Rattle.std.proofs.lemmas.Bool.{cases_order, lt-ltb, ltb-true}
+use Rattle.std.proofs.lemmas.Bool.Decides.{Decides-int_eq}
 use Rattle.osm_base.specs.Key.{kind_eq}
 use Rattle.osm_base.specs.declared.keys.Kind.{Kind}
 use Rattle.osm_base.specs.declared.keys.Kind.TheVariants.{Node, Way, Relation}
@@ -30,15 +30,18 @@ int_eq-refl z = (Decides-int_eq z z).1 refl
 some-none : {A : Type 0} (x : A) → Some x ≡ None → ⊥
 some-none x e = cc
 
+one-later : (place len : ℕ) → place < len → ltb (1 + place) (suc len) ≡ true
+one-later place len lt = lt-ltb (1 + place) (suc len) (omega arith)
+
 passes-later : (place len : ℕ) (b : Bool) → cond (ltb (cond (not b) (1 + place) 0) (suc len)) (Some (cond (not b) (1 + place) 0)) None ≡ None → (b ≡ false) × (cond (ltb place len) (Some place) None ≡ None)
 passes-later place len true e =
-    let first : ltb 0 (suc len) ≡ true = grind (arith, nat_tests) in
+    let first : ltb 0 (suc len) ≡ true = lt-ltb 0 (suc len) (omega arith) in
     absurd (some-none 0 (sym (ap (λ b. cond b (Some 0) None) first) ∙ e))
 passes-later place len false e = (refl, at (ltb place len) refl)
   where
     at : (b : Bool) → ltb place len ≡ b → cond (ltb place len) (Some place) None ≡ None
     at true lt =
-        let more : ltb (1 + place) (suc len) ≡ true = grind (arith, nat_tests) in
+        let more : ltb (1 + place) (suc len) ≡ true = one-later place len (ltb-true place len lt) in
         absurd (some-none (1 + place) (sym (ap (λ b. cond b (Some (1 + place)) None) more) ∙ e))
     at false past = ap (λ b. cond b (Some place) None) past
 

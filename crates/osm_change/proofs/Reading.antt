@@ -1,5 +1,5 @@
 -- A reading of operations, step by step.
-use Rattle.std.proofs.Common.{◌≡◌, ◌⊎◌, inl, inr, ℕ, ◌+◌, ◌≤◌, Bool, true, false, cond, List, [], ◌∷◌, ◌++◌, length, Option, Some, None, is_some, ℤ, pos, negsuc, Result, Ok, Err, refl, sym, ap, ◌∙◌, arith, true≢false}
+use Rattle.std.proofs.Common.{◌≡◌, ◌⊎◌, inl, inr, ℕ, suc, ◌+◌, ◌≤◌, Bool, true, false, cond, List, [], ◌∷◌, ◌++◌, length, Option, Some, None, is_some, ℤ, pos, negsuc, Result, Ok, Err, refl, sym, ap, ◌∙◌, arith, true≢false}
 use Rattle.std.specs.Prelude.{All}
 use Rattle.std.proofs.lemmas.List.{length-append, append-nil}
 use Rattle.std.proofs.lemmas.List.Elements.{All-head, All-tail}
@@ -58,27 +58,31 @@ next-ok place first o ops rest e = ap (λ first. after ops (or_fault place first
 next-err : (place : ℕ) (first : Result Op Cause) (cause : Cause) (ops : List Op) (rest : Result (List Op) ShapeFault) → first ≡ Err cause → after ops (or_fault place first >>= (λ o. cons_ok o rest)) ≡ Err (fault_at place cause)
 next-err place first cause ops rest e = ap (λ first. after ops (or_fault place first >>= (λ o. cons_ok o rest))) e
 
+none-left : (n : ℕ) → 0 + n ≡ n
+none-left n = omega arith
+
 pub reading-starts : (whole : List RawOp) (m : Placeholders) → look_of m ≡ created_at [] → All IsRawOp whole → IsReading whole [] whole m [] 0
 reading-starts whole m looks raw = record {
   done = sym (after-nil (operations_after [] whole));
   looks = looks;
   count = refl;
-  left = omega arith;
+  left = none-left (length whole);
   raw = raw;
 }
+
+left-next : (more before rest whole : ℕ) → more ≡ before + 1 → before + suc rest ≡ whole → more + rest ≡ whole
+left-next more before rest whole one-more left = omega arith
 
 pub reading-goes : (whole before rest : List RawOp) (m : Placeholders) (ops : List Op) (place : ℕ) (r : RawOp) (o : Op) (next : Placeholders) (more : List Op) → IsReading whole before (r ∷ rest) m ops place → op_of (look_of m) r ≡ Ok o → next ≡ noted m r place → more ≡ ops ++ o ∷ [] → IsReading whole (before ++ r ∷ []) rest next more (place + 1)
 reading-goes whole before rest m ops place r o next more was ok notes pushed =
     let here = looked m before r (Ok o) was.looks ok in
     let free : is_create r.action ≡ true → is_bound m r.kind r.id ≡ false = created-free (look_of m) r r.action r.content o ok in
     let one-more : length (before ++ r ∷ []) ≡ length before + 1 = length-append before (r ∷ []) in
-    let count = was.count in
-    let left = was.left in
     record {
       done = was.done ∙ next-ok (length before) (op_of (created_at before) r) o ops (operations_after (before ++ r ∷ []) rest) here ∙ ap (λ ops. after ops (operations_after (before ++ r ∷ []) rest)) (sym pushed);
       looks = ap look_of notes ∙ looks-step m before r place was.looks was.count free;
-      count = omega arith;
-      left = omega arith;
+      count = one-more ∙ ap (λ n. n + 1) was.count;
+      left = left-next (length (before ++ r ∷ [])) (length before) (length rest) (length whole) one-more was.left;
       raw = All-tail IsRawOp r rest was.raw;
     }
 
@@ -93,8 +97,11 @@ reading-ends whole before (r ∷ rest) m ops place none was = absurd (omega arit
 pub reading-raw : (whole before rest : List RawOp) (m : Placeholders) (ops : List Op) (place : ℕ) (r : RawOp) → IsReading whole before (r ∷ rest) m ops place → IsRawOp r
 reading-raw whole before rest m ops place r was = All-head IsRawOp r rest was.raw
 
+small-next : (before rest whole place : ℕ) → before ≡ place → before + suc rest ≡ whole → place + 1 ≤ whole
+small-next before rest whole place count left = omega arith
+
 pub reading-small : (whole before rest : List RawOp) (m : Placeholders) (ops : List Op) (place : ℕ) (r : RawOp) → IsReading whole before (r ∷ rest) m ops place → place + 1 ≤ length whole
-reading-small whole before rest m ops place r was = let count = was.count in let left = was.left in omega arith
+reading-small whole before rest m ops place r was = small-next (length before) (length rest) (length whole) place was.count was.left
 
 pub stopped : (expected : Result (List Op) ShapeFault) (place : ℕ) (cause : Cause) (fault : ShapeFault) → fault ≡ cond (is_memory cause) out_of_memory (fault_at place cause) → (cause ≡ Memory) ⊎ (expected ≡ Err (fault_at place cause)) → GivesChange expected (Err fault)
 stopped expected place cause fault at (inl m) = inl (at ∙ ap (λ c. cond (is_memory c) out_of_memory (fault_at place c)) m)

@@ -1,8 +1,8 @@
 -- Where the steps of one operation stop.
-use Rattle.std.proofs.Common.{◌≡◌, inl, inr, ℕ, zero, suc, false, cond, is_some, ℤ, pos, negsuc, w64, Option, Some, None, Result, Ok, Err, refl, sym, ap, ◌∙◌, arith}
+use Rattle.std.proofs.Common.{◌≡◌, inl, inr, ℕ, zero, suc, false, cond, is_some, ℤ, pos, negsuc, w64, Option, Some, None, Result, Ok, Err, refl, sym, ap, ◌∙◌, arith, true≢false}
 use Rattle.std.specs.Prelude.{int_lt}
 use Rattle.std.proofs.lemmas.Int.{ints}
-use Rattle.std.proofs.lemmas.Bool.Decides.{nat_tests}
+use Rattle.std.proofs.lemmas.Bool.{lt-ltb}
 use mir.Val.{SFits}
 use Rattle.osm_base.specs.declared.keys.Kind.{Kind}
 use Rattle.osm_element.specs.declared.contents.Content.{Content}
@@ -54,5 +54,5 @@ reference-fits (negsuc n) r = record { sfits = let low = r.low in omega (arith, 
 
 pub free-when : (look : Look) (kind : Kind) (id : ℤ) → IsReference id → int_lt (pos 0) id ≡ false → is_some (look kind id) ≡ false → free_placeholder look kind id ≡ Ok id
 free-when look kind (pos zero) r le none = absurd (r.some refl)
-free-when look kind (pos (suc n)) r le none = absurd (grind (arith, nat_tests))
+free-when look kind (pos (suc n)) r le none = absurd (true≢false (sym (lt-ltb 0 (suc n) (omega arith)) ∙ le))
 free-when look kind (negsuc n) r le none = ap (λ b. cond b (Err DoublePlaceholder) (Ok (negsuc n))) none
