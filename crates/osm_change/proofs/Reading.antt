@@ -1,5 +1,5 @@
 -- A reading of operations, step by step.
-use Rattle.std.proofs.Common.{◌≡◌, ◌⊎◌, inl, inr, ℕ, suc, ◌+◌, ◌≤◌, Bool, true, false, cond, List, [], ◌∷◌, ◌++◌, length, Option, Some, None, is_some, ℤ, pos, negsuc, Result, Ok, Err, refl, sym, ap, ◌∙◌, arith, true≢false}
+use Rattle.std.proofs.Common.{◌≡◌, ◌⊎◌, inl, inr, ℕ, suc, ◌+◌, ◌^◌, ◌<◌, ◌≤◌, Bool, true, false, cond, List, [], ◌∷◌, ◌++◌, length, Option, Some, None, is_some, ℤ, pos, negsuc, Result, Ok, Err, refl, sym, ap, ◌∙◌, arith, true≢false}
 use Rattle.std.specs.Prelude.{All}
 use Rattle.std.proofs.lemmas.List.{length-append, append-nil}
 use Rattle.std.proofs.lemmas.List.Elements.{All-head, All-tail}
@@ -102,6 +102,10 @@ small-next before rest whole place count left = omega arith
 
 pub reading-small : (whole before rest : List RawOp) (m : Placeholders) (ops : List Op) (place : ℕ) (r : RawOp) → IsReading whole before (r ∷ rest) m ops place → place + 1 ≤ length whole
 reading-small whole before rest m ops place r was = small-next (length before) (length rest) (length whole) place was.count was.left
+
+-- and its number fits
+pub place-fits : (place count : ℕ) → place + 1 ≤ count → count < 2 ^ 32 → place + 1 < 2 ^ 32
+place-fits place count small few = omega arith
 
 pub stopped : (expected : Result (List Op) ShapeFault) (place : ℕ) (cause : Cause) (fault : ShapeFault) → fault ≡ cond (is_memory cause) out_of_memory (fault_at place cause) → (cause ≡ Memory) ⊎ (expected ≡ Err (fault_at place cause)) → GivesChange expected (Err fault)
 stopped expected place cause fault at (inl m) = inl (at ∙ ap (λ c. cond (is_memory c) out_of_memory (fault_at place c)) m)

@@ -48,6 +48,31 @@ modified-stops look r content later cause name named local (inr e) =
     let stop = version-stops (content_named look content) r.version (local_cause r.tags content) (λ n v. Modify name v n r.tags) cause (ap (λ l. content_unless look content l) (sym local) ∙ e) in
     inr (ap (λ p. p >>= (λ name. content_named look content >>= (λ n. version_named r.version >>= (λ v. unless (local_cause r.tags content) (Ok (Modify name v n r.tags)))))) named ∙ stop)
 
+-- where an operation's own step is passed, and where it isn't
+version-goes : (named : Result (Content Name) Cause) (version : ℕ) (local : Option Cause) (made : Content Name) (f : Content Name → ℕ → Op) → (named >>= (λ n. unless (later_of (Some version) local) (Ok n))) ≡ Ok made → (named >>= (λ n. version_named (Some version) >>= (λ v. unless local (Ok (f n v))))) ≡ Ok (f made version)
+version-goes (Err c) version local made f e = absurd (cc)
+version-goes (Ok n) version None made f e = let same : n ≡ made = cc in ap (λ n. Ok (f n version)) same
+version-goes (Ok n) version (Some c) made f e = absurd (cc)
+
+pub modified-goes : (look : Look) (r : RawOp) (content : RawContent) (later : Option Cause) (name : Name) (made : Content Name) (version : ℕ) → name_of look r.kind r.id ≡ Ok name → later ≡ later_of r.version (local_cause r.tags content) → content_unless look content later ≡ Ok made → r.version ≡ Some version → modified look r content ≡ Ok (Modify name version made r.tags)
+modified-goes look r content later name made version named local e ver =
+    let passed = ap (λ v. content_unless look content (later_of v (local_cause r.tags content))) (sym ver) ∙ ap (λ l. content_unless look content l) (sym local) ∙ e in
+    ap (λ p. p >>= (λ name. content_named look content >>= (λ n. version_named r.version >>= (λ v. unless (local_cause r.tags content) (Ok (Modify name v n r.tags)))))) named
+    ∙ ap (λ version. content_named look content >>= (λ n. version_named version >>= (λ v. unless (local_cause r.tags content) (Ok (Modify name v n r.tags))))) ver
+    ∙ version-goes (content_named look content) version (local_cause r.tags content) made (λ n v. Modify name v n r.tags) passed
+
+pub modified-unnamed : (look : Look) (r : RawOp) (content : RawContent) (cause : Cause) → name_of look r.kind r.id ≡ Err cause → modified look r content ≡ Err cause
+modified-unnamed look r content cause e =
+    ap (λ p. p >>= (λ name. content_named look content >>= (λ n. version_named r.version >>= (λ v. unless (local_cause r.tags content) (Ok (Modify name v n r.tags)))))) e
+
+refused : (named : Result (Content Name) Cause) (cause : Cause) (made : Content Name) → (named >>= (λ n. unless (Some cause) (Ok n))) ≡ Ok made → ⊥
+refused (Err c) cause made e = cc
+refused (Ok n) cause made e = cc
+
+pub versioned : (look : Look) (content : RawContent) (later : Option Cause) (made : Content Name) (version : Option ℕ) (local : Option Cause) → later ≡ later_of version local → content_unless look content later ≡ Ok made → version ≡ None → ⊥
+versioned look content later made version local by e none =
+    refused (content_named look content) NoVersion made (ap (λ v. content_unless look content (later_of v local)) (sym none) ∙ ap (λ l. content_unless look content l) (sym by) ∙ e)
+
 pub reference-fits : (id : ℤ) → IsReference id → SFits w64 id
 reference-fits (pos n) r = record { sfits = let high = r.high in omega (arith, ints) }
 reference-fits (negsuc n) r = record { sfits = let low = r.low in omega (arith, ints) }

@@ -1,7 +1,7 @@
 ghost use Rattle.std.specs.Prelude.{◌≡◌, true, ◌+◌, ◌^◌, ◌<◌, length, [], None, Some, Ok, Err, OnOk, MatchOption, ⊤};
 ghost use Rattle.osm_base.specs.Outcome.{unless};
 ghost use Rattle.osm_base.specs.Place.{is_position};
-ghost use Rattle.placeholder_map.specs.Placeholders.{look_of, bound};
+ghost use Rattle.placeholder_map.specs.Placeholders.{no_placeholders, look_of, bound};
 ghost use Rattle.osm_change.specs.Outcome.{Gives, each, GivesChange};
 ghost use Rattle.osm_change.specs.Build.{IsRaw, IsRawOp, IsReference, IsPlaced, name_of, member_named, content_unless, local_cause, created, modified, deleted, op_of, noted, operations_after, other_name, other_changeset, change_of};
 
@@ -163,8 +163,8 @@ fn modified(
     })
 }
 
-fn deleted(placeholders: &PlaceholderMap, op: RawOp, if_unused: bool) -> Result<Op, Cause>
-    ensures { Gives (deleted (look_of placeholders.now) op if_unused) result }
+fn deleted(placeholders: &PlaceholderMap, op: &RawOp, if_unused: bool) -> Result<Op, Cause>
+    ensures { Gives (deleted (look_of placeholders.now) op.now if_unused) result }
 {
     let name = name_of(placeholders, op.kind, op.id)?;
     let version = op.version.ok_or(Cause::NoVersion)?;
@@ -190,9 +190,31 @@ fn operation(
     match (op.action, content) {
         (Action::Create, Some(content)) => created(alloc, placeholders, place, op, content),
         (Action::Modify, Some(content)) => modified(alloc, placeholders, op, content),
-        (Action::Delete { if_unused }, _) => deleted(placeholders, op, if_unused),
+        (Action::Delete { if_unused }, _) => deleted(placeholders, &op, if_unused),
         (Action::Create | Action::Modify, None) => unreachable!(),
     }
+}
+
+/// The operations, by placeholders that bind nothing yet.
+fn operations_with(
+    alloc: Global,
+    placeholders: &mut PlaceholderMap,
+    raw: Vec<RawOp>,
+) -> Result<Items<Op>, ShapeFault>
+    requires bare { placeholders.old ≡ no_placeholders }
+    requires raw { IsRaw raw.items }
+    ensures { GivesChange (operations_after [] raw.items) result }
+{
+    let mut operations = Vec::with_capacity(alloc, raw.len())?;
+    let mut place = 0;
+    for op in raw {
+        match operation(alloc, placeholders, place, op) {
+            Ok(operation) => operations.push(operation)?,
+            Err(cause) => return Err(ShapeFault::at(place, cause)),
+        }
+        place += 1;
+    }
+    Ok(Items::of(operations))
 }
 
 fn operations(alloc: Global, raw: Vec<RawOp>) -> Result<Items<Op>, ShapeFault>
@@ -200,16 +222,7 @@ fn operations(alloc: Global, raw: Vec<RawOp>) -> Result<Items<Op>, ShapeFault>
     ensures { GivesChange (operations_after [] raw.items) result }
 {
     let mut placeholders = PlaceholderMap::new(alloc);
-    let mut operations = Vec::with_capacity(alloc, raw.len())?;
-    let mut place = 0;
-    for op in raw {
-        match operation(alloc, &mut placeholders, place, op) {
-            Ok(operation) => operations.push(operation)?,
-            Err(cause) => return Err(ShapeFault::at(place, cause)),
-        }
-        place += 1;
-    }
-    Ok(Items::of(operations))
+    operations_with(alloc, &mut placeholders, raw)
 }
 
 /// The changeset that an operation names, where it is another one.

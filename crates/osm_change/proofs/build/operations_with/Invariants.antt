@@ -1,6 +1,6 @@
 use Rattle.std.specs.Vec.Iter.{into_iter_items}
 use Rattle.osm_change.proofs.Reading.{IsReading}
-use Rattle.osm_change.proofs.build.operations.Given as goal
+use Rattle.osm_change.proofs.build.operations_with.Given as goal
 
 abbrev pub invariant-loop-op : goal.invariant-loop-op
 invariant-loop-op l =

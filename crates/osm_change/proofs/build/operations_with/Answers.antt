@@ -1,15 +1,14 @@
-use Rattle.std.proofs.Common.{List, subst, arith}
+use Rattle.std.proofs.Common.{List, length, subst}
 use Rattle.osm_change.specs.declared.raw.RawOp.{RawOp}
-use Rattle.osm_change.proofs.Reading.{IsReading, reading-goes, reading-small}
-use Rattle.osm_change.proofs.build.operations.Goals as goal
+use Rattle.osm_change.proofs.Reading.{IsReading, reading-goes, reading-small, place-fits}
+use Rattle.osm_change.proofs.build.operations_with.Goals as goal
 
 pub at-requires : goal.at-requires
 at-requires c =
     let P : List RawOp → Type 0 = λ rest. IsReading c.args.raw.items c.loop-op.yielded rest c.loop-op.placeholders c.loop-op.operations.items c.loop-op.place in
     let was = subst P c.in-Some.ensures.steps.0 c.loop-op.invariant.2 in
     let small = reading-small c.args.raw.items c.loop-op.yielded _ c.loop-op.placeholders c.loop-op.operations.items c.loop-op.place c.in-Some.op was in
-    let few = c.requires.few in
-    omega arith
+    place-fits c.loop-op.place (length c.args.raw.items) small c.requires.raw.few
 
 pub loop-op-preserved : goal.loop-op-preserved
 loop-op-preserved c =
