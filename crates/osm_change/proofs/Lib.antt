@@ -11,3 +11,4 @@ mod Placeholders
 pub mod WellFormed
 mod Again
 mod Naming
+mod RowsNext
