@@ -1,5 +1,5 @@
 -- Where the steps of one operation stop.
-use Rattle.std.proofs.Common.{◌≡◌, inl, inr, ℕ, zero, suc, false, cond, is_some, ℤ, pos, negsuc, w64, Option, Some, None, Result, Ok, Err, refl, sym, ap, ◌∙◌, arith, true≢false}
+use Rattle.std.proofs.Common.{◌≡◌, inl, inr, ℕ, zero, suc, Bool, false, cond, is_some, ℤ, pos, negsuc, w64, Option, Some, None, Result, Ok, Err, refl, sym, ap, ◌∙◌, arith, true≢false}
 use Rattle.std.specs.Prelude.{int_lt}
 use Rattle.std.proofs.lemmas.Int.{ints}
 use Rattle.std.proofs.lemmas.Bool.{lt-ltb}
@@ -9,13 +9,13 @@ use Rattle.osm_element.specs.declared.contents.Content.{Content}
 use Rattle.osm_element.specs.declared.contents.RawContent.{RawContent}
 use Rattle.osm_base.specs.Outcome.{◌>>=◌, unless}
 use Rattle.osm_change.specs.Outcome.{Gives}
-use Rattle.osm_change.specs.Build.{Look, IsReference, free_placeholder, name_of, content_named, content_unless, local_cause, version_named, created, modified}
+use Rattle.osm_change.specs.Build.{Look, IsReference, free_placeholder, name_of, content_named, content_unless, local_cause, version_named, created, modified, deleted}
 use Rattle.osm_change.specs.declared.causes.Cause.{Cause}
 use Rattle.osm_change.specs.declared.causes.Cause.TheVariants.{NoVersion, DoublePlaceholder}
 use Rattle.osm_change.specs.declared.raw.RawOp.{RawOp}
 use Rattle.osm_change.specs.declared.operations.Name.{Name}
 use Rattle.osm_change.specs.declared.operations.Op.{Op}
-use Rattle.osm_change.specs.declared.operations.Op.TheVariants.{Create, Modify}
+use Rattle.osm_change.specs.declared.operations.Op.TheVariants.{Create, Modify, Delete}
 
 err-same : {A B : Type 0} (c d : Cause) → ◌≡◌ {A = Result A Cause} (Err c) (Err d) → ◌≡◌ {A = Result B Cause} (Err c) (Err d)
 err-same c d e = let same : c ≡ d = cc in ap Err same
@@ -72,6 +72,14 @@ refused (Ok n) cause made e = cc
 pub versioned : (look : Look) (content : RawContent) (later : Option Cause) (made : Content Name) (version : Option ℕ) (local : Option Cause) → later ≡ later_of version local → content_unless look content later ≡ Ok made → version ≡ None → ⊥
 versioned look content later made version local by e none =
     refused (content_named look content) NoVersion made (ap (λ v. content_unless look content (later_of v local)) (sym none) ∙ ap (λ l. content_unless look content l) (sym by) ∙ e)
+
+pub deleted-unnamed : (look : Look) (r : RawOp) (if_unused : Bool) (cause : Cause) → name_of look r.kind r.id ≡ Err cause → deleted look r if_unused ≡ Err cause
+deleted-unnamed look r if_unused cause e = ap (λ p. p >>= (λ name. version_named r.version >>= (λ version. Ok (Delete r.kind name version if_unused)))) e
+
+pub deleted-goes : (look : Look) (r : RawOp) (if_unused : Bool) (name : Name) (version : ℕ) → name_of look r.kind r.id ≡ Ok name → r.version ≡ Some version → deleted look r if_unused ≡ Ok (Delete r.kind name version if_unused)
+deleted-goes look r if_unused name version named ver =
+    ap (λ p. p >>= (λ name. version_named r.version >>= (λ version. Ok (Delete r.kind name version if_unused)))) named
+    ∙ ap (λ v. version_named v >>= (λ version. Ok (Delete r.kind name version if_unused))) ver
 
 pub reference-fits : (id : ℤ) → IsReference id → SFits w64 id
 reference-fits (pos n) r = record { sfits = let high = r.high in omega (arith, ints) }
