@@ -7,6 +7,7 @@ pub mod Firsts
 pub mod Gathered
 pub mod Given
 pub mod Grouped
+pub mod Kept
 pub mod Latest
 pub mod Members
 pub mod Moments

@@ -1,3 +1,5 @@
+ghost use Rattle.std.specs.Prelude.{◌≡◌, Some, Ok, Err, MatchResult};
+
 use json::Invalid;
 use osm_base::Memory;
 use std::alloc::{AllocError, AllocFailed};
@@ -93,4 +95,17 @@ impl<T: Drop> From<AllocFailed<T>> for ReadFault {
     fn from(_refused: AllocFailed<T>) -> ReadFault {
         ReadFault::Memory
     }
+}
+
+/// Keeps what was read of a member. Of members of one name the last counts.
+#[inline(always)]
+pub(crate) fn keep<T>(place: &mut Option<T>, read: Result<T, ReadFault>) -> Result<(), ReadFault>
+where
+    T: Drop,
+    ensures { MatchResult read
+        (λ value. (result ≡ Ok tt) × (place.new ≡ Some value))
+        (λ fault. result ≡ Err fault) }
+{
+    *place = Some(read?);
+    Ok(())
 }

@@ -4,7 +4,7 @@ ghost use Rattle.osm_json.specs.Reading.{id_of, each_of, list_of, reference_of};
 ghost use Rattle.osm_json.specs.Found.{Makes, parts_view, put_part, parts_of, reference_in, allowed, text_in};
 ghost use Rattle.osm_json.specs.Pull.{next_data, next_items, next_members, Pulled};
 
-use crate::fault::ReadFault;
+use crate::fault::{ReadFault, keep};
 use crate::names::{Part, part_of};
 use crate::pass::{pass_items, pass_value};
 use crate::scalar::{enter_array, enter_object, next_id, next_kind, next_text};
@@ -67,21 +67,11 @@ fn part<'a>(
     ensures shorter { OnOk result (length reader.new < length reader.old) }
 {
     match name {
-        Part::Type => {
-            let kind = next_kind(reader, depth)?;
-            found.kind = Some(kind);
-        }
-        Part::Ref => {
-            let id = next_id(reader, depth)?;
-            found.name = Some(id);
-        }
-        Part::Role => {
-            let role = next_text(reader, depth)?;
-            found.role = Some(role);
-        }
-        Part::Other => pass_value(reader, depth)?,
+        Part::Type => keep(&mut found.kind, next_kind(reader, depth)),
+        Part::Ref => keep(&mut found.name, next_id(reader, depth)),
+        Part::Role => keep(&mut found.role, next_text(reader, depth)),
+        Part::Other => pass_value(reader, depth),
     }
-    Ok(())
 }
 
 fn read_parts<'a>(reader: &mut Reader<'a>, depth: usize) -> Result<Parts<'a>, ReadFault>

@@ -5,7 +5,7 @@ ghost use Rattle.osm_json.specs.Found.{put_field, fields_of, allowed, version_in
 ghost use Rattle.osm_json.specs.Pull.{next_data, next_members, Pulled};
 ghost use Rattle.serde_json.specs.Data.{no_members};
 
-use crate::fault::ReadFault;
+use crate::fault::{ReadFault, keep};
 use crate::lists::{ids, references};
 use crate::names::{Name, name_of};
 use crate::pass::pass_value;
@@ -59,45 +59,17 @@ fn field(
     ensures shorter { OnOk result (length reader.new < length reader.old) }
 {
     match name {
-        Name::Type => {
-            let kind = next_kind(reader, depth)?;
-            found.kind = Some(kind);
-        }
-        Name::Id => {
-            let id = next_id(reader, depth)?;
-            found.id = Some(id);
-        }
-        Name::Version => {
-            let version = next_count(reader, depth)?;
-            found.version = Some(version);
-        }
-        Name::Changeset => {
-            let changeset = next_count(reader, depth)?;
-            found.changeset = Some(changeset);
-        }
-        Name::Lat7 => {
-            let lat7 = next_integer(reader, depth)?;
-            found.lat7 = Some(lat7);
-        }
-        Name::Lon7 => {
-            let lon7 = next_integer(reader, depth)?;
-            found.lon7 = Some(lon7);
-        }
-        Name::Nodes => {
-            let nodes = ids(alloc, reader, depth)?;
-            found.nodes = Some(nodes);
-        }
-        Name::Members => {
-            let members = references(alloc, reader, depth)?;
-            found.members = Some(members);
-        }
-        Name::Tags => {
-            let tags = tags(alloc, reader, depth)?;
-            found.tags = Some(tags);
-        }
-        Name::Other => pass_value(reader, depth)?,
+        Name::Type => keep(&mut found.kind, next_kind(reader, depth)),
+        Name::Id => keep(&mut found.id, next_id(reader, depth)),
+        Name::Version => keep(&mut found.version, next_count(reader, depth)),
+        Name::Changeset => keep(&mut found.changeset, next_count(reader, depth)),
+        Name::Lat7 => keep(&mut found.lat7, next_integer(reader, depth)),
+        Name::Lon7 => keep(&mut found.lon7, next_integer(reader, depth)),
+        Name::Nodes => keep(&mut found.nodes, ids(alloc, reader, depth)),
+        Name::Members => keep(&mut found.members, references(alloc, reader, depth)),
+        Name::Tags => keep(&mut found.tags, tags(alloc, reader, depth)),
+        Name::Other => pass_value(reader, depth),
     }
-    Ok(())
 }
 
 /// The members of the object that was entered.

@@ -1,11 +1,19 @@
 //! Passing over values, which are checked as `serde_json` checks them.
-ghost use Rattle.std.specs.Prelude.{◌∷◌, ◌≤◌, ◌<◌, length, OnOk};
+ghost use Rattle.std.specs.Prelude.{◌≡◌, [], ◌∷◌, ◌≤◌, ◌<◌, length, OnOk, MatchResult};
 ghost use Rattle.json.specs.Reads.{token_of};
 ghost use Rattle.osm_json.specs.Pull.{next_data, next_items, next_members, Passed};
 
 use crate::fault::ReadFault;
 use crate::figure::read_figure;
 use json::{Invalid, Reader, Token};
+
+/// The token that is next, where one is.
+#[inline(always)]
+pub(crate) fn first_token<'a>(reader: &mut Reader<'a>) -> Result<Token<'a>, Invalid>
+    ensures { MatchResult result (λ t. reader.old ≡ token_of t ∷ reader.new) (λ _. reader.old ≡ []) }
+{
+    reader.next().ok_or(Invalid)
+}
 
 /// Passes the rest of a value whose first token was read. Arrays and objects may nest `depth` deep.
 #[cycle(pass)]
@@ -44,7 +52,7 @@ pub(crate) fn pass_items(reader: &mut Reader<'_>, depth: usize) -> Result<(), Re
     ensures shorter { OnOk result (length reader.new ≤ length reader.old) }
 {
     while !reader.take_end_array() {
-        let first = reader.next().ok_or(Invalid)?;
+        let first = first_token(reader)?;
         pass_rest(reader, depth, first)?;
     }
     Ok(())
@@ -57,7 +65,7 @@ pub(crate) fn pass_members(reader: &mut Reader<'_>, depth: usize) -> Result<(), 
     ensures shorter { OnOk result (length reader.new ≤ length reader.old) }
 {
     while let Some(_) = reader.next_key()? {
-        let first = reader.next().ok_or(Invalid)?;
+        let first = first_token(reader)?;
         pass_rest(reader, depth, first)?;
     }
     Ok(())
@@ -68,6 +76,6 @@ pub(crate) fn pass_value(reader: &mut Reader<'_>, depth: usize) -> Result<(), Re
     ensures value { Passed result (next_data depth reader.old) reader.new }
     ensures shorter { OnOk result (length reader.new < length reader.old) }
 {
-    let first = reader.next().ok_or(Invalid)?;
+    let first = first_token(reader)?;
     pass_rest(reader, depth, first)
 }

@@ -9,8 +9,8 @@ ghost use Rattle.osm_json.specs.Scalars.{scalar_view, flat};
 
 use crate::fault::ReadFault;
 use crate::figure::{Figure, read_figure};
-use crate::pass::pass_rest;
-use json::{Invalid, Reader, Token};
+use crate::pass::{first_token, pass_rest};
+use json::{Reader, Token};
 use osm_base::Kind;
 
 /// How deep arrays and objects may nest, as `serde_json` lets them.
@@ -32,7 +32,7 @@ fn next_scalar<'a>(reader: &mut Reader<'a>, depth: usize) -> Result<Scalar<'a>, 
     ensures value { Pulled scalar_view flat result (next_data depth reader.old) reader.new }
     ensures shorter { OnOk result (length reader.new < length reader.old) }
 {
-    let first = reader.next().ok_or(Invalid)?;
+    let first = first_token(reader)?;
     match first {
         Token::Null => Ok(Scalar::Null),
         Token::Bool(flag) => Ok(Scalar::Flag(flag)),
@@ -58,7 +58,7 @@ pub(crate) fn enter_array(reader: &mut Reader<'_>, depth: usize) -> Result<Optio
     ensures value { Enters begin_array as_array result depth reader.old reader.new }
     ensures shorter { OnOk result (length reader.new < length reader.old) }
 {
-    let first = reader.next().ok_or(Invalid)?;
+    let first = first_token(reader)?;
     match first {
         Token::BeginArray => if depth == 0 {
             Err(ReadFault::NotJson)
@@ -81,7 +81,7 @@ pub(crate) fn enter_object(
     ensures value { Enters begin_object as_object result depth reader.old reader.new }
     ensures shorter { OnOk result (length reader.new < length reader.old) }
 {
-    let first = reader.next().ok_or(Invalid)?;
+    let first = first_token(reader)?;
     match first {
         Token::BeginObject => if depth == 0 {
             Err(ReadFault::NotJson)

@@ -1,5 +1,4 @@
-use Rattle.std.proofs.Common.{◌≡◌, [], ◌∷◌, ◌++◌, None, sym, ap, ◌∙◌, arith}
-use Rattle.json.specs.Json.{after_end_array}
+use Rattle.std.proofs.Common.{[], ◌∷◌, ◌++◌, None, sym, ap, ◌∙◌}
 use Rattle.serde_json.specs.Data.{no_items}
 use Rattle.osm_json.specs.Pull.{next_data}
 use Rattle.osm_json.specs.Walked.{sight, told}
@@ -11,14 +10,14 @@ use Rattle.osm_json.proofs.blocks.blocks_inside.Goals as goal
 pub returns-in_err-is_block-clause-value : goal.returns-in_err-is_block-clause-value
 returns-in_err-is_block-clause-value c =
     let l = c.loop-alloc in
-    let going : (after_end_array l.reader ≡ None) × (c.take_end_array.new.self ≡ l.reader) = grind arith in
+    let going = c.loop-alloc-test.ensures in
     at_exit _ _ _ _ _ c.in_err-is_block.field-0.0 c.from_residual.ensures.1
     (by_part c.in_err-is_block.field-0.0 _ _ c.in_err-is_block.ensures.value (λ e. bad_item l.invariant.1 going.0 (ap (next_data c.args.depth) (sym going.1) ∙ e)))
 
 pub loop-alloc-preserved : goal.loop-alloc-preserved
 loop-alloc-preserved c =
     let l = c.loop-alloc in
-    let going : (after_end_array l.reader ≡ None) × (c.take_end_array.new.self ≡ l.reader) = grind arith in
+    let going = c.loop-alloc-test.ensures in
     let read = c.in_ok-is_block.ensures.value in (
       l.invariant.0 ++ read.source ∷ [],
       one_item l.invariant.1 _ read.source going.0 (ap (next_data c.args.depth) (sym going.1) ∙ read.begins),
@@ -33,7 +32,7 @@ returns-clause-value c =
 pub returns-in_err-pass_items-clause-value : goal.returns-in_err-pass_items-clause-value
 returns-in_err-pass_items-clause-value c =
     let l = c.loop-alloc in
-    let going : (after_end_array l.reader ≡ None) × (c.take_end_array.new.self ≡ l.reader) = grind arith in
+    let going = c.loop-alloc-test.ensures in
     let read = c.in_ok-is_block.ensures.value in
     at_exit _ _ _ _ _ c.in_err-pass_items.field-0.0 c.from_residual-in_err-pass_items.ensures.1
     (by_part c.in_err-pass_items.field-0.0 _ _ c.in_err-pass_items.ensures.value
@@ -42,7 +41,7 @@ returns-in_err-pass_items-clause-value c =
 pub returns-then-not-is_block-clause-value : goal.returns-then-not-is_block-clause-value
 returns-then-not-is_block-clause-value c =
     let l = c.loop-alloc in
-    let going : (after_end_array l.reader ≡ None) × (c.take_end_array.new.self ≡ l.reader) = grind arith in
+    let going = c.loop-alloc-test.ensures in
     let read = c.in_ok-is_block.ensures.value in
     let passed = c.in_ok-pass_items.ensures.value in
     record {

@@ -1,6 +1,5 @@
-use Rattle.std.proofs.Common.{◌≡◌, [], ◌∷◌, ◌++◌, None, sym, ap, ◌∙◌, arith}
+use Rattle.std.proofs.Common.{[], ◌∷◌, ◌++◌, sym, ap, ◌∙◌}
 use Rattle.serde_json.specs.Data.{no_items}
-use Rattle.json.specs.Json.{after_end_array}
 use Rattle.osm_json.specs.Pull.{next_data}
 use Rattle.osm_json.proofs.Refused.{by_part, at_exit}
 use Rattle.osm_json.proofs.Turns.{one_item, all_items, bad_item}
@@ -10,7 +9,7 @@ use Rattle.osm_json.proofs.blocks.elements.Goals as goal
 pub loop-alloc-preserved : goal.loop-alloc-preserved
 loop-alloc-preserved c =
     let l = c.loop-alloc in
-    let going : (after_end_array l.reader ≡ None) × (c.take_end_array.new.self ≡ l.reader) = grind arith in
+    let going = c.loop-alloc-test.ensures in
     let read = c.in_ok-element.ensures.value in (
       l.invariant.0 ++ read.source ∷ [],
       one_item l.invariant.1 _ read.source going.0 (ap (next_data c.args.depth) (sym going.1) ∙ read.begins),
@@ -20,7 +19,7 @@ loop-alloc-preserved c =
 pub returns-in_err-element-clause-value : goal.returns-in_err-element-clause-value
 returns-in_err-element-clause-value c =
     let l = c.loop-alloc in
-    let going : (after_end_array l.reader ≡ None) × (c.take_end_array.new.self ≡ l.reader) = grind arith in
+    let going = c.loop-alloc-test.ensures in
     at_exit _ _ _ _ _ c.in_err-element.field-0.0 c.from_residual.ensures.1
     (by_part c.in_err-element.field-0.0 _ _ c.in_err-element.ensures.value (λ e. bad_item l.invariant.1 going.0 (ap (next_data c.args.depth) (sym going.1) ∙ e)))
 

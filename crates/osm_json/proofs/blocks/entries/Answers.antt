@@ -1,6 +1,5 @@
-use Rattle.std.proofs.Common.{◌≡◌, length, take, Some, None, refl, sym, ap, ◌∙◌, subst, arith}
+use Rattle.std.proofs.Common.{◌≡◌, length, take, refl, sym, ap, ◌∙◌, subst, arith}
 use Rattle.std.proofs.lemmas.List.{length-take-le}
-use Rattle.json.specs.Json.{read_key}
 use Rattle.serde_json.specs.Data.{put}
 use Rattle.osm_json.specs.declared.fault.ReadFault.TheVariants.{NotJson}
 use Rattle.osm_json.specs.Names.{entry_in}
@@ -20,7 +19,7 @@ returns-in_err-key-clause-value c = at_members _ _ _ _ NotJson c.from_residual.e
 pub loop-key-preserved : goal.loop-key-preserved
 loop-key-preserved c =
     let l = c.loop-key in
-    let key : read_key l.reader ≡ Some (Some c.in-Some.key.now, c.next_key.new.self) = grind arith in
+    let key = rw c.in-Some.is at c.in_ok-key.ensures.value in
     let read = c.in_ok-entry.ensures.value in
     let start = c.args.base.start in
     let old : Found = (l.found, sight l.progress) in
@@ -43,10 +42,10 @@ loop-key-preserved c =
 pub returns-in_err-entry-clause-value : goal.returns-in_err-entry-clause-value
 returns-in_err-entry-clause-value c =
     let l = c.loop-key in
-    let key : read_key l.reader ≡ Some (Some c.in-Some.key.now, c.next_key.new.self) = grind arith in
+    let key = rw c.in-Some.is at c.in_ok-key.ensures.value in
     at_members _ _ _ _ c.in_err-entry.field-0.0 c.from_residual-in_err-entry.ensures.1 (by_part c.in_err-entry.field-0.0 _ _ c.in_err-entry.ensures.value (λ e. bad_member l.invariant.1 _ _ key e))
 
 pub returns-clause-value : goal.returns-clause-value
 returns-clause-value c =
-    let over : read_key c.loop-key.reader ≡ Some (None, c.next_key.new.self) = grind arith in
+    let over = rw c.in_default.is at c.in_ok-key.ensures.value in
     record { source = _; begins = all_members c.loop-key.invariant.1 _ over; told = c.loop-key.invariant.2 }

@@ -1,6 +1,5 @@
-use Rattle.std.proofs.Common.{◌≡◌, [], ◌∷◌, ◌++◌, None, sym, ap, ◌∙◌, arith, rules, FitsSigned, w64}
+use Rattle.std.proofs.Common.{[], ◌∷◌, ◌++◌, sym, ap, ◌∙◌, rules, FitsSigned, w64}
 use Rattle.std.proofs.lemmas.Int.{to_z-of_z}
-use Rattle.json.specs.Json.{after_end_array}
 use Rattle.osm_json.specs.Pull.{next_data}
 use Rattle.osm_json.proofs.Each.{one_read, list_read, list_malformed}
 use Rattle.osm_json.proofs.Refused.{by_part, at_exit}
@@ -10,14 +9,14 @@ use Rattle.osm_json.proofs.lists.ids_inside.Goals as goal
 pub returns-in_err-number-clause-value : goal.returns-in_err-number-clause-value
 returns-in_err-number-clause-value c =
     let l = c.loop-reader in
-    let going : (after_end_array l.reader ≡ None) × (c.take_end_array.new.self ≡ l.reader) = grind arith in
+    let going = c.loop-reader-test.ensures in
     at_exit _ _ _ _ _ c.in_err-number.field-0.0 c.from_residual.ensures.1
     (by_part c.in_err-number.field-0.0 _ _ c.in_err-number.ensures.value (λ e. bad_item l.invariant.1 going.0 (ap (next_data c.args.depth) (sym going.1) ∙ e)))
 
 pub loop-reader-preserved : goal.loop-reader-preserved
 loop-reader-preserved c =
     let l = c.loop-reader in
-    let going : (after_end_array l.reader ≡ None) × (c.take_end_array.new.self ≡ l.reader) = grind arith in
+    let going = c.loop-reader-test.ensures in
     let read = c.in_ok-number.ensures.value in
     let fits : FitsSigned w64 c.in-Some.number = search rules in
     let pushed = simp to_z-of_z at c.in_ok-push-in-Some.ensures.items in (
@@ -29,7 +28,7 @@ loop-reader-preserved c =
 pub returns-in_err-pass_items-in-None-clause-value : goal.returns-in_err-pass_items-in-None-clause-value
 returns-in_err-pass_items-in-None-clause-value c =
     let l = c.loop-reader in
-    let going : (after_end_array l.reader ≡ None) × (c.take_end_array.new.self ≡ l.reader) = grind arith in
+    let going = c.loop-reader-test.ensures in
     let read = c.in_ok-number.ensures.value in
     at_exit _ _ _ _ _ c.in_err-pass_items-in-None.field-0.0 c.from_residual-in_err-pass_items-in-None.ensures.1
     (by_part c.in_err-pass_items-in-None.field-0.0 _ _ c.in_err-pass_items-in-None.ensures.value
@@ -38,7 +37,7 @@ returns-in_err-pass_items-in-None-clause-value c =
 pub returns-in-None-clause-value : goal.returns-in-None-clause-value
 returns-in-None-clause-value c =
     let l = c.loop-reader in
-    let going : (after_end_array l.reader ≡ None) × (c.take_end_array.new.self ≡ l.reader) = grind arith in
+    let going = c.loop-reader-test.ensures in
     let read = c.in_ok-number.ensures.value in
     let passed = c.in_ok-pass_items-in-None.ensures.value in
     list_malformed l.invariant.2 l.invariant.1 read.source _ passed.source _ going.0 (ap (next_data c.args.depth) (sym going.1) ∙ read.begins) (read.reads ∙ c.in-None.is) passed.begins

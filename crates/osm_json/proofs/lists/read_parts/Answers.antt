@@ -1,5 +1,4 @@
-use Rattle.std.proofs.Common.{◌≡◌, Some, None, refl, sym, ap, ◌∙◌, arith}
-use Rattle.json.specs.Json.{read_key}
+use Rattle.std.proofs.Common.{refl, sym, ap, ◌∙◌}
 use Rattle.osm_json.specs.declared.fault.ReadFault.TheVariants.{NotJson}
 use Rattle.osm_json.specs.Found.{parts_view, put_part}
 use Rattle.osm_json.proofs.Parts.{parts_put}
@@ -16,7 +15,7 @@ returns-in_err-key-clause-value c = at_exit _ _ _ _ _ NotJson c.from_residual.en
 pub loop-key-preserved : goal.loop-key-preserved
 loop-key-preserved c =
     let l = c.loop-key in
-    let key : read_key l.reader ≡ Some (Some c.in-Some.key.now, c.next_key.new.self) = grind arith in
+    let key = rw c.in-Some.is at c.in_ok-key.ensures.value in
     let read = c.in_ok-part.ensures.value in (
       _,
       one_member l.invariant.1 _ _ _ read.source key read.begins,
@@ -26,10 +25,10 @@ loop-key-preserved c =
 pub returns-in_err-part-clause-value : goal.returns-in_err-part-clause-value
 returns-in_err-part-clause-value c =
     let l = c.loop-key in
-    let key : read_key l.reader ≡ Some (Some c.in-Some.key.now, c.next_key.new.self) = grind arith in
+    let key = rw c.in-Some.is at c.in_ok-key.ensures.value in
     at_exit _ _ _ _ _ c.in_err-part.field-0.0 c.from_residual-in_err-part.ensures.1 (by_part c.in_err-part.field-0.0 _ _ c.in_err-part.ensures.value (λ e. bad_member l.invariant.1 _ _ key e))
 
 pub returns-clause-value : goal.returns-clause-value
 returns-clause-value c =
-    let over : read_key c.loop-key.reader ≡ Some (None, c.next_key.new.self) = grind arith in
+    let over = rw c.in_default.is at c.in_ok-key.ensures.value in
     record { source = _; begins = all_members c.loop-key.invariant.1 _ over; reads = sym c.loop-key.invariant.2 }

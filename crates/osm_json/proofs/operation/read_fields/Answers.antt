@@ -1,5 +1,4 @@
-use Rattle.std.proofs.Common.{◌≡◌, Some, None, sym, ap, ◌∙◌, arith}
-use Rattle.json.specs.Json.{read_key}
+use Rattle.std.proofs.Common.{sym, ap, ◌∙◌}
 use Rattle.osm_json.specs.declared.fault.ReadFault.TheVariants.{NotJson}
 use Rattle.osm_json.specs.Found.{put_field}
 use Rattle.osm_json.proofs.Operations.{fields_put}
@@ -16,7 +15,7 @@ returns-in_err-key-clause-value c = at_exit _ _ _ _ _ NotJson c.from_residual.en
 pub loop-found-preserved : goal.loop-found-preserved
 loop-found-preserved c =
     let l = c.loop-found in
-    let key : read_key l.reader ≡ Some (Some c.in-Some.key.now, c.next_key.new.self) = grind arith in
+    let key = rw c.in-Some.is at c.in_ok-key.ensures.value in
     let read = c.in_ok-field.ensures.value in (
       _,
       one_member l.invariant.1 _ _ _ read.source key read.begins,
@@ -26,10 +25,10 @@ loop-found-preserved c =
 pub returns-in_err-field-clause-value : goal.returns-in_err-field-clause-value
 returns-in_err-field-clause-value c =
     let l = c.loop-found in
-    let key : read_key l.reader ≡ Some (Some c.in-Some.key.now, c.next_key.new.self) = grind arith in
+    let key = rw c.in-Some.is at c.in_ok-key.ensures.value in
     at_exit _ _ _ _ _ c.in_err-field.field-0.0 c.from_residual-in_err-field.ensures.1 (by_part c.in_err-field.field-0.0 _ _ c.in_err-field.ensures.value (λ e. bad_member l.invariant.1 _ _ key e))
 
 pub returns-clause-value : goal.returns-clause-value
 returns-clause-value c =
-    let over : read_key c.loop-found.reader ≡ Some (None, c.next_key.new.self) = grind arith in
+    let over = rw c.in_default.is at c.in_ok-key.ensures.value in
     record { source = _; begins = all_members c.loop-found.invariant.1 _ over; reads = sym c.loop-found.invariant.2 }

@@ -1,5 +1,4 @@
-use Rattle.std.proofs.Common.{◌≡◌, [], ◌∷◌, ◌++◌, Some, None, refl, sym, ap, ◌∙◌, arith}
-use Rattle.json.specs.Json.{after_end_array, read_key}
+use Rattle.std.proofs.Common.{[], ◌∷◌, ◌++◌, refl, sym, ap, ◌∙◌, arith}
 use Rattle.json.specs.Reads.{token_of}
 use Rattle.serde_json.specs.Data.{number, array, object}
 use Rattle.osm_json.specs.declared.fault.ReadFault.TheVariants.{NotJson}
@@ -13,25 +12,22 @@ use Rattle.osm_json.proofs.pass.+pass.Goals as goal
 pub pass_items-returns-in_err-first-clause-value : goal.pass_items-returns-in_err-first-clause-value
 pass_items-returns-in_err-first-clause-value t c =
     let l = c.loop-reader in
-    let going : (after_end_array l.reader ≡ None) × (c.take_end_array.new.self ≡ l.reader) = grind arith in
-    let empty : c.take_end_array.new.self ≡ [] = grind arith in
-    at_exit _ _ _ _ _ NotJson c.from_residual.ensures.1 (bad_item l.invariant.1 going.0 (ap (next_data c.args.depth) (sym going.1 ∙ empty) ∙ none_next c.args.depth))
+    let going = c.loop-reader-test.ensures in
+    at_exit _ _ _ _ _ NotJson c.from_residual.ensures.1 (bad_item l.invariant.1 going.0 (ap (next_data c.args.depth) (sym going.1 ∙ c.in_err-first.ensures) ∙ none_next c.args.depth))
 
 pub pass_items-loop-reader-preserved : goal.pass_items-loop-reader-preserved
 pass_items-loop-reader-preserved t c =
     let l = c.loop-reader in
-    let going : (after_end_array l.reader ≡ None) × (c.take_end_array.new.self ≡ l.reader) = grind arith in
-    let first : c.take_end_array.new.self ≡ token_of c.in_ok-first.first ∷ c.next.new.self = grind arith in
+    let going = c.loop-reader-test.ensures in
     let passed = c.in_ok-pass_rest.ensures.value in
-    (l.invariant.0 ++ passed.source ∷ [], one_item l.invariant.1 _ passed.source going.0 (ap (next_data c.args.depth) (sym going.1 ∙ first) ∙ passed.begins))
+    (l.invariant.0 ++ passed.source ∷ [], one_item l.invariant.1 _ passed.source going.0 (ap (next_data c.args.depth) (sym going.1 ∙ c.in_ok-first.ensures) ∙ passed.begins))
 
 pub pass_items-returns-in_err-pass_rest-clause-value : goal.pass_items-returns-in_err-pass_rest-clause-value
 pass_items-returns-in_err-pass_rest-clause-value t c =
     let l = c.loop-reader in
-    let going : (after_end_array l.reader ≡ None) × (c.take_end_array.new.self ≡ l.reader) = grind arith in
-    let first : c.take_end_array.new.self ≡ token_of c.in_ok-first.first ∷ c.next.new.self = grind arith in
+    let going = c.loop-reader-test.ensures in
     at_exit _ _ _ _ _ c.in_err-pass_rest.field-0.0 c.from_residual-in_err-pass_rest.ensures.1
-    (by_part c.in_err-pass_rest.field-0.0 _ _ c.in_err-pass_rest.ensures.value (λ e. bad_item l.invariant.1 going.0 (ap (next_data c.args.depth) (sym going.1 ∙ first) ∙ e)))
+    (by_part c.in_err-pass_rest.field-0.0 _ _ c.in_err-pass_rest.ensures.value (λ e. bad_item l.invariant.1 going.0 (ap (next_data c.args.depth) (sym going.1 ∙ c.in_ok-first.ensures) ∙ e)))
 
 pub pass_items-returns-clause-value : goal.pass_items-returns-clause-value
 pass_items-returns-clause-value t c =
@@ -47,29 +43,26 @@ pass_members-returns-in_err-next_key-clause-value t c =
 pub pass_members-returns-in_err-first-clause-value : goal.pass_members-returns-in_err-first-clause-value
 pass_members-returns-in_err-first-clause-value t c =
     let l = c.loop-reader in
-    let key : read_key l.reader ≡ Some (Some c.in-Some.field-0.now, c.next_key.new.self) = grind arith in
-    let empty : c.next_key.new.self ≡ [] = grind arith in
-    at_exit _ _ _ _ _ NotJson c.from_residual-in_err-first.ensures.1 (bad_member l.invariant.1 _ _ key (ap (next_data c.args.depth) empty ∙ none_next c.args.depth))
+    let key = rw c.in-Some.is at c.in_ok-next_key.ensures.value in
+    at_exit _ _ _ _ _ NotJson c.from_residual-in_err-first.ensures.1 (bad_member l.invariant.1 _ _ key (ap (next_data c.args.depth) c.in_err-first.ensures ∙ none_next c.args.depth))
 
 pub pass_members-loop-reader-preserved : goal.pass_members-loop-reader-preserved
 pass_members-loop-reader-preserved t c =
     let l = c.loop-reader in
-    let key : read_key l.reader ≡ Some (Some c.in-Some.field-0.now, c.next_key.new.self) = grind arith in
-    let first : c.next_key.new.self ≡ token_of c.in_ok-first.first ∷ c.next.new.self = grind arith in
+    let key = rw c.in-Some.is at c.in_ok-next_key.ensures.value in
     let passed = c.in_ok-pass_rest.ensures.value in
-    (_, one_member l.invariant.1 _ _ _ passed.source key (ap (next_data c.args.depth) first ∙ passed.begins))
+    (_, one_member l.invariant.1 _ _ _ passed.source key (ap (next_data c.args.depth) c.in_ok-first.ensures ∙ passed.begins))
 
 pub pass_members-returns-in_err-pass_rest-clause-value : goal.pass_members-returns-in_err-pass_rest-clause-value
 pass_members-returns-in_err-pass_rest-clause-value t c =
     let l = c.loop-reader in
-    let key : read_key l.reader ≡ Some (Some c.in-Some.field-0.now, c.next_key.new.self) = grind arith in
-    let first : c.next_key.new.self ≡ token_of c.in_ok-first.first ∷ c.next.new.self = grind arith in
+    let key = rw c.in-Some.is at c.in_ok-next_key.ensures.value in
     at_exit _ _ _ _ _ c.in_err-pass_rest.field-0.0 c.from_residual-in_err-pass_rest.ensures.1
-    (by_part c.in_err-pass_rest.field-0.0 _ _ c.in_err-pass_rest.ensures.value (λ e. bad_member l.invariant.1 _ _ key (ap (next_data c.args.depth) first ∙ e)))
+    (by_part c.in_err-pass_rest.field-0.0 _ _ c.in_err-pass_rest.ensures.value (λ e. bad_member l.invariant.1 _ _ key (ap (next_data c.args.depth) c.in_ok-first.ensures ∙ e)))
 
 pub pass_members-returns-clause-value : goal.pass_members-returns-clause-value
 pass_members-returns-clause-value t c =
-    let over : read_key c.loop-reader.reader ≡ Some (None, c.next_key.new.self) = grind arith in
+    let over = rw c.in_default.is at c.in_ok-next_key.ensures.value in
     record { source = _; begins = all_members c.loop-reader.invariant.1 _ over; reads = refl }
 
 pub pass_rest-returns-in-String-clause-value : goal.pass_rest-returns-in-String-clause-value

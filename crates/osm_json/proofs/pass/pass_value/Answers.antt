@@ -1,4 +1,4 @@
-use Rattle.std.proofs.Common.{◌≡◌, [], ap, ◌∙◌, arith}
+use Rattle.std.proofs.Common.{ap, ◌∙◌}
 use Rattle.osm_json.specs.declared.fault.ReadFault.TheVariants.{NotJson}
 use Rattle.osm_json.specs.Pull.{next_data}
 use Rattle.osm_json.proofs.Firsts.{none_next}
@@ -7,5 +7,4 @@ use Rattle.osm_json.proofs.pass.pass_value.Goals as goal
 
 pub returns-in_err-first-clause-value : goal.returns-in_err-first-clause-value
 returns-in_err-first-clause-value c =
-    let empty : c.args.reader.now ≡ [] = grind arith in
-    at_exit _ _ _ _ _ NotJson c.from_residual.ensures.1 (ap (next_data c.args.depth) empty ∙ none_next c.args.depth)
+    at_exit _ _ _ _ _ NotJson c.from_residual.ensures.1 (ap (next_data c.args.depth) c.in_err-first.ensures ∙ none_next c.args.depth)

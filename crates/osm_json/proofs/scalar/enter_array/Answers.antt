@@ -1,4 +1,4 @@
-use Rattle.std.proofs.Common.{◌≡◌, [], ◌∷◌, ap, ◌∙◌, arith}
+use Rattle.std.proofs.Common.{◌∷◌, ap, ◌∙◌}
 use Rattle.json.specs.Reads.{token_of}
 use Rattle.osm_json.specs.declared.fault.ReadFault.TheVariants.{NotJson}
 use Rattle.osm_json.specs.Pull.{next_data}
@@ -8,26 +8,22 @@ use Rattle.osm_json.proofs.scalar.enter_array.Goals as goal
 
 pub returns-in_err-first-clause-value : goal.returns-in_err-first-clause-value
 returns-in_err-first-clause-value c =
-    let empty : c.args.reader.now ≡ [] = grind arith in
-    at_enter _ _ _ _ _ _ NotJson c.from_residual.ensures.1 (ap (next_data c.args.depth) empty ∙ none_next c.args.depth)
+    at_enter _ _ _ _ _ _ NotJson c.from_residual.ensures.1 (ap (next_data c.args.depth) c.in_err-first.ensures ∙ none_next c.args.depth)
 
 pub returns-then-depth-eq0-clause-value : goal.returns-then-depth-eq0-clause-value
 returns-then-depth-eq0-clause-value c =
-    let first : c.args.reader.now ≡ token_of c.in_ok-first.first ∷ c.next.new.self = grind arith in
-    ap (next_data c.args.depth) (first ∙ ap (λ k. token_of k ∷ c.next.new.self) c.in-BeginArray.is) ∙ array_too_deep c.args.depth c.next.new.self c.if-depth-eq0.true
+    ap (next_data c.args.depth) (c.in_ok-first.ensures ∙ ap (λ k. token_of k ∷ c.first_token.new.reader) c.in-BeginArray.is) ∙ array_too_deep c.args.depth c.first_token.new.reader c.if-depth-eq0.true
 
 pub returns-in_err-pass_rest-in_default-clause-value : goal.returns-in_err-pass_rest-in_default-clause-value
 returns-in_err-pass_rest-in_default-clause-value c =
-    let first : c.args.reader.now ≡ token_of c.in_ok-first.first ∷ c.next.new.self = grind arith in
     at_enter _ _ _ _ _ _ c.in_err-pass_rest-in_default.field-0.0 c.from_residual-in_err-pass_rest-in_default.ensures.1
-    (by_part c.in_err-pass_rest-in_default.field-0.0 _ _ c.in_err-pass_rest-in_default.ensures.value (λ e. ap (next_data c.args.depth) first ∙ e))
+    (by_part c.in_err-pass_rest-in_default.field-0.0 _ _ c.in_err-pass_rest-in_default.ensures.value (λ e. ap (next_data c.args.depth) c.in_ok-first.ensures ∙ e))
 
 pub returns-in_ok-pass_rest-in_default-clause-value : goal.returns-in_ok-pass_rest-in_default-clause-value
 returns-in_ok-pass_rest-in_default-clause-value c =
-    let first : c.args.reader.now ≡ token_of c.in_ok-first.first ∷ c.next.new.self = grind arith in
     let passed = c.in_ok-pass_rest-in_default.ensures.value in
     record {
       source = passed.source;
-      begins = ap (next_data c.args.depth) first ∙ passed.begins;
-      reads = no_array c.args.depth c.in_ok-first.first c.next.new.self passed.source _ c.in_default.not-BeginArray passed.begins;
+      begins = ap (next_data c.args.depth) c.in_ok-first.ensures ∙ passed.begins;
+      reads = no_array c.args.depth c.in_ok-first.first c.first_token.new.reader passed.source _ c.in_default.not-BeginArray passed.begins;
     }

@@ -1,5 +1,4 @@
-use Rattle.std.proofs.Common.{◌≡◌, Some, None, sym, arith}
-use Rattle.json.specs.Json.{read_key}
+use Rattle.std.proofs.Common.{sym}
 use Rattle.osm_json.specs.declared.fault.ReadFault.TheVariants.{NotJson}
 use Rattle.osm_json.proofs.Refused.{by_part, at_exit}
 use Rattle.osm_json.proofs.Texts.{none_read, text_put, texts_read}
@@ -15,13 +14,13 @@ returns-in_err-key-clause-value c = at_exit _ _ _ _ _ NotJson c.from_residual-in
 pub returns-in_err-text-clause-value : goal.returns-in_err-text-clause-value
 returns-in_err-text-clause-value c =
     let l = c.loop-found in
-    let key : read_key l.reader ≡ Some (Some c.in-Some.key.now, c.next_key.new.self) = grind arith in
+    let key = rw c.in-Some.is at c.in_ok-key.ensures.value in
     at_exit _ _ _ _ _ c.in_err-text.field-0.0 c.from_residual-in_err-text.ensures.1 (by_part c.in_err-text.field-0.0 _ _ c.in_err-text.ensures.value (λ e. bad_member l.invariant.1 _ _ key e))
 
 pub loop-found-preserved : goal.loop-found-preserved
 loop-found-preserved c =
     let l = c.loop-found in
-    let key : read_key l.reader ≡ Some (Some c.in-Some.key.now, c.next_key.new.self) = grind arith in
+    let key = rw c.in-Some.is at c.in_ok-key.ensures.value in
     let read = c.in_ok-text.ensures.value in (
       _,
       one_member l.invariant.1 _ _ _ read.source key read.begins,
@@ -30,5 +29,5 @@ loop-found-preserved c =
 
 pub returns-clause-value : goal.returns-clause-value
 returns-clause-value c =
-    let over : read_key c.loop-found.reader ≡ Some (None, c.next_key.new.self) = grind arith in
+    let over = rw c.in_default.is at c.in_ok-key.ensures.value in
     record { source = _; begins = all_members c.loop-found.invariant.1 _ over; reads = texts_read _ _ c.loop-found.invariant.2 }

@@ -1,5 +1,4 @@
-use Rattle.std.proofs.Common.{◌≡◌, Some, None, if◌then◌else◌, bytes_eq, codes, refl, sym, ap, ◌∙◌, arith}
-use Rattle.json.specs.Json.{read_key}
+use Rattle.std.proofs.Common.{Some, if◌then◌else◌, bytes_eq, codes, refl, sym, ap, ◌∙◌}
 use Rattle.serde_json.specs.Find.{as_str}
 use Rattle.osm_json.specs.declared.fault.ReadFault.TheVariants.{NotJson}
 use Rattle.osm_json.proofs.Documents.{title_put}
@@ -17,7 +16,7 @@ pub loop-key-preserved : goal.loop-key-preserved
 loop-key-preserved c =
     let l = c.loop-key in
     let name = c.in-Some.key.now in
-    let key : read_key l.reader ≡ Some (Some name, c.next_key.new.self) = grind arith in
+    let key = rw c.in-Some.is at c.in_ok-key.ensures.value in
     let read = c.in_ok-title_member.ensures.value in (
       _,
       one_member l.invariant.1 _ _ _ read.source key read.begins,
@@ -27,10 +26,10 @@ loop-key-preserved c =
 pub returns-in_err-title_member-clause-value : goal.returns-in_err-title_member-clause-value
 returns-in_err-title_member-clause-value c =
     let l = c.loop-key in
-    let key : read_key l.reader ≡ Some (Some c.in-Some.key.now, c.next_key.new.self) = grind arith in
+    let key = rw c.in-Some.is at c.in_ok-key.ensures.value in
     at_exit _ _ _ _ _ c.in_err-title_member.field-0.0 c.from_residual-in_err-title_member.ensures.1 (by_part c.in_err-title_member.field-0.0 _ _ c.in_err-title_member.ensures.value (λ e. bad_member l.invariant.1 _ _ key e))
 
 pub returns-clause-value : goal.returns-clause-value
 returns-clause-value c =
-    let over : read_key c.loop-key.reader ≡ Some (None, c.next_key.new.self) = grind arith in
+    let over = rw c.in_default.is at c.in_ok-key.ensures.value in
     record { source = _; begins = all_members c.loop-key.invariant.1 _ over; reads = sym c.loop-key.invariant.2 }
