@@ -1,9 +1,9 @@
 -- An entry that is kept by the map's book.
-use Rattle.std.proofs.Common.{◌≡◌, ℕ, ◌+◌, ◌≤◌, Bool, true, false, ◌&&◌, List, [], ◌∷◌, ◌++◌, length, is_ok, Option, Some, None, Result, Ok, Err, refl, sym, ap, ◌∙◌}
+use Rattle.std.proofs.Common.{◌≡◌, ℕ, ◌+◌, ◌≤◌, Bool, true, false, ◌&&◌, List, length, is_ok, Option, Result, Ok, Err, refl, sym, ap, ◌∙◌}
 use Rattle.std.specs.Prelude.{◌==◌}
 use Rattle.std.specs.Option.{is_some}
 use Rattle.std.proofs.lemmas.List.Sums.{count_by-le-length}
-use Rattle.std.proofs.lemmas.Bool.{and_parts, eqb-true, true≢false}
+use Rattle.std.proofs.lemmas.Bool.{and_parts, eqb-true}
 use Rattle.hub_core.specs.Journal.{extended, place_of}
 use Rattle.osm_base.specs.Stamp.{stamp_after}
 use Rattle.osm_base.specs.declared.memory.Memory.{Memory}
@@ -23,9 +23,6 @@ and_true true = refl
 and_true false = refl
 
 module _ (es : List Entry) (e : Entry) where
-  at_stamp : ℕ
-  at_stamp = stamp_after (replay es).last e.stamp
-
   in_turn : is_in_turn es e ≡ true → (e.call == calls_of e.session es + 1) ≡ true
   in_turn turn = (and_parts (e.call == calls_of e.session es + 1) (stamp_after (replay es).last e.stamp == e.stamp) turn).0
 
@@ -71,16 +68,3 @@ module _ (es : List Entry) (e : Entry) where
   kept_at entry new turn is at =
       at ∙ ap (extended es) (is ∙ entry_by turn) ∙ kept_so (judge (replay es) e.user e.stamp e.command)
       ∙ ap (λ (b : Bool). kept_by {E = Memory} (Ok b) es e) (sym (may_by turn))
-
-  -- what is not in turn may not come next
-  pub out_of_turn : is_in_turn es e ≡ false → may_follow es e ≡ false
-  out_of_turn out = by (e.call == calls_of e.session es + 1) (stamp_after (replay es).last e.stamp == e.stamp) (is_ok (judge (replay es) e.user e.stamp e.command)) out
-    where
-      by : (call at accepted : Bool) → (call && at) ≡ false → ((accepted && at) && call) ≡ false
-      by true true accepted out = absurd (true≢false out)
-      by true false true out = refl
-      by true false false out = refl
-      by false true true out = refl
-      by false true false out = refl
-      by false false true out = refl
-      by false false false out = refl

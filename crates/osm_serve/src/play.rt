@@ -1,10 +1,13 @@
 //! A load from its first request to its last.
-ghost use Rattle.std.specs.Prelude.{◌≡◌, ◌<◌, ◌≤◌, IfOk, length};
+ghost use Rattle.std.specs.Prelude.{◌≡◌, ◌<◌, ◌≤◌, IfOk, length, []};
 ghost use Rattle.osm_base.specs.declared.limits.TheConstants.{SESSION_LIMIT};
 ghost use Rattle.osm_model.specs.Journal.{IsLegal, replay};
 ghost use Rattle.load_summary.specs.Figures.{figures_of};
-ghost use Rattle.api_desk.specs.Desk.{entries_of};
-ghost use Rattle.osm_serve.specs.Played.{IsPlayed};
+ghost use Rattle.api_desk.specs.Desk.{entries_of, users_of};
+ghost use Rattle.journal_text.specs.Text.{text_of};
+ghost use Rattle.workload.specs.Users.{AreUsersOf};
+ghost use Rattle.osm_serve.specs.Played.{AreReplied, IsPlayed};
+ghost use Rattle.osm_serve.specs.declared.sending.Replies.{Replies};
 ghost use Rattle.osm_serve.specs.Export.{IsExport};
 
 use crate::sending::{Replies, send_each};
@@ -14,12 +17,13 @@ use journal_text::journal_text;
 use load_summary::{Figures, figures_of};
 use osm_base::{Bytes, Memory, SESSION_LIMIT};
 use std::alloc::Global;
+use user_table::UserTable;
 use workload::{Load, users_of_load};
 
 const FIRST_SESSION: u32 = 0;
 
 /// What a load comes to.
-#[derive(Clone, Copy, Debug, PartialEq, Eq)]
+#[derive(Clone, Copy)]
 pub struct Played {
     /// The numbers of its journal, and of the map that it makes.
     pub figures: Figures,
@@ -34,6 +38,53 @@ fn figures_at(desk: &OneDesk<'_>) -> Figures
     figures_of(desk.world().store(), desk.entries().len() as u64)
 }
 
+/// Sends a load to a desk, and takes the numbers.
+fn run_at(alloc: Global, load: Load, desk: &mut OneDesk<'_>) -> Result<Played, Memory>
+    ensures { IfOk result (λ played. IsLegal (entries_of desk.new)
+        × AreReplied (users_of desk.old) load (entries_of desk.old) (entries_of desk.new) played.replies
+        × (played.figures ≡ figures_of (replay (entries_of desk.new)).elements (length (entries_of desk.new)))) }
+{
+    let replies = send_each(alloc, load, desk)?;
+    let figures = figures_at(desk);
+    Ok(Played { figures, replies })
+}
+
+/// Sends a load of its users over a book that is empty at first.
+fn run_over(
+    alloc: Global,
+    users: &UserTable,
+    book: &mut Book<MapMachine>,
+    seed: u64,
+    sessions: u32,
+    uploads: u32,
+) -> Result<Played, Memory>
+    requires some { 0 < sessions }
+    requires few { sessions ≤ SESSION_LIMIT }
+    requires table { AreUsersOf sessions users.now }
+    requires empty { book.old ≡ [] }
+    ensures { IfOk result (IsPlayed seed sessions uploads) }
+{
+    let mut desk = OneDesk::new(alloc, book, users, FIRST_SESSION)?;
+    run_at(alloc, Load::new(seed, sessions, uploads), &mut desk)
+}
+
+/// A run of a load by its users.
+fn run_by(
+    alloc: Global,
+    users: &UserTable,
+    seed: u64,
+    sessions: u32,
+    uploads: u32,
+) -> Result<Played, Memory>
+    requires some { 0 < sessions }
+    requires few { sessions ≤ SESSION_LIMIT }
+    requires table { AreUsersOf sessions users.now }
+    ensures { IfOk result (IsPlayed seed sessions uploads) }
+{
+    let mut book = Book::<MapMachine>::new(alloc);
+    run_over(alloc, users, &mut book, seed, sessions, uploads)
+}
+
 /// Sends the requests of the load of a seed, one after another, each to a desk of its session over
 /// one book that is empty at first. A reply that tells of want of memory is a refused one; want of
 /// memory elsewhere is `Memory`.
@@ -43,11 +94,56 @@ pub fn run_load(alloc: Global, seed: u64, sessions: u32, uploads: u32) -> Result
     ensures { IfOk result (IsPlayed seed sessions uploads) }
 {
     let users = users_of_load(alloc, sessions)?;
+    run_by(alloc, &users, seed, sessions, uploads)
+}
+
+/// Sends a load to a desk, and writes the text of the journal.
+fn journal_at(alloc: Global, load: Load, desk: &mut OneDesk<'_>) -> Result<Bytes, Memory>
+    ensures { IfOk result (λ text. (replies : Replies) × (replies.lacking ≡ 0) × IsLegal (entries_of desk.new)
+        × AreReplied (users_of desk.old) load (entries_of desk.old) (entries_of desk.new) replies
+        × (text ≡ text_of (entries_of desk.new))) }
+{
+    let replies = send_each(alloc, load, desk)?;
+    if replies.lacking > 0 {
+        return Err(Memory);
+    }
+    journal_text(alloc, desk.entries())
+}
+
+/// Sends a load of its users over a book that is empty at first, and writes the text of the journal.
+fn journal_over(
+    alloc: Global,
+    users: &UserTable,
+    book: &mut Book<MapMachine>,
+    seed: u64,
+    sessions: u32,
+    uploads: u32,
+) -> Result<Bytes, Memory>
+    requires some { 0 < sessions }
+    requires few { sessions ≤ SESSION_LIMIT }
+    requires table { AreUsersOf sessions users.now }
+    requires empty { book.old ≡ [] }
+    ensures { IfOk result (IsExport seed sessions uploads) }
+{
+    let mut desk = OneDesk::new(alloc, book, users, FIRST_SESSION)?;
+    journal_at(alloc, Load::new(seed, sessions, uploads), &mut desk)
+}
+
+/// The journal of a run of a load by its users.
+fn journal_by(
+    alloc: Global,
+    users: &UserTable,
+    seed: u64,
+    sessions: u32,
+    uploads: u32,
+) -> Result<Bytes, Memory>
+    requires some { 0 < sessions }
+    requires few { sessions ≤ SESSION_LIMIT }
+    requires table { AreUsersOf sessions users.now }
+    ensures { IfOk result (IsExport seed sessions uploads) }
+{
     let mut book = Book::<MapMachine>::new(alloc);
-    let mut desk = OneDesk::new(alloc, &mut book, &users, FIRST_SESSION)?;
-    let replies = send_each(alloc, Load::new(seed, sessions, uploads), &mut desk)?;
-    let figures = figures_at(&desk);
-    Ok(Played { figures, replies })
+    journal_over(alloc, users, &mut book, seed, sessions, uploads)
 }
 
 /// The text of the journal that a run of the load makes. A reply that tells of want of memory is
@@ -63,11 +159,5 @@ pub fn journal_of_load(
     ensures { IfOk result (IsExport seed sessions uploads) }
 {
     let users = users_of_load(alloc, sessions)?;
-    let mut book = Book::<MapMachine>::new(alloc);
-    let mut desk = OneDesk::new(alloc, &mut book, &users, FIRST_SESSION)?;
-    let replies = send_each(alloc, Load::new(seed, sessions, uploads), &mut desk)?;
-    if replies.lacking > 0 {
-        return Err(Memory);
-    }
-    journal_text(alloc, desk.entries())
+    journal_by(alloc, &users, seed, sessions, uploads)
 }

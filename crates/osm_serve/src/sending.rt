@@ -64,7 +64,7 @@ fn lacks_memory(status: Option<u16>) -> bool
 }
 
 /// How a load was answered.
-#[derive(Clone, Copy, Debug, PartialEq, Eq)]
+#[derive(Clone, Copy)]
 pub struct Replies {
     /// One for each request.
     pub all: u64,

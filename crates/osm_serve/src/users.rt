@@ -6,7 +6,7 @@ use std::alloc::Global;
 use user_table::{UserTable, UsersFault};
 
 /// Why there is no table of users.
-#[derive(Clone, Copy, Debug, PartialEq, Eq)]
+#[derive(Clone, Copy)]
 pub enum NoUsers {
     /// The host failed.
     Failed,

@@ -1,4 +1,4 @@
-use Rattle.std.proofs.Common.{inl, subst, sym}
+use Rattle.std.proofs.Common.{refl, inl, inr, subst, sym}
 use Rattle.osm_serve.specs.Export.{IsExport}
 use Rattle.osm_serve.proofs.export.export.Goals as goal
 
@@ -9,3 +9,6 @@ returns-in-Ok g c =
       fitting = subst (IsExport c.args.load.seed c.args.load.sessions c.args.load.uploads) (sym c.as_slice.ensures) c.in-Ok.ensures;
       writes = c.tell.ensures;
     })
+
+pub returns-in-Err : goal.returns-in-Err
+returns-in-Err g c = inr (record { unserved = refl; status_is = refl })

@@ -1,8 +1,5 @@
-use Rattle.std.proofs.Common.{◌≡◌, [], append-nil, refl, ap, sym, ◌∙◌, Ok}
+use Rattle.std.proofs.Common.{[], append-nil, refl, ap, sym, ◌∙◌, Ok}
 use Rattle.osm_base.specs.declared.memory.Memory.{Memory}
-use Rattle.osm_model.specs.Journal.{replay}
-use Rattle.hub_core.specs.Paths.{IsDone}
-use Rattle.api_desk.specs.Machine.{act_as}
 use Rattle.journal_text.specs.Kept.{kept_by}
 use Rattle.osm_serve.proofs.KeepLemmas.{kept_at, next, placed}
 use Rattle.osm_serve.proofs.keeper.take.Goals as goal

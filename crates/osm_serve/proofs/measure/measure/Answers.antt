@@ -1,4 +1,4 @@
-use Rattle.std.proofs.Common.{inl, subst, sym, ◌∙◌}
+use Rattle.std.proofs.Common.{refl, inl, inr, subst, sym, ◌∙◌}
 use Rattle.osm_serve.specs.Measure.{AreLines}
 use Rattle.osm_serve.proofs.measure.measure.Goals as goal
 
@@ -9,3 +9,6 @@ returns-in-Ok g c =
       fitting = subst (AreLines c.args.load) (sym (c.as_bytes.ensures.value ∙ c.as_str.ensures)) c.in-Ok.ensures;
       writes = c.tell.ensures;
     })
+
+pub returns-in-Err : goal.returns-in-Err
+returns-in-Err g c = inr (record { unserved = refl; status_is = refl })

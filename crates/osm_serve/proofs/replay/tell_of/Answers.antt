@@ -1,4 +1,4 @@
-use Rattle.std.proofs.Common.{inl, ◌∙◌}
+use Rattle.std.proofs.Common.{refl, inl, inr, ◌∙◌}
 use Rattle.osm_serve.proofs.replay.tell_of.Goals as goal
 
 pub returns-in-Ok : goal.returns-in-Ok
@@ -8,3 +8,6 @@ returns-in-Ok g c =
       fitting = c.as_bytes.ensures.value ∙ c.as_str.ensures ∙ c.in-Ok.ensures;
       writes = c.tell.ensures;
     })
+
+pub returns-in-Err : goal.returns-in-Err
+returns-in-Err g c = inr (record { unserved = refl; status_is = refl })

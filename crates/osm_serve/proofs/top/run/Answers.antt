@@ -1,4 +1,4 @@
-use Rattle.std.proofs.Common.{◌≡◌, inl, refl, subst, sym, map, None, Option, string_bytes}
+use Rattle.std.proofs.Common.{◌≡◌, inl, inr, refl, subst, sym, map, None, Option, string_bytes}
 use Rattle.osm_words.specs.Words.{Reading, reading_of}
 use Rattle.osm_serve.specs.Run.{ComesTo}
 use Rattle.osm_serve.proofs.top.run.Goals as goal
@@ -17,3 +17,6 @@ returns-in-Err-NoReading g c =
     (λ (reading : Option Reading). ComesTo reading (g.H.Host.told c.args.host.now) (g.H.Host.told c.args.host.now)
     (g.L.Outside.told c.args.standard.now) (g.L.Outside.told c.args.standard.now) 1)
     (sym none) (record { host_stays = refl; link_stays = refl; status_is = refl }))
+
+pub returns-in-Err-Memory : goal.returns-in-Err-Memory
+returns-in-Err-Memory g c = inr (record { host_stays = refl; link_stays = refl; status_is = refl })

@@ -1,6 +1,14 @@
 use Rattle.std.proofs.Common.{refl, inl, inr}
 use Rattle.osm_serve.proofs.top.run_pipe.Goals as goal
 
+pub returns-in-Ok : goal.returns-in-Ok
+returns-in-Ok g c =
+    let found = c.in-Ok.ensures.found in
+    record {
+      keeps = c.read_users.ensures.keeps;
+      comes_to = inl (record { text = found.0; told = found.1; users = c.in-Ok.users; table = found.2; serves = c.serve.ensures });
+    }
+
 pub returns-in-Err-Failed : goal.returns-in-Err-Failed
 returns-in-Err-Failed g c =
     let found = rw c.in-Err-Failed.field-0-is at c.in-Err-Failed.ensures.found in
