@@ -1,5 +1,5 @@
 //! Reading a journal's text and telling of its map.
-ghost use Rattle.std.specs.Prelude.{◌≡◌, IfOk};
+ghost use Rattle.std.specs.Prelude.{◌≡◌, IfOk, []};
 ghost use Rattle.osm_serve.specs.Replay.{AreReplayLines, Replays, status_of_input, status_of_text};
 ghost use Rattle.osm_serve.specs.Tell.{Tells};
 
@@ -55,6 +55,17 @@ fn status_of_input(fault: InputFault) -> u8
     }
 }
 
+/// Reads the text with that keeper, and tells of its map.
+fn replay_with<L: Link>(alloc: Global, keeper: &mut BookKeeper, link: &mut L) -> u8
+    requires { keeper.old ≡ [] }
+    ensures { Replays (L.told link.old) (L.told link.new) result }
+{
+    match read_entries(alloc, link, keeper) {
+        Ok(()) => tell_of(alloc, keeper.book(), link),
+        Err(fault) => status_of_input(fault),
+    }
+}
+
 /// Reads the text of a journal from the link, to the input's end or to one byte past the most that a
 /// text may have, and writes the lines that tell of its map. The status is 0 where they were written
 /// whole, 3 for a fault in reading, 4 for one in writing, 5 for want of memory, and 8 where the text
@@ -63,8 +74,5 @@ pub fn replay<L: Link>(alloc: Global, link: &mut L) -> u8
     ensures { Replays (L.told link.old) (L.told link.new) result }
 {
     let mut keeper = BookKeeper::new(alloc);
-    match read_entries(alloc, link, &mut keeper) {
-        Ok(()) => tell_of(alloc, keeper.book(), link),
-        Err(fault) => status_of_input(fault),
-    }
+    replay_with(alloc, &mut keeper, link)
 }

@@ -1,5 +1,4 @@
 use Rattle.std.proofs.Common.{arith, sym, subst}
-use Rattle.api_desk.specs.Desk.{entries_of, users_of}
 use Rattle.osm_model.specs.Journal.{IsLegal}
 use Rattle.osm_serve.proofs.PlayLemmas.{text_at}
 use Rattle.osm_serve.proofs.play.journal_at.Goals as goal

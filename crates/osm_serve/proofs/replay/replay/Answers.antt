@@ -1,9 +1,0 @@
-use Rattle.std.proofs.Common.{inr, []}
-use Rattle.osm_serve.proofs.Replaying.{told}
-use Rattle.osm_serve.proofs.replay.replay.Goals as goal
-
-pub returns-in-Ok : goal.returns-in-Ok
-returns-in-Ok g c = told _ _ _ _ _ _ (rw c.in-Ok.is at c.read_entries.ensures) c.book.ensures c.tell_of.ensures
-
-pub returns : goal.returns
-returns g c = inr (record { journal = []; fault = c.in-Err.fault; read = rw c.in-Err.is at c.read_entries.ensures; status_is = c.status_of_input.ensures })
