@@ -1,8 +1,9 @@
 //! The map as a machine: a world that changes by entries.
 ghost use Rattle.std.specs.Prelude.{◌≡◌, IfOk};
+ghost use Rattle.osm_change.specs.Moments.{HasShownMoments};
 ghost use Rattle.osm_model.specs.Journal.{takes};
 ghost use Rattle.osm_world.specs.World.{state_of};
-ghost use Rattle.api_desk.specs.Machine.{act_as};
+ghost use Rattle.api_desk.specs.Machine.{act_as, bytes_of};
 
 use crate::answers::bytes_of;
 use crate::judging::judge_on;
@@ -129,7 +130,7 @@ impl Machine for MapMachine {
         steps: &mut Steps<L>,
     ) -> Result<Bytes, Memory> {
         let answer = world_ask(alloc, &world.world, moment, query, steps)?;
-        bytes_of(alloc, &answer)
+        bytes_from(alloc, answer)
     }
 
     ghost entry_taken = { accepted_taken };
@@ -137,6 +138,29 @@ impl Machine for MapMachine {
     ghost start_consistent = { empty_kept };
 
     ghost after_consistent = { taken_kept };
+}
+
+/// The bytes of an answer, which is given up here, once.
+fn bytes_from(alloc: Global, answer: Answer<'_>) -> Result<Bytes, Memory>
+    requires { HasShownMoments answer }
+    ensures { IfOk result (λ bytes. bytes ≡ bytes_of answer.entry) }
+{
+    bytes_of(alloc, &answer)
+}
+
+/// The entry of a user's command, as that call, at a stamp.
+fn entry_by(alloc: Global, asked: &Asked, tag: Tag, at: Stamp) -> Result<Entry, Memory>
+    ensures { IfOk result (λ entry. entry ≡ record { session = tag.session; call = tag.call; user = asked.now.user; stamp = at; command = asked.now.command }) }
+{
+    let user = asked.user.copy(alloc)?;
+    let command = asked.command.copy(alloc)?;
+    Ok(Entry {
+        session: tag.session,
+        call: tag.call,
+        user,
+        stamp: at,
+        command,
+    })
 }
 
 /// What a user's command comes to on a world, as that call, at a moment.
@@ -152,17 +176,11 @@ fn settle_on(
     let at = Stamp::after(world.last_stamp(), moment);
     match judge_on(alloc, world, &asked.user, at, &asked.command) {
         Ok(answer) => Ok(Settled {
-            answer: bytes_of(alloc, &answer)?,
-            entry: Some(Entry {
-                session: tag.session,
-                call: tag.call,
-                user: asked.user.copy(alloc)?,
-                stamp: at,
-                command: asked.command.copy(alloc)?,
-            }),
+            answer: bytes_from(alloc, answer)?,
+            entry: Some(entry_by(alloc, asked, tag, at)?),
         }),
         Err(Fault::Refused(refusal)) => Ok(Settled {
-            answer: bytes_of(alloc, &Answer::Refused(refusal))?,
+            answer: bytes_from(alloc, Answer::Refused(refusal))?,
             entry: None,
         }),
         Err(Fault::Memory) => Err(Memory),
