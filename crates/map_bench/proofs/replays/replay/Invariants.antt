@@ -1,6 +1,6 @@
 use Rattle.std.proofs.Common.{◌≡◌, true, drop}
 use Rattle.machine_law.specs.Rules.{is_legal_from}
-use Rattle.map_bench.proofs.replays.apply_each.Given as goal
+use Rattle.map_bench.proofs.replays.replay.Given as goal
 
 -- those that are left may come next, in order
 abbrev pub invariant-loop-entry : goal.invariant-loop-entry
