@@ -1,14 +1,18 @@
-ghost use Rattle.std.specs.Prelude.{◌≡◌, ℕ, ◌+◌, ◌≤◌, [], ◌∷◌, ◌++◌, nat_lt, length, count_by, Ok, Err, IfOk, OnOk, IfErr, MatchResult};
+ghost use Rattle.std.specs.Prelude.{◌≡◌, ℕ, ◌+◌, ◌<◌, ◌≤◌, ◌^◌, List, [], ◌∷◌, ◌++◌, nat_lt, length, count_by, Ok, Err, IfOk, OnOk, IfErr, MatchResult};
 ghost use Rattle.osm_base.specs.Outcome.{refuse_if};
 ghost use Rattle.osm_base.specs.Stamp.{stamp_after};
 ghost use Rattle.osm_change.specs.Done.{is_applied};
 ghost use Rattle.osm_change.specs.Moments.{RefusalHasShownEnd};
+ghost use Rattle.osm_change.specs.declared.operations.Op.{Op};
 ghost use Rattle.osm_change.specs.declared.refusals.Refusal.TheVariants.{Full};
 ghost use Rattle.changeset_core.specs.Changeset.{limit_of};
+ghost use Rattle.diff_result.specs.Counted.{HasNumbers};
 ghost use Rattle.osm_model.specs.Fold.{start, task};
 ghost use Rattle.osm_model.specs.State.{own_changeset};
+ghost use Rattle.osm_world.specs.Beds.{first_ids};
 ghost use Rattle.osm_world.specs.World.{state_of};
 ghost use Rattle.upload_check.specs.Asked.{IsOutcome, judged_count, judged_from, AreJudged, AreNumbered, IsSettled, Takes, OnRefused};
+ghost use Rattle.upload_check.specs.Overlay.{sight, StandsFor};
 
 use crate::judged::{Judged, check_op};
 use crate::overlays::Overlay;
@@ -163,7 +167,37 @@ fn add_row(rows: &mut Vec<OpDone>, done: OpDone) -> Result<(), Memory>
     Ok(())
 }
 
-/// Judges the operations in order, up to the first that is refused.
+/// Judges the operations in order, up to the first that is refused, from an overlay that stands for
+/// the world.
+fn judge_each<L: Ledger>(
+    alloc: Global,
+    world: &World,
+    over: &mut Overlay,
+    change: &Change,
+    steps: &mut Steps<L>,
+) -> Result<Passed, Fault>
+    requires start { (ops : List Op) → StandsFor (sight (state_of world.now).elements ops over.old) (start (state_of world.now).elements) }
+    requires keys { over.old.keys ≡ [] }
+    requires next { over.old.next ≡ first_ids (state_of world.now).elements }
+    requires few { (n : ℕ) → n < 2 ^ 32 → HasNumbers over.old.next n }
+    ensures judged { (c t : ℕ) → AreJudged (state_of world.now).elements c t change.now result }
+    ensures numbered { AreNumbered (length change.now) (state_of world.now).elements result }
+    ensures shown { OnRefused result RefusalHasShownEnd }
+    ensures steps { (c t : ℕ) → Takes steps.old (judged_from (task (state_of world.now).elements c t change.now) (Ok (start (state_of world.now).elements)) change.now) steps.new result }
+    ensures bound { steps.new ≤ steps.old + length change.now }
+{
+    let first = over.next();
+    let mut rows = rows_for(alloc, change.operations().len())?;
+    for place in 0..change.len() {
+        match check_op(alloc, world, over, change, place, steps)? {
+            Judged::Done(done) => add_row(&mut rows, done)?,
+            Judged::Refused(refusal) => return Err(Fault::Refused(refusal)),
+        }
+    }
+    Ok(Passed { first, rows })
+}
+
+/// The same from an overlay of its own, which is given up once.
 fn judge_operations<L: Ledger>(
     alloc: Global,
     world: &World,
@@ -176,15 +210,6 @@ fn judge_operations<L: Ledger>(
     ensures steps { (c t : ℕ) → Takes steps.old (judged_from (task (state_of world.now).elements c t change.now) (Ok (start (state_of world.now).elements)) change.now) steps.new result }
     ensures bound { steps.new ≤ steps.old + length change.now }
 {
-    let operations = change.operations().len();
-    let mut over = Overlay::new(alloc, world, operations)?;
-    let first = over.next();
-    let mut rows = rows_for(alloc, operations)?;
-    for place in 0..change.len() {
-        match check_op(alloc, world, &mut over, change, place, steps)? {
-            Judged::Done(done) => add_row(&mut rows, done)?,
-            Judged::Refused(refusal) => return Err(Fault::Refused(refusal)),
-        }
-    }
-    Ok(Passed { first, rows })
+    let mut over = Overlay::new(alloc, world, change.operations().len())?;
+    judge_each(alloc, world, &mut over, change, steps)
 }

@@ -9,17 +9,17 @@ use Rattle.osm_world.specs.World.{state_of}
 use Rattle.upload_check.specs.Judged.{IsJudged, Leaves}
 use Rattle.upload_check.specs.declared.judged.Judged.{Judged}
 use Rattle.upload_check.proofs.Running.{begins, next-run, next-keys, stops-at, shown-at, ends-at}
-use Rattle.upload_check.proofs.uploads.judge_operations.Goals as goal
+use Rattle.upload_check.proofs.uploads.judge_each.Goals as goal
 
 pub loop-place-init : goal.loop-place-init
 loop-place-init g c =
-    let o = c.in_ok-over.over in
+    let o = c.args.over.now in
     record {
-      run = λ a t. begins (state_of c.args.world.now).elements a t c.args.change.now o c.in_ok-rows.rows.items (c.in_ok-over.ensures.start c.args.change.now) c.in_ok-rows.ensures;
-      counted = ap (λ (ks : List Key). length ks) c.in_ok-over.ensures.keys;
+      run = λ a t. begins (state_of c.args.world.now).elements a t c.args.change.now o c.in_ok-rows.rows.items (c.requires.start c.args.change.now) c.in_ok-rows.ensures;
+      counted = ap (λ (ks : List Key). length ks) c.requires.keys;
       told = ap length c.in_ok-rows.ensures;
       keys =
-          ap (λ (ks : List Key). keys_after ks o.next c.args.change.now) c.in_ok-over.ensures.keys
+          ap (λ (ks : List Key). keys_after ks o.next c.args.change.now) c.requires.keys
           ∙ ap (λ (ids : FirstIds). keys_of ids c.args.change.now) (sym c.next-first.ensures);
       steps = omega arith;
     }
@@ -85,8 +85,8 @@ returns-clause-steps g c = λ a t.
 pub returns-clause-numbered : goal.returns-clause-numbered
 returns-clause-numbered g c = (
   omega (arith, c.loop-place.invariant.told, c.loop-place.auto.place-end, c.loop-place-test.false, c.len-place-end.ensures),
-  c.next-first.ensures ∙ c.in_ok-over.ensures.next,
-  subst (λ (ids : FirstIds). HasNumbers ids (length c.args.change.now)) (sym c.next-first.ensures) (c.in_ok-over.ensures.few (length c.args.change.now) c.operations-operations.ensures.well_formed.few),
+  c.next-first.ensures ∙ c.requires.next,
+  subst (λ (ids : FirstIds). HasNumbers ids (length c.args.change.now)) (sym c.next-first.ensures) (c.requires.few (length c.args.change.now) c.operations.ensures.well_formed.few),
 )
 
 pub returns-clause-bound : goal.returns-clause-bound

@@ -2,7 +2,7 @@ use Rattle.std.proofs.Common.{◌≡◌, ℕ, ◌+◌, length, drop}
 use Rattle.osm_change.specs.Keys.{keys_after, keys_of}
 use Rattle.osm_world.specs.World.{state_of}
 use Rattle.upload_check.proofs.Running.{IsSoFar}
-use Rattle.upload_check.proofs.uploads.judge_operations.Given as goal
+use Rattle.upload_check.proofs.uploads.judge_each.Given as goal
 
 abbrev pub invariant-loop-place : goal.invariant-loop-place
 invariant-loop-place g l = record {
