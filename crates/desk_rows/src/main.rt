@@ -15,7 +15,7 @@ mod steps;
 use faults::Fault;
 use plain::PlainDesk;
 use plays::Play;
-use rows::play_row;
+use rows::{Row, play_row};
 use std::alloc::Global;
 use std::io;
 use std::process::ExitCode;
@@ -33,18 +33,11 @@ fn play_next<'u, R: Print>(
     users: &'u UserTable,
     play: &mut Play,
     above: &PlainDesk<'_>,
-    row: &str,
+    text: &str,
 ) -> Result<PlainDesk<'u>, Fault> {
     let mut plain = PlainDesk::new(alloc, users)?;
-    play_row(
-        rt,
-        alloc,
-        users,
-        &mut plain,
-        play,
-        above.journal().entries(),
-        row,
-    )?;
+    let row = Row::of(text, above.journal().entries());
+    play_row(rt, alloc, users, &mut plain, play, &row)?;
     Ok(plain)
 }
 

@@ -19,6 +19,22 @@ use workload::requests;
 /// The seed of a load.
 const SEED: u64 = 1;
 
+/// The text of a row, and the journal of the row above.
+#[derive(Clone, Copy)]
+pub struct Row<'r> {
+    name: &'r str,
+    lines: &'r str,
+    above: &'r [Entry],
+}
+
+impl<'r> Row<'r> {
+    /// The row of a text: its name, and then its lines.
+    pub fn of(text: &'r str, above: &'r [Entry]) -> Row<'r> {
+        let (name, lines) = text.split_once('\n').unwrap_or((text, ""));
+        Row { name, lines, above }
+    }
+}
+
 /// Sends a request to both desks. Where it makes an entry, both maps are compared.
 fn send<R: Print>(
     rt: &R,
@@ -113,25 +129,24 @@ fn play_line<R: Print>(
     Ok(())
 }
 
-/// Plays lines, and compares the journals at their end.
+/// Plays the lines of a row, and compares the journals at their end.
 fn play_lines<R: Print>(
     rt: &R,
     alloc: Global,
     fast: &mut OneDesk<'_>,
     plain: &mut PlainDesk<'_>,
     play: &mut Play,
-    above: &[Entry],
-    lines: &str,
+    row: &Row<'_>,
 ) -> Result<(), Fault> {
-    for line in lines.lines() {
-        play_line(rt, alloc, fast, plain, play, above, line)?;
+    for line in row.lines.lines() {
+        play_line(rt, alloc, fast, plain, play, row.above, line)?;
     }
     let part = journals_differ(alloc, fast, plain)?;
     play.note(rt, part)?;
     Ok(())
 }
 
-/// Plays lines on the plain desk and on one over a book.
+/// Plays a row on the plain desk and on one over a book.
 fn play_over<R: Print>(
     rt: &R,
     alloc: Global,
@@ -139,27 +154,24 @@ fn play_over<R: Print>(
     book: &mut Book<MapMachine>,
     plain: &mut PlainDesk<'_>,
     play: &mut Play,
-    above: &[Entry],
-    lines: &str,
+    row: &Row<'_>,
 ) -> Result<(), Fault> {
     let mut fast = OneDesk::new(alloc, book, users, 0)?;
-    play_lines(rt, alloc, &mut fast, plain, play, above, lines)
+    play_lines(rt, alloc, &mut fast, plain, play, row)
 }
 
-/// Plays a row on empty maps, and tells how much was played. `above` is the journal of the row above.
+/// Plays a row on a plain desk without entries and on an empty map, and tells how much was played.
 pub fn play_row<R: Print>(
     rt: &R,
     alloc: Global,
     users: &UserTable,
     plain: &mut PlainDesk<'_>,
     play: &mut Play,
-    above: &[Entry],
-    row: &str,
+    row: &Row<'_>,
 ) -> Result<(), Fault> {
-    let (name, lines) = row.split_once('\n').unwrap_or((row, ""));
     play.begin();
     let mut book = Book::<MapMachine>::new(alloc);
-    play_over(rt, alloc, users, &mut book, plain, play, above, lines)?;
-    play.tell(rt, name)?;
+    play_over(rt, alloc, users, &mut book, plain, play, row)?;
+    play.tell(rt, row.name)?;
     Ok(())
 }
