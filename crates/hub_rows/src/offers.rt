@@ -2,18 +2,19 @@
 ghost use Rattle.std.specs.Prelude.{◌≡◌, ◌<◌};
 
 use crate::rising::Rising;
+use crate::tally::Tally;
 use hub_core::{Book, ListOutlet, Outlet};
 use machine_law::{Machine, Tag};
 use osm_base::{Memory, Steps};
 use std::alloc::Global;
+use std::io;
 use std::marker::Brand;
 use std::sync::ledger::{Blank, Ledger};
-use std::test::Fail;
 
 type Entry = (Tag, u64);
 
 /// A number that a session commits, and how many entries there must be before and after it.
-#[derive(Clone, Copy, Debug)]
+#[derive(Clone, Copy)]
 struct Row {
     session: u32,
     number: u64,
@@ -21,48 +22,80 @@ struct Row {
     after: usize,
 }
 
-fn make_row(session: u32, number: u64, before: usize, after: usize) -> Row {
-    Row {
-        session,
-        number,
-        before,
-        after,
-    }
-}
-
 /// The third number is less than the one before it. The machine refuses it, so it isn't offered.
-fn rows() -> [Row; 5] {
-    [
-        make_row(0, 5, 0, 1),
-        make_row(1, 7, 1, 2),
-        make_row(0, 3, 2, 2),
-        make_row(1, 7, 2, 3),
-        make_row(0, 20, 3, 4),
-    ]
-}
+const ROWS: [Row; 5] = [
+    Row {
+        session: 0,
+        number: 5,
+        before: 0,
+        after: 1,
+    },
+    Row {
+        session: 1,
+        number: 7,
+        before: 1,
+        after: 2,
+    },
+    Row {
+        session: 0,
+        number: 3,
+        before: 2,
+        after: 2,
+    },
+    Row {
+        session: 1,
+        number: 7,
+        before: 2,
+        after: 3,
+    },
+    Row {
+        session: 0,
+        number: 20,
+        before: 3,
+        after: 4,
+    },
+];
 
 const NUMBERS: [u64; 4] = [5, 7, 7, 20];
 
-fn make_entry(session: u32, call: u64, number: u64) -> Entry {
-    (Tag { session, call }, number)
-}
-
 /// What must be accepted of the rows.
-fn entries() -> [Entry; 4] {
-    [
-        make_entry(0, 1, 5),
-        make_entry(1, 1, 7),
-        make_entry(1, 2, 7),
-        make_entry(0, 2, 20),
-    ]
-}
+const ENTRIES: [Entry; 4] = [
+    (
+        Tag {
+            session: 0,
+            call: 1,
+        },
+        5,
+    ),
+    (
+        Tag {
+            session: 1,
+            call: 1,
+        },
+        7,
+    ),
+    (
+        Tag {
+            session: 1,
+            call: 2,
+        },
+        7,
+    ),
+    (
+        Tag {
+            session: 0,
+            call: 2,
+        },
+        20,
+    ),
+];
 
 /// The row at which each offer is made, where none before it was refused.
 const ROW_OF_OFFER: [usize; 4] = [0, 1, 3, 4];
 
 /// The row whose commit found no memory, and whether book and outlet were right all the time.
-#[derive(Clone, Copy, Debug, PartialEq, Eq)]
-struct Tally {
+#[derive(Clone, Copy)]
+struct Course {
     lacking: Option<usize>,
     right: bool,
 }
@@ -87,20 +120,18 @@ fn commit<L: Ledger>(
 }
 
 fn calls_in(count: usize, session: u32) -> u64 {
-    let entries = entries();
-    let first = entries.iter().take(count);
+    let first = ENTRIES.iter().take(count);
     first.filter(|entry| entry.0.session == session).count() as u64
 }
 
 /// Whether journal, world, counts and outlet are those after so many entries.
 fn is_after(count: usize, book: &Book<Rising>, outlet: &ListOutlet<Entry>) -> bool {
     let (journal, held, world) = (book.journal(), outlet.held(), book.world());
-    let entries = entries();
     journal.len() == count
         && held.len() == count
         && world.len() == count
-        && entries.starts_with(journal)
-        && entries.starts_with(held)
+        && ENTRIES.starts_with(journal)
+        && ENTRIES.starts_with(held)
         && NUMBERS.starts_with(world.as_slice())
         && book.calls(0) == calls_in(count, 0)
         && book.calls(1) == calls_in(count, 1)
@@ -113,24 +144,24 @@ fn play_row<L: Ledger>(
     place: usize,
     row: Row,
     outlet: &mut ListOutlet<Entry>,
-    tally: &mut Tally,
+    course: &mut Course,
     steps: &mut Steps<L>,
 ) -> Result<(), Memory> {
     let entry = match commit(alloc, book, row, outlet, steps) {
         Ok(entry) => entry,
         Err(Memory) => {
-            tally.lacking = Some(place);
-            tally.right &= is_after(row.before, book, outlet);
+            course.lacking = Some(place);
+            course.right &= is_after(row.before, book, outlet);
             commit(alloc, book, row, outlet, steps)?
         }
     };
-    tally.right &= entry == (row.before < row.after).then_some(row.before as u64);
-    tally.right &= is_after(row.after, book, outlet);
+    course.right &= entry == (row.before < row.after).then_some(row.before as u64);
+    course.right &= is_after(row.after, book, outlet);
     Ok(())
 }
 
 /// Plays all rows on a new book, where the offers with those numbers are refused.
-fn play<L: Ledger>(alloc: Global, blank: Blank, bad: Vec<u64>) -> Result<Tally, Memory>
+fn play<L: Ledger>(alloc: Global, blank: Blank, bad: Vec<u64>) -> Result<Course, Memory>
     requires name { blank.name ≡ L.name }
     requires parts { blank.parts ≡ L.parts }
     requires some { 0 < blank.parts }
@@ -139,59 +170,65 @@ fn play<L: Ledger>(alloc: Global, blank: Blank, bad: Vec<u64>) -> Result<Tally, 
     let mut steps = Steps::of(ledger, share);
     let mut book = Book::<Rising>::new(alloc);
     let mut outlet = ListOutlet::new(alloc, bad);
-    let mut tally = Tally {
+    let mut course = Course {
         lacking: None,
         right: true,
     };
-    for (place, row) in rows().iter().enumerate() {
+    for (place, row) in ROWS.iter().enumerate() {
         play_row(
             alloc,
             &mut book,
             place,
             *row,
             &mut outlet,
-            &mut tally,
+            &mut course,
             &mut steps,
         )?;
     }
-    Ok(tally)
+    Ok(course)
 }
 
-#[test]
-fn no_offer_is_refused(rt: HostRuntime) -> Result<(), Fail> {
-    let tally = play::<Brand>(rt.alloc(), Blank::new(1), Vec::new(rt.alloc()))?;
-    let wanted = Tally {
-        lacking: None,
-        right: true,
-    };
-    assert_eq!(rt; tally, wanted);
-    Ok(())
+/// Plays all rows, where the offers with those numbers are refused: whether all went right, and the
+/// row at this place alone found no memory.
+fn lacks(alloc: Global, bad: Vec<u64>, place: Option<usize>) -> Result<bool, Memory> {
+    let course = play::<Brand>(alloc, Blank::new(1), bad)?;
+    Ok(course.right && course.lacking == place)
 }
 
-#[test]
-fn each_offer_is_refused_in_turn(rt: HostRuntime) -> Result<(), Fail> {
+fn each_offer_is_refused_in_turn(alloc: Global) -> Result<bool, Memory> {
+    let mut is_right = true;
     for (offer, place) in ROW_OF_OFFER.iter().enumerate() {
-        let bad = vec![in rt.alloc(); offer as u64]?;
-        let tally = play::<Brand>(rt.alloc(), Blank::new(1), bad)?;
-        let wanted = Tally {
-            lacking: Some(*place),
-            right: true,
-        };
-        assert_eq!(rt; tally, wanted);
+        let bad = vec![in alloc; offer as u64]?;
+        is_right &= lacks(alloc, bad, Some(*place))?;
     }
-    Ok(())
+    Ok(is_right)
 }
 
-#[test]
-fn a_cleared_outlet_counts_on(rt: HostRuntime) -> Result<(), Fail> {
-    let bad = vec![in rt.alloc(); 1, 2]?;
-    let mut outlet = ListOutlet::new(rt.alloc(), bad);
-    let offers = [true, false, false, true];
-    for (number, taken) in offers.iter().enumerate() {
-        assert_eq!(rt; outlet.offer(number).is_ok(), *taken);
+fn a_cleared_outlet_counts_on(alloc: Global) -> Result<bool, Memory> {
+    let mut outlet = ListOutlet::new(alloc, vec![in alloc; 1, 2]?);
+    let mut is_right = true;
+    for (number, taken) in [true, false, false, true].iter().enumerate() {
+        is_right &= outlet.offer(number).is_ok() == *taken;
     }
-    assert_eq!(rt; outlet.held(), [0usize, 3].as_slice());
+    is_right &= outlet.held() == [0usize, 3].as_slice();
     outlet.clear();
-    assert_eq!(rt; outlet.held().len(), 0);
-    Ok(())
+    Ok(is_right && outlet.held().is_empty())
+}
+
+pub fn play_all<R: Print>(rt: &R, alloc: Global, tally: &mut Tally) -> io::Result<()> {
+    tally.note(
+        rt,
+        "no offer is refused",
+        lacks(alloc, Vec::new(alloc), None),
+    )?;
+    tally.note(
+        rt,
+        "each offer is refused in turn",
+        each_offer_is_refused_in_turn(alloc),
+    )?;
+    tally.note(
+        rt,
+        "a cleared outlet counts on",
+        a_cleared_outlet_counts_on(alloc),
+    )
 }

@@ -1,0 +1,34 @@
+//! What links and hosts in memory give and take.
+use crate::memory_link;
+use crate::tally::Tally;
+use osm_base::{Bytes, Memory};
+use osm_outside::{Host, HostFault, MemHost, Sink, Source};
+use std::alloc::Global;
+use std::io;
+
+fn a_link_gives_and_takes(alloc: Global) -> Result<bool, Memory> {
+    let mut link = memory_link(alloc, b"abc", Vec::new(alloc), 100)?;
+    let mut place = [0; 2];
+    let given = link.read(&mut place);
+    let taken = link.write(b"de");
+    Ok(
+        given == Ok(2)
+            && taken == Ok(2)
+            && link.left() == b"c".as_slice()
+            && link.written() == b"de".as_slice(),
+    )
+}
+
+fn a_host_gives_its_text(alloc: Global) -> Result<bool, Memory> {
+    let mut host = MemHost::new(Bytes::of(alloc, b"abc")?, Vec::new(alloc));
+    match host.users(alloc, "users.txt") {
+        Ok(text) => Ok(text.as_slice() == b"abc".as_slice()),
+        Err(HostFault::Memory) => Err(Memory),
+        Err(HostFault::Failed) => Ok(false),
+    }
+}
+
+pub fn play<R: Print>(rt: &R, alloc: Global, tally: &mut Tally) -> io::Result<()> {
+    tally.note(rt, "a link gives and takes", a_link_gives_and_takes(alloc))?;
+    tally.note(rt, "a host gives its text", a_host_gives_its_text(alloc))
+}

@@ -1,0 +1,30 @@
+//! Calls at values that were worked out by hand: of tables, changes, loads and answers. What each
+//! must give stands beside it; docs/ROWS.md tells more.
+#![tactic(auto)]
+
+mod answers;
+mod changes;
+mod loads;
+mod tables;
+mod tally;
+mod values;
+
+use std::io;
+use std::process::ExitCode;
+use tally::Tally;
+
+fn main(rt: HostRuntime) -> io::Result<ExitCode> {
+    let alloc = rt.alloc();
+    let mut tally = Tally::none();
+    tables::play(&rt, alloc, &mut tally)?;
+    values::play(&rt, alloc, &mut tally)?;
+    changes::play(&rt, alloc, &mut tally)?;
+    loads::play(&rt, alloc, &mut tally)?;
+    answers::play(&rt, alloc, &mut tally)?;
+    tally.tell(&rt)?;
+    if tally.is_right() {
+        Ok(ExitCode::SUCCESS)
+    } else {
+        Ok(ExitCode::FAILURE)
+    }
+}

@@ -1,0 +1,43 @@
+//! A changeset, under promised room.
+use changeset_core::Changeset;
+use osm_base::{Coord, Key, Kind, Memory, Owner, Stamp, Text};
+use osm_element::Tags;
+use std::alloc::Global;
+
+const NODE: Key = Key {
+    kind: Kind::Node,
+    id: 1,
+};
+
+fn of_alice(alloc: Global) -> Result<Changeset, Memory> {
+    let owner = Owner {
+        id: 1,
+        name: Text::of(alloc, "alice")?,
+    };
+    let tags = Tags::none(alloc);
+    Ok(Changeset::new(alloc, 1, owner, tags, Stamp(1_700_000_000)))
+}
+
+/// Whether a changeset that is widened to a position touches it alone.
+fn touches(changeset: &mut Changeset, lat7: i32, lon7: i32) -> bool {
+    let Some(at) = Coord::new(lat7, lon7) else {
+        return false;
+    };
+    changeset.widen(at);
+    match changeset.touched() {
+        Some(area) => area.edges() == (lon7, lat7, lon7, lat7),
+        None => false,
+    }
+}
+
+pub fn a_changeset_counts_what_it_did(alloc: Global) -> Result<bool, Memory> {
+    let mut changeset = of_alice(alloc)?;
+    changeset.room(1)?;
+    changeset.worked(NODE, 1);
+    Ok(
+        changeset.count() == 1
+            && changeset.open_at(Stamp(1_700_003_599))
+            && !changeset.open_at(Stamp(1_700_003_600))
+            && touches(&mut changeset, 5, 6),
+    )
+}

@@ -1,0 +1,73 @@
+//! Users texts and Authorization fields.
+use crate::tally::Tally;
+use osm_base::Memory;
+use std::alloc::Global;
+use std::io;
+use user_table::{UserTable, UsersFault, Who};
+
+/// What a field says of who sends a request.
+const HEADERS: [(&str, Option<&[u8]>, Who); 5] = [
+    ("no header is anonymous", None, Who::Anonymous),
+    (
+        "the word may be in any case",
+        Some(b"bearer  bobtoken"),
+        Who::Known(1),
+    ),
+    ("another scheme is unknown", Some(b"Basic x"), Who::Unknown),
+    (
+        "a tab before the token is cut",
+        Some(b"Bearer \talicetoken"),
+        Who::Known(0),
+    ),
+    (
+        "a tab is no space after the word",
+        Some(b"Bearer\talicetoken"),
+        Who::Unknown,
+    ),
+];
+
+fn sends(alloc: Global, header: Option<&[u8]>, who: Who) -> Result<bool, Memory> {
+    let text = b"1 alicetoken user alice\n2 bobtoken moderator bob\n";
+    match UserTable::read(alloc, text) {
+        Ok(table) => Ok(table.who(header) == who),
+        Err(UsersFault::Memory) => Err(Memory),
+        Err(_) => Ok(false),
+    }
+}
+
+fn is_bob_second(table: &UserTable) -> bool {
+    let who = table.who(Some(b"Bearer bobtoken"));
+    match who {
+        Who::Known(place) => {
+            let bob = table.user(place);
+            who == Who::Known(1) && bob.id == 2 && bob.name.as_str() == "bob" && bob.moderator
+        }
+        _ => false,
+    }
+}
+
+fn the_second_user_is_bob(alloc: Global) -> Result<bool, Memory> {
+    let text = b"# the team\r\n1 alicetoken user alice\r\n\n2 bobtoken moderator bob";
+    match UserTable::read(alloc, text) {
+        Ok(table) => Ok(is_bob_second(&table)),
+        Err(UsersFault::Memory) => Err(Memory),
+        Err(_) => Ok(false),
+    }
+}
+
+fn a_line_twice_is_a_double_id(alloc: Global) -> bool {
+    let fault = UserTable::read(alloc, b"1 a user x\n1 a user x\n").err();
+    fault == Some(UsersFault::DoubleId { line: 2 })
+}
+
+pub fn play<R: Print>(rt: &R, alloc: Global, tally: &mut Tally) -> io::Result<()> {
+    for (name, header, who) in HEADERS {
+        tally.note(rt, name, sends(alloc, header, who))?;
+    }
+    tally.note(rt, "the second user is bob", the_second_user_is_bob(alloc))?;
+    tally.note(
+        rt,
+        "a line twice is a double id",
+        Ok(a_line_twice_is_a_double_id(alloc)),
+    )
+}
