@@ -5,11 +5,10 @@
 mod offers;
 mod rising;
 mod sessions;
-mod tally;
 
+use row_tally::Tally;
 use std::io;
 use std::process::ExitCode;
-use tally::Tally;
 
 fn main(rt: HostRuntime) -> io::Result<ExitCode> {
     let alloc = rt.alloc();

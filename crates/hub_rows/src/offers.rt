@@ -2,10 +2,10 @@
 ghost use Rattle.std.specs.Prelude.{◌≡◌, ◌<◌};
 
 use crate::rising::Rising;
-use crate::tally::Tally;
 use hub_core::{Book, ListOutlet, Outlet};
 use machine_law::{Machine, Tag};
 use osm_base::{Memory, Steps};
+use row_tally::Tally;
 use std::alloc::Global;
 use std::io;
 use std::marker::Brand;

@@ -1,10 +1,10 @@
 //! Links that end by a close, or at the last request that is answered, and what is left of their input then.
 use crate::desks::LengthDesk;
 use crate::memory_link;
-use crate::tally::Tally;
 use http_link::{LinkEnd, serve_desk};
 use osm_base::Memory;
 use osm_outside::MemLink;
+use row_tally::Tally;
 use std::alloc::Global;
 use std::io;
 

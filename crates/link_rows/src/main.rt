@@ -8,16 +8,15 @@ mod ends;
 mod held;
 mod outside;
 mod stream;
-mod tally;
 mod whole;
 mod wire;
 
 use osm_base::{Bytes, Memory};
 use osm_outside::MemLink;
+use row_tally::Tally;
 use std::alloc::Global;
 use std::io;
 use std::process::ExitCode;
-use tally::Tally;
 
 /// A link with this input, which comes in pieces of at most these sizes at first, and with room for
 /// so many bytes of replies.

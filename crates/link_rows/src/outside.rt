@@ -1,8 +1,8 @@
 //! What links and hosts in memory give and take.
 use crate::memory_link;
-use crate::tally::Tally;
 use osm_base::{Bytes, Memory};
 use osm_outside::{Host, HostFault, MemHost, Sink, Source};
+use row_tally::Tally;
 use std::alloc::Global;
 use std::io;
 

@@ -2,10 +2,10 @@
 ghost use Rattle.std.specs.Prelude.{◌≡◌, ◌∷◌, ◌++◌, [], IfOk};
 ghost use Rattle.osm_outside.specs.Event.{Gave, Took};
 
-use crate::tally::Tally;
 use osm_base::Memory;
 use osm_outside::{Clock, Outside, Sink, Source};
 use osm_real::StreamLink;
+use row_tally::Tally;
 use std::alloc::Global;
 use std::io;
 

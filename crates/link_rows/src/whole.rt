@@ -1,11 +1,11 @@
 //! Links in memory, served to their ends.
 use crate::desks::LengthDesk;
 use crate::memory_link;
-use crate::tally::Tally;
 use http_link::{LinkEnd, serve_desk};
 use http_wire::WireEnd;
 use osm_base::Memory;
 use osm_outside::MemLink;
+use row_tally::Tally;
 use std::alloc::Global;
 use std::io;
 

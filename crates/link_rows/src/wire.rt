@@ -1,9 +1,9 @@
 //! Single messages and replies.
 use crate::memory_link;
-use crate::tally::Tally;
 use http_wire::{Message, Wire, WireEnd, write_reply};
 use osm_base::Memory;
 use osm_outside::MemLink;
+use row_tally::Tally;
 use std::alloc::Global;
 use std::io;
 

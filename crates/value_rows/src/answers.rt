@@ -3,8 +3,8 @@ mod elements;
 mod refusals;
 mod results;
 
-use crate::tally::Tally;
 use osm_base::{Memory, Owner, Text};
+use row_tally::Tally;
 use std::alloc::Global;
 use std::io;
 

@@ -2,11 +2,11 @@
 ghost use Rattle.std.specs.Prelude.{IfOk, IfSome};
 ghost use Rattle.osm_change.specs.Build.{HasContent, IsRawOp, IsRaw};
 
-use crate::tally::Tally;
 use diff_result::rows;
 use osm_base::{Items, Kind, Memory, Text, TryCopy};
 use osm_change::{Action, Cause, Change, FirstIds, OneOp, OpDone, OpDones, RawOp};
 use osm_element::{RawContent, Tags};
+use row_tally::Tally;
 use std::alloc::Global;
 use std::io;
 

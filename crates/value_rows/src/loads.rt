@@ -1,8 +1,8 @@
 //! A generated load, and what is told of it.
-use crate::tally::Tally;
 use history_store::Store;
 use load_summary::{Figures, Run, figures_of, replay_summary, summary};
 use osm_base::{Coord, Memory};
+use row_tally::Tally;
 use std::alloc::Global;
 use std::io;
 use user_table::{UserTable, UsersFault, Who};

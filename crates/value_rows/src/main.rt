@@ -6,12 +6,11 @@ mod answers;
 mod changes;
 mod loads;
 mod tables;
-mod tally;
 mod values;
 
+use row_tally::Tally;
 use std::io;
 use std::process::ExitCode;
-use tally::Tally;
 
 fn main(rt: HostRuntime) -> io::Result<ExitCode> {
     let alloc = rt.alloc();

@@ -7,7 +7,7 @@ mod references;
 mod tiles;
 mod tokens;
 
-use crate::tally::Tally;
+use row_tally::Tally;
 use std::alloc::Global;
 use std::io;
 

@@ -1,7 +1,7 @@
 //! Values that changes are made of: positions, boxes, stamps and tags.
-use crate::tally::Tally;
 use osm_base::{Box7, Coord, Memory, Stamp, Text};
 use osm_element::Tags;
+use row_tally::Tally;
 use std::alloc::Global;
 use std::io;
 

@@ -3,10 +3,10 @@ ghost use Rattle.osm_change.specs.Moments.{IsShownMoment, HasShownStamp};
 
 use super::alice;
 use super::results::shows;
-use crate::tally::Tally;
 use osm_base::{Box7, Coord, Items, Key, Kind, Memory, Owner, Stamp, Text};
 use osm_change::{Answer, ElementRow};
 use osm_element::{Content, Member, Tags, Version};
+use row_tally::Tally;
 use std::alloc::Global;
 use std::io;
 

@@ -1,11 +1,11 @@
 //! The status and the body of each refusal.
 ghost use Rattle.osm_change.specs.Moments.{RefusalHasShownEnd};
 
-use crate::tally::Tally;
 use osm_base::{Kind, Memory, Stamp, Text};
 use osm_change::{Answer, Refusal, Said};
 use osm_element::LocalFault;
 use osm_json::{answer_body, answer_status};
+use row_tally::Tally;
 use std::alloc::Global;
 use std::io;
 

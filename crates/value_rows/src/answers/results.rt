@@ -4,11 +4,11 @@ ghost use Rattle.std.specs.Option.{ForSome};
 ghost use Rattle.osm_change.specs.Moments.{IsShownMoment, HasShownLife, HasShownMoments};
 
 use super::alice;
-use crate::tally::Tally;
 use osm_base::{Box7, Coord, Items, Kind, Memory, Stamp};
 use osm_change::{Answer, ChangesetRow, DiffRow};
 use osm_element::Tags;
 use osm_json::{answer_body, answer_status, stamp_text};
+use row_tally::Tally;
 use std::alloc::Global;
 use std::io;
 

@@ -1,6 +1,6 @@
 //! Lists, and lists with promised room.
-use crate::tally::Tally;
 use osm_base::{Ids, Items, Key, Kind, Memory, Roomy, TryCopy};
+use row_tally::Tally;
 use std::alloc::Global;
 use std::io;
 

@@ -45,7 +45,9 @@ pub fn users_are_in_the_order_of_keys(alloc: Global) -> Result<bool, Memory> {
         return Ok(false);
     }
     index.take_out(by_way);
-    Ok(are_both
-        && index.users(node(5)) == [relation(1)].as_slice()
-        && index.users(way(5)).is_empty())
+    Ok(
+        are_both
+            && index.users(node(5)) == [relation(1)].as_slice()
+            && index.users(way(5)).is_empty(),
+    )
 }

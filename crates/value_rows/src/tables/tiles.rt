@@ -1,6 +1,6 @@
 //! Nodes by cell, under promised room.
-use crate::tally::Tally;
 use osm_base::{Box7, Coord, Memory};
+use row_tally::Tally;
 use std::alloc::Global;
 use std::io;
 use tile_grid::Grid;

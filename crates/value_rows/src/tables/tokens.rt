@@ -1,6 +1,6 @@
 //! Users texts and Authorization fields.
-use crate::tally::Tally;
 use osm_base::Memory;
+use row_tally::Tally;
 use std::alloc::Global;
 use std::io;
 use user_table::{UserTable, UsersFault, Who};
