@@ -8,7 +8,7 @@ use osm_json::BodyFault;
 use route_table::RouteFault;
 
 /// Why a message is no request that is judged on the map.
-#[derive(Debug, Drop)]
+#[derive(Drop)]
 pub enum RequestFault {
     Memory,
     Refused(Refusal),

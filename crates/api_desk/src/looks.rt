@@ -2,7 +2,7 @@ use osm_base::Key;
 
 /// Where a plan and a map differ. A plan that keeps its command alone looks at nothing, and has
 /// none.
-#[derive(Clone, Copy, Debug, Drop)]
+#[derive(Clone, Copy, Drop)]
 pub enum Look {
     /// An element had `planned` versions, and has `found`. One that never was has 0.
     Count { key: Key, planned: u64, found: u64 },

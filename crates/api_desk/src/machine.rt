@@ -19,7 +19,7 @@ use std::alloc::Global;
 use std::sync::ledger::Ledger;
 
 /// The map with its indexes, and the allocator, since entries are applied without one.
-#[derive(Debug, Drop)]
+#[derive(Drop)]
 pub struct MapWorld {
     alloc: Global,
     world: World,

@@ -18,14 +18,14 @@ use std::alloc::Global;
 use user_table::{UserTable, Who};
 
 /// A command and the user who asks for it.
-#[derive(Debug, Drop)]
+#[derive(Drop)]
 pub struct Asked {
     pub user: User,
     pub command: Command,
 }
 
 /// What a message asks of the map.
-#[derive(Debug, Drop)]
+#[derive(Drop)]
 pub enum Request {
     Change(Asked),
     Read(Query),

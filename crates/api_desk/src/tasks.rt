@@ -8,7 +8,7 @@ use osm_model::Query;
 use route_table::Call;
 
 /// Work that a body may say more of (OpenStreetMap wiki, API v0.6).
-#[derive(Clone, Copy, Debug)]
+#[derive(Clone, Copy)]
 pub enum Edit {
     CreateChangeset,
     Retag {
@@ -42,7 +42,7 @@ pub enum Edit {
 }
 
 /// A call, by who may make it.
-#[derive(Debug, Drop)]
+#[derive(Drop)]
 pub enum Task {
     /// Anybody may read who isn't taken for somebody whom the server doesn't know.
     Read(Query),

@@ -11,7 +11,7 @@ use osm_world::World;
 use std::alloc::Global;
 
 /// What a changeset has to pass: each filter that is named.
-#[derive(Clone, Copy, Debug)]
+#[derive(Clone, Copy)]
 struct Filters {
     user: Option<u64>,
     only_open: bool,

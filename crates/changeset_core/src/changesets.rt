@@ -13,7 +13,7 @@ use std::marker::Model;
 
 /// A changeset whose work needs no memory where `room` promised it. Contracts see its id, its
 /// record and how many more changes have room.
-#[derive(Debug, Drop)]
+#[derive(Drop)]
 pub struct Changeset {
     id: u64,
     owner: Owner,

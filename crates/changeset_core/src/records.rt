@@ -5,7 +5,7 @@ use osm_element::Tags;
 use std::alloc::Global;
 
 /// A version that a changeset made.
-#[derive(Clone, Copy, Debug)]
+#[derive(Clone, Copy)]
 pub struct Work {
     pub key: Key,
     pub version: u64,
@@ -13,7 +13,7 @@ pub struct Work {
 
 /// What is known of a changeset (OpenStreetMap wiki, "Changesets"). It has made the versions of
 /// `did`, in that order, and `touched` is the least box of what they touched.
-#[derive(Debug, Drop)]
+#[derive(Drop)]
 pub struct ChangesetRecord {
     pub owner: Owner,
     pub tags: Tags,

@@ -4,7 +4,7 @@ use row_lines::RowFault;
 use std::io;
 use user_table::UsersFault;
 
-#[derive(Debug, Drop)]
+#[derive(Drop)]
 pub enum Fault {
     Memory,
     /// A line isn't of the format.
@@ -12,6 +12,17 @@ pub enum Fault {
     /// The users text isn't one.
     Users(UsersFault),
     Print(io::Error),
+}
+
+impl Fault {
+    pub fn name(&self) -> &'static str {
+        match self {
+            Fault::Memory => "memory ran out",
+            Fault::Line => "a line isn't of the format",
+            Fault::Users(_) => "the users text isn't one",
+            Fault::Print(_) => "a line wasn't written",
+        }
+    }
 }
 
 impl From<Memory> for Fault {

@@ -15,7 +15,7 @@ use std::sync::ledger::{Blank, Ledger};
 const SEED: u64 = 1;
 
 /// How many nodes and ways were created, and where the first node stands.
-#[derive(Clone, Copy, Debug)]
+#[derive(Clone, Copy)]
 struct Created {
     nodes: u64,
     ways: u64,
@@ -60,7 +60,7 @@ impl Created {
 }
 
 /// What was found of replies.
-#[derive(Clone, Copy, Debug)]
+#[derive(Clone, Copy)]
 struct Tally {
     idle: u64,
     /// The commits that were accepted at once.

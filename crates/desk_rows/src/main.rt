@@ -71,7 +71,7 @@ fn main(rt: HostRuntime) -> io::Result<ExitCode> {
         Ok(true) => Ok(ExitCode::SUCCESS),
         Ok(false) => Ok(ExitCode::FAILURE),
         Err(why) => {
-            println!(rt; "a row ended early: {why:?}")?;
+            println!(rt; "a row ended early: {}", why.name())?;
             Ok(ExitCode::FAILURE)
         }
     }

@@ -8,7 +8,7 @@ use std::alloc::Global;
 use std::marker::Model;
 
 /// The histories of one kind, and rows that wait for new elements: the first `used` are histories.
-#[derive(Debug, Drop)]
+#[derive(Drop)]
 pub struct Shelf {
     rows: Vec<Roomy<Version>>,
     used: usize,

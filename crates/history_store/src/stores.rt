@@ -12,14 +12,14 @@ use std::marker::Model;
 use std::sync::ledger::Ledger;
 
 /// How many more versions an element is to have room for.
-#[derive(Clone, Copy, Debug)]
+#[derive(Clone, Copy)]
 pub struct Want {
     pub key: Key,
     pub versions: u64,
 }
 
 /// The histories of all elements. `room` takes the memory that `push_version` then needs.
-#[derive(Debug, Drop)]
+#[derive(Drop)]
 pub struct Store {
     nodes: Shelf,
     ways: Shelf,

@@ -2,7 +2,7 @@
 use http_wire::WireEnd;
 
 /// How a link ended.
-#[derive(Clone, Copy, Debug, PartialEq, Eq)]
+#[derive(Clone, Copy, PartialEq, Eq)]
 pub enum LinkEnd {
     /// The input ended between messages.
     Ended,

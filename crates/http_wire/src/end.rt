@@ -4,7 +4,7 @@ ghost use Rattle.http_wire.specs.declared.end.WireEnd.TheVariants.{Memory};
 
 /// Why no message was read. The faults of a whole head are looked for in the order `BadHead`,
 /// `Coded`, `BadLength`, `BodyLong`.
-#[derive(Clone, Copy, Debug, PartialEq, Eq)]
+#[derive(Clone, Copy, PartialEq, Eq)]
 pub enum WireEnd {
     /// The input ended between messages.
     End,

@@ -26,7 +26,7 @@ use tile_grid::Grid;
 
 /// The elements, who uses them, and where the visible nodes lie. `promised`, `awaited` and
 /// `entered` list what was promised versions, users and nodes since the last `forget_all`.
-#[derive(Debug, Drop)]
+#[derive(Drop)]
 pub struct IndexedMap {
     store: Store,
     users: UserIndex,

@@ -2,7 +2,7 @@ use osm_base::Memory;
 use std::alloc::{AllocError, AllocFailed};
 
 /// Why a line has no entry.
-#[derive(Clone, Copy, Debug, PartialEq, Eq)]
+#[derive(Clone, Copy, PartialEq, Eq)]
 pub enum LineFault {
     /// It isn't the line of any entry.
     NotLine,
@@ -11,7 +11,7 @@ pub enum LineFault {
 
 /// Why a text has no journal. `Long` comes first, then `Header`; then the first line with a fault
 /// counts, and in one line `Line` goes before `Illegal`. Lines count from 1, the header included.
-#[derive(Clone, Copy, Debug, PartialEq, Eq)]
+#[derive(Clone, Copy, PartialEq, Eq)]
 pub enum JournalFault {
     /// More than `TEXT_LIMIT` bytes.
     Long,

@@ -1,7 +1,7 @@
 use osm_base::Bytes;
 
 /// Whose call it is: the session, and the number of the call in it, from 1.
-#[derive(Clone, Copy, Debug, PartialEq, Eq)]
+#[derive(Clone, Copy, PartialEq, Eq)]
 pub struct Tag {
     pub session: u32,
     pub call: u64,

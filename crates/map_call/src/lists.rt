@@ -14,7 +14,7 @@ use osm_world::World;
 use rising_lists::has;
 
 /// The ids of some users, by kind. Nodes use nothing.
-#[derive(Debug, Drop)]
+#[derive(Drop)]
 pub struct Users {
     pub ways: Vec<u64>,
     pub relations: Vec<u64>,

@@ -1,5 +1,5 @@
 /// Why numbers or a text give no box. The lowest that holds is named.
-#[derive(Clone, Copy, Debug, PartialEq, Eq)]
+#[derive(Clone, Copy, PartialEq, Eq)]
 pub enum BoxFault {
     /// Not exactly four parts between commas.
     NotFour,

@@ -5,7 +5,7 @@ use crate::limits::MOMENT_LIMIT;
 use std::marker::Model;
 
 /// A moment in seconds since 1970. Those of the map are at most `MOMENT_LIMIT`.
-#[derive(Clone, Copy, Debug, PartialEq, Eq, PartialOrd, Ord)]
+#[derive(Clone, Copy, PartialEq, Eq, PartialOrd, Ord)]
 pub struct Stamp(pub u64);
 
 impl Model for Stamp {

@@ -9,7 +9,7 @@ use std::mem;
 
 /// A list that is promised room for some more items, so that adding those takes no memory and
 /// can't fail. What was promised is a number of its own: there may be room for more.
-#[derive(Debug, Drop)]
+#[derive(Drop)]
 pub struct Roomy<T> {
     items: Vec<T>,
     free: usize,

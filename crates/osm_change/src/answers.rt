@@ -5,7 +5,7 @@ use std::marker::Model;
 
 /// What one operation of an upload came to, as the client is told (OpenStreetMap wiki, API v0.6,
 /// "Diff upload"). A delete that was applied has neither new id nor new version.
-#[derive(Clone, Copy, Debug, PartialEq, Eq)]
+#[derive(Clone, Copy, PartialEq, Eq)]
 pub struct DiffRow {
     pub kind: Kind,
     pub old_id: i64,
@@ -17,7 +17,7 @@ pub struct DiffRow {
 pub type DiffRows = Items<DiffRow>;
 
 /// One version of an element, with the owner of its changeset: both are shown where they are kept.
-#[derive(Debug, Drop)]
+#[derive(Drop)]
 pub struct ElementRow<'a> {
     pub key: Key,
     pub number: u64,
@@ -37,7 +37,7 @@ impl<'a> Model for ElementRow<'a> {
 pub type ElementRows<'a> = Items<ElementRow<'a>>;
 
 /// A changeset, as the client is told. It is open where `closes` is missing.
-#[derive(Debug, Drop)]
+#[derive(Drop)]
 pub struct ChangesetRow {
     pub count: u64,
     pub closes: Option<Stamp>,
@@ -52,7 +52,7 @@ pub struct ChangesetRow {
 pub type ChangesetRows = Items<ChangesetRow>;
 
 /// What a call of the server answers. Only elements are borrowed.
-#[derive(Debug, Drop)]
+#[derive(Drop)]
 pub enum Answer<'a> {
     /// A new id, or a new version.
     Number(u64),

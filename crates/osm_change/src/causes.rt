@@ -3,7 +3,7 @@ use osm_element::LocalFault;
 use std::alloc::{AllocError, AllocFailed};
 
 /// Why an upload is no change. Of the causes of one operation the lowest in this order counts.
-#[derive(Clone, Copy, Debug, PartialEq, Eq)]
+#[derive(Clone, Copy, PartialEq, Eq)]
 pub enum Cause {
     /// Memory ran out.
     Memory,
@@ -23,7 +23,7 @@ pub enum Cause {
 }
 
 /// The operation that is at fault, counted from 1, and why. `op` is 0 where memory ran out.
-#[derive(Clone, Copy, Debug, PartialEq, Eq)]
+#[derive(Clone, Copy, PartialEq, Eq)]
 pub struct ShapeFault {
     pub op: u32,
     pub cause: Cause,

@@ -2,7 +2,7 @@ use osm_base::Kind;
 use osm_element::{RawContent, Tags};
 
 /// What an operation does (OpenStreetMap wiki, "OsmChange").
-#[derive(Clone, Copy, Debug, PartialEq, Eq)]
+#[derive(Clone, Copy, PartialEq, Eq)]
 pub enum Action {
     Create,
     Modify,
@@ -10,7 +10,7 @@ pub enum Action {
 }
 
 /// An operation as a body gives it, before its placeholders are resolved.
-#[derive(Debug, Drop)]
+#[derive(Drop)]
 pub struct RawOp {
     pub action: Action,
     pub kind: Kind,

@@ -3,7 +3,7 @@ use osm_element::LocalFault;
 
 /// An element as a client names it: by its id, or by the placeholder under which the same upload
 /// created it.
-#[derive(Clone, Copy, Debug, PartialEq, Eq)]
+#[derive(Clone, Copy, PartialEq, Eq)]
 pub enum Said {
     Id(u64),
     Placeholder(i64),
@@ -11,7 +11,7 @@ pub enum Said {
 
 /// Why a request is refused. `op` counts the operations of an upload or a single change from 1; it
 /// is 0 for the document itself, and missing in reads and redactions.
-#[derive(Debug, Drop)]
+#[derive(Drop)]
 pub enum Refusal {
     /// The head isn't one of HTTP/1.0 or HTTP/1.1 with at most 64 fields.
     BadHead,

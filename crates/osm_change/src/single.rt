@@ -6,7 +6,7 @@ use std::alloc::Global;
 use std::marker::Model;
 
 /// A change with one operation.
-#[derive(Debug, Drop)]
+#[derive(Drop)]
 pub struct OneOp {
     change: Change,
 }

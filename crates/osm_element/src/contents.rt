@@ -2,7 +2,7 @@ use osm_base::{Coord, Items, Kind, Memory, Text, TryCopy};
 use std::alloc::Global;
 
 /// What a relation lists: an element and the part that it plays.
-#[derive(Debug, Drop)]
+#[derive(Drop)]
 pub struct Member<N> {
     pub kind: Kind,
     pub name: N,
@@ -28,7 +28,7 @@ pub type Refs<N> = Items<N>;
 pub type Members<N> = Items<Member<N>>;
 
 /// What a visible version of an element holds.
-#[derive(Debug, Drop)]
+#[derive(Drop)]
 pub enum Content<N> {
     Node(Coord),
     Way(Refs<N>),
@@ -47,7 +47,7 @@ impl<N: TryCopy + Drop> TryCopy for Content<N> {
 
 /// A content as a body gives it: the position in units of 1e-7 degrees, not tested yet, and
 /// references by id or, where negative, by placeholder.
-#[derive(Debug, Drop)]
+#[derive(Drop)]
 pub enum RawContent {
     Node { lat7: i64, lon7: i64 },
     Way(Refs<i64>),

@@ -1,5 +1,5 @@
 /// What of an element's own parts is beyond a limit. The lowest that holds is named.
-#[derive(Clone, Copy, Debug, PartialEq, Eq)]
+#[derive(Clone, Copy, PartialEq, Eq)]
 pub enum LocalFault {
     /// A key of no or of more than 255 characters.
     TagKey,

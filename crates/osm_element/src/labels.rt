@@ -8,14 +8,14 @@ use std::alloc::Global;
 use std::marker::Model;
 
 /// Where a key and its value end in the text of their tags. The key begins where the tag before ends.
-#[derive(Clone, Copy, Debug, Drop)]
+#[derive(Clone, Copy, Drop)]
 pub(crate) struct Ends {
     key: u32,
     value: u32,
 }
 
 /// Keys and values, the keys in strictly rising byte order (OpenStreetMap wiki, "Tags").
-#[derive(Debug, Drop)]
+#[derive(Drop)]
 pub struct Tags {
     /// The keys and the values, one after the other.
     text: String,

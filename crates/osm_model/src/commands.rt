@@ -4,7 +4,7 @@ use osm_element::Tags;
 use std::alloc::Global;
 
 /// What a user asks to change.
-#[derive(Debug, Drop)]
+#[derive(Drop)]
 pub enum Command {
     CreateChangeset {
         tags: Tags,
@@ -80,7 +80,7 @@ impl TryCopy for Command {
 }
 
 /// An accepted command, as the journal keeps it. The calls of a session are counted from 1.
-#[derive(Debug, Drop)]
+#[derive(Drop)]
 pub struct Entry {
     pub session: u32,
     pub call: u64,

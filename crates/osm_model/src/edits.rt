@@ -7,7 +7,7 @@ use osm_base::{Box7, Items, Key, Memory, Stamp, Text};
 use osm_element::{Elements, Tags};
 
 /// What an accepted command changes, the last stamp aside.
-#[derive(Debug, Drop)]
+#[derive(Drop)]
 pub enum Edit {
     AddChangeset(ChangesetRecord),
     /// Other tags, which is activity at the stamp.

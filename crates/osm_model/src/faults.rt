@@ -2,7 +2,7 @@ use osm_base::Memory;
 use osm_change::Refusal;
 
 /// Why a step of the plain program has no result.
-#[derive(Debug, Drop)]
+#[derive(Drop)]
 pub enum Fault {
     Memory,
     Refused(Refusal),

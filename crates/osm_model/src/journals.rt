@@ -19,7 +19,7 @@ use std::marker::Model;
 
 /// The accepted commands in order, and the state that they make. Contracts see it as the list of
 /// its entries.
-#[derive(Debug, Drop)]
+#[derive(Drop)]
 pub struct Journal {
     entries: Vec<Entry>,
     state: State,
@@ -39,14 +39,14 @@ impl Model for Journal {
 }
 
 /// An entry that isn't kept yet, and what it changes.
-#[derive(Debug, Drop)]
+#[derive(Drop)]
 pub struct Kept {
     entry: Entry,
     edit: Edit,
 }
 
 /// What a command comes to on a journal, before it is kept there. A refused one is never kept.
-#[derive(Debug, Drop)]
+#[derive(Drop)]
 pub struct Judgement {
     kept: Option<Kept>,
     answer: Answer<'static>,

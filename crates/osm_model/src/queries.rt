@@ -1,7 +1,7 @@
 use osm_base::{Box7, Ids, Key, Kind};
 
 /// What a caller asks to see (OpenStreetMap wiki, API v0.6). Ids, versions and numbers count from 1.
-#[derive(Debug, Drop)]
+#[derive(Drop)]
 pub enum Query {
     Changeset {
         id: u64,

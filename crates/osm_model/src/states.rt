@@ -10,7 +10,7 @@ use std::alloc::Global;
 
 /// The map. Changeset and redaction n are the n-th of their lists, counted from 1; `last` is the
 /// stamp of the last accepted command, 0 before the first.
-#[derive(Debug, Drop)]
+#[derive(Drop)]
 pub struct State {
     pub elements: Elements,
     pub changesets: Items<ChangesetRecord>,

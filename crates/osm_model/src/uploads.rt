@@ -28,7 +28,7 @@ impl<'a> Model for UploadTask<'a> {
 
 /// What the operations so far have come to: the elements, for each operation the key of its element
 /// and what it did, and the least box of what the versions that they made touched.
-#[derive(Debug, Drop)]
+#[derive(Drop)]
 pub struct Progress {
     pub elements: Elements,
     pub keys: Items<Key>,

@@ -10,7 +10,7 @@ use osm_base::{Bytes, Memory};
 use std::alloc::Global;
 
 /// A read or a write failed.
-#[derive(Clone, Copy, Debug, PartialEq, Eq)]
+#[derive(Clone, Copy, PartialEq, Eq)]
 pub struct Failed;
 
 /// What a link tells contracts of itself.
@@ -61,7 +61,7 @@ pub trait Clock: Outside {
 pub trait Link: Source + Sink + Clock {}
 
 /// Why a call of a host has no result.
-#[derive(Clone, Copy, Debug, PartialEq, Eq)]
+#[derive(Clone, Copy, PartialEq, Eq)]
 pub enum HostFault {
     Failed,
     /// There was no memory.

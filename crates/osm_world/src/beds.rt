@@ -6,7 +6,7 @@ use std::alloc::Global;
 
 /// What one operation of an entry needs: its element, the elements that its content lists, in
 /// order and each once, and places for its references.
-#[derive(Debug, Drop)]
+#[derive(Drop)]
 pub struct Bed {
     pub key: Key,
     pub listed: Items<Key>,
@@ -30,7 +30,7 @@ impl Bed {
 }
 
 /// What was laid by for an entry: places for the keys of its operations, and what each needs.
-#[derive(Debug, Drop)]
+#[derive(Drop)]
 pub struct Laid {
     pub keys: Roomy<Key>,
     pub beds: Items<Bed>,

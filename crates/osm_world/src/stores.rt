@@ -20,7 +20,7 @@ use redaction_core::Redactions;
 use std::alloc::Global;
 
 /// The map in its stores.
-#[derive(Debug, Drop)]
+#[derive(Drop)]
 pub struct Stores {
     pub map: IndexedMap,
     pub changesets: Roomy<Changeset>,

@@ -28,7 +28,7 @@ use tile_grid::Grid;
 
 /// The map with its indexes, and what was laid by for one entry. The changeset `busy` was promised
 /// room for work, 0 where none was.
-#[derive(Debug, Drop)]
+#[derive(Drop)]
 pub struct World {
     stores: Stores,
     laid: Laid,

@@ -29,7 +29,7 @@ pub fn read_changeset(
 // ---- the query
 
 /// What a changeset has to pass: each filter that is named.
-#[derive(Clone, Copy, Debug)]
+#[derive(Clone, Copy)]
 pub struct Filters {
     pub user: Option<u64>,
     pub only_open: bool,

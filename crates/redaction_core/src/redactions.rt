@@ -7,7 +7,7 @@ use std::marker::Model;
 
 /// The titles of redactions, and for how many more there is room. That of redaction 1 is the first.
 /// `room` takes the memory that `make` then needs.
-#[derive(Debug, Drop)]
+#[derive(Drop)]
 pub struct Redactions {
     titles: Roomy<Text>,
 }

@@ -6,7 +6,7 @@ use std::alloc::Global;
 use std::marker::Model;
 
 /// Keys in order, each once, that are promised room for more.
-#[derive(Debug, Drop)]
+#[derive(Drop)]
 pub struct KeySet {
     keys: Roomy<Key>,
 }

@@ -9,7 +9,7 @@ use std::alloc::Global;
 use std::marker::Model;
 
 /// An element that uses another.
-#[derive(Clone, Copy, Debug, PartialEq, Eq)]
+#[derive(Clone, Copy, PartialEq, Eq)]
 pub struct Pair {
     pub user: Key,
     pub used: Key,
@@ -17,7 +17,7 @@ pub struct Pair {
 
 /// For each element the elements that use it, and how many more of them need no memory. It has
 /// what is added to it: nothing here looks at elements.
-#[derive(Debug, Drop)]
+#[derive(Drop)]
 pub struct UserIndex {
     nodes: Vec<KeySet>,
     ways: Vec<KeySet>,

@@ -3,7 +3,7 @@ use osm_base::Memory;
 use std::alloc::{AllocError, AllocFailed};
 use std::fmt;
 
-#[derive(Clone, Copy, Debug)]
+#[derive(Clone, Copy)]
 pub enum RowFault {
     /// A line isn't written as it must be.
     Unread,

@@ -13,7 +13,7 @@ const NORTH: i64 = 900_000_000;
 const EAST: i64 = 1_800_000_000;
 
 /// A cell with a node that lies or lay in it.
-#[derive(Clone, Copy, Debug, PartialEq, Eq, PartialOrd, Ord)]
+#[derive(Clone, Copy, PartialEq, Eq, PartialOrd, Ord)]
 struct Lying {
     row: u32,
     column: u32,

@@ -17,7 +17,7 @@ use std::marker::Model;
 
 /// Nodes by the cell in which they are placed. `room` takes the memory that `place` then needs.
 /// Contracts see the rows from the south pole on, each with its cells.
-#[derive(Debug, Drop)]
+#[derive(Drop)]
 pub struct Grid {
     rows: Vec<TileRow>,
 }

@@ -12,7 +12,7 @@ use std::marker::Model;
 
 /// The cells of a row that have been promised a node, from west to east. A cell stays when its last
 /// node leaves.
-#[derive(Debug, Drop)]
+#[derive(Drop)]
 pub struct TileRow {
     tiles: Vec<Tile>,
 }

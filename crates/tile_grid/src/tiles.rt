@@ -7,7 +7,7 @@ use std::marker::Model;
 
 /// The nodes of the cell at a column of a row, in no order, and how many more are promised room.
 /// It isn't a `Roomy`, which has no way to take an item out that leaves the others in their places.
-#[derive(Debug, Drop)]
+#[derive(Drop)]
 pub struct Tile {
     column: u32,
     ids: Vec<u64>,

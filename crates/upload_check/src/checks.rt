@@ -10,7 +10,7 @@ use osm_change::{Name, Named, Op, OpDone, Refusal, kind_of};
 use osm_element::{Content, Member};
 
 /// An operation that is passed: its element, and whether it makes a version of it.
-#[derive(Clone, Copy, Debug)]
+#[derive(Clone, Copy)]
 pub struct Step {
     pub key: Key,
     pub applies: bool,

@@ -15,7 +15,7 @@ use std::alloc::Global;
 use std::sync::ledger::Ledger;
 
 /// What one operation comes to.
-#[derive(Debug, Drop)]
+#[derive(Drop)]
 pub enum Judged {
     Done(OpDone),
     Refused(Refusal),

@@ -11,7 +11,7 @@ use std::alloc::Global;
 use std::marker::Model;
 
 /// Where an element's content stands.
-#[derive(Clone, Copy, Debug)]
+#[derive(Clone, Copy)]
 pub enum Holds {
     /// What it held before the upload.
     AsBefore,
@@ -23,7 +23,7 @@ pub enum Holds {
 
 /// Where an element stands after some operations: how many versions it has, what it holds, and how
 /// many elements use it.
-#[derive(Clone, Copy, Debug)]
+#[derive(Clone, Copy)]
 pub struct Standing {
     pub versions: u64,
     pub holds: Holds,

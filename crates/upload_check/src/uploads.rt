@@ -26,7 +26,7 @@ use std::marker::Model;
 use std::sync::ledger::Ledger;
 
 /// An upload to a changeset, as a user asks for it.
-#[derive(Debug, Drop)]
+#[derive(Drop)]
 pub struct UploadCmd<'a> {
     pub user: &'a User,
     pub changeset: u64,
@@ -42,14 +42,14 @@ impl<'a> Model for UploadCmd<'a> {
 }
 
 /// What an upload comes to. The creates of each kind are numbered from `first` on.
-#[derive(Debug, Drop)]
+#[derive(Drop)]
 pub enum Outcome {
     Accepted { first: FirstIds, rows: OpDones },
     Refused(Refusal),
 }
 
 /// What the operations of an upload did, and the ids that came next before them.
-#[derive(Debug, Drop)]
+#[derive(Drop)]
 struct Passed {
     first: FirstIds,
     rows: Vec<OpDone>,

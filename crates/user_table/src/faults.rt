@@ -2,7 +2,7 @@ use osm_base::Memory;
 use std::alloc::{AllocError, AllocFailed};
 
 /// Why a users text is refused. Lines are counted from 1, skipped ones too.
-#[derive(Clone, Copy, Debug, PartialEq, Eq)]
+#[derive(Clone, Copy, PartialEq, Eq)]
 pub enum UsersFault {
     /// More than `osm_base::USERS_LIMIT` bytes.
     Long,

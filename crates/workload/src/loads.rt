@@ -73,7 +73,7 @@ fn upload(alloc: Global, session: u32, number: u64) -> Result<(Sent, u64), Memor
 
 /// The requests of a load that are still to be sent, made one at a time. Contracts see it as their
 /// list.
-#[derive(Debug, Drop)]
+#[derive(Drop)]
 pub struct Load {
     sessions: u32,
     uploads: u32,

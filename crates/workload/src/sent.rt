@@ -1,7 +1,7 @@
 use osm_base::Bytes;
 
 /// A request, and the session that sends it.
-#[derive(Debug, Drop)]
+#[derive(Drop)]
 pub struct Sent {
     /// Counted from 0.
     pub session: u32,
