@@ -1,7 +1,7 @@
 use osm_base::Memory;
 
 /// Why a load has no events.
-#[derive(Clone, Copy, Debug, PartialEq, Eq)]
+#[derive(Clone, Copy, Debug)]
 pub enum LoadFault {
     /// Memory ran out.
     Memory,

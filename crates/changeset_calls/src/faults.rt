@@ -1,7 +1,7 @@
 use osm_base::Memory;
 
 /// Why a call on a changeset has no result.
-#[derive(Clone, Copy, PartialEq, Eq)]
+#[derive(Clone, Copy)]
 pub enum ChangesetFault {
     /// There never was a changeset with this id.
     NoChangeset { id: u64 },

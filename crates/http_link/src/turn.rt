@@ -18,7 +18,7 @@ use osm_outside::{Clock, Failed, Link, Outside, Sink};
 use std::alloc::Global;
 
 /// What a turn leads to.
-#[derive(Clone, Copy, PartialEq, Eq)]
+#[derive(Clone, Copy)]
 pub enum Next {
     /// The link goes on.
     GoesOn,

@@ -3,7 +3,7 @@ use osm_outside::Failed;
 use std::alloc::{AllocError, AllocFailed};
 
 /// Why an input gave no journal.
-#[derive(Clone, Copy, PartialEq, Eq)]
+#[derive(Clone, Copy)]
 pub enum InputFault {
     /// Reading failed.
     Failed,

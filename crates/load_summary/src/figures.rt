@@ -7,7 +7,7 @@ use history_store::Store;
 use osm_base::{Coord, Key, Kind};
 
 /// The numbers of a journal and of its map. Elements count where they are visible.
-#[derive(Clone, Copy, PartialEq, Eq)]
+#[derive(Clone, Copy)]
 pub struct Figures {
     pub entries: u64,
     pub nodes: u64,
@@ -18,7 +18,7 @@ pub struct Figures {
 }
 
 /// What a load was, and how it was answered.
-#[derive(Clone, Copy, PartialEq, Eq)]
+#[derive(Clone, Copy)]
 pub struct Run {
     pub seed: u64,
     pub sessions: u32,

@@ -1,5 +1,5 @@
 /// Why numbers or a text give no box. The lowest that holds is named.
-#[derive(Clone, Copy, PartialEq, Eq)]
+#[derive(Clone, Copy)]
 pub enum BoxFault {
     /// Not exactly four parts between commas.
     NotFour,

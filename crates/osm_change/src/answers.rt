@@ -5,7 +5,7 @@ use std::marker::Model;
 
 /// What one operation of an upload came to, as the client is told (OpenStreetMap wiki, API v0.6,
 /// "Diff upload"). A delete that was applied has neither new id nor new version.
-#[derive(Clone, Copy, PartialEq, Eq)]
+#[derive(Clone, Copy)]
 pub struct DiffRow {
     pub kind: Kind,
     pub old_id: i64,

@@ -4,7 +4,7 @@ use std::alloc::Global;
 
 /// The element that an operation names: one of before the upload, by its id, or the one that an
 /// earlier operation creates, by the place of that operation, counted from 0.
-#[derive(Clone, Copy, PartialEq, Eq)]
+#[derive(Clone, Copy)]
 pub enum Name {
     Old(u64),
     New(u32),
@@ -17,7 +17,7 @@ impl TryCopy for Name {
 }
 
 /// An element as an operation names it.
-#[derive(Clone, Copy, PartialEq, Eq)]
+#[derive(Clone, Copy)]
 pub struct Named {
     pub kind: Kind,
     pub name: Name,
@@ -84,7 +84,7 @@ impl TryCopy for Op {
 }
 
 /// What an accepted operation did: made the version with this number, or left the element at it.
-#[derive(Clone, Copy, PartialEq, Eq)]
+#[derive(Clone, Copy)]
 pub enum OpDone {
     Applied { version: u64 },
     Skipped { version: u64 },
@@ -118,7 +118,7 @@ impl OpDone {
 pub type OpDones = Items<OpDone>;
 
 /// The ids that the next elements of each kind get.
-#[derive(Clone, Copy, PartialEq, Eq)]
+#[derive(Clone, Copy)]
 pub struct FirstIds {
     pub node: u64,
     pub way: u64,

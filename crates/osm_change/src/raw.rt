@@ -2,7 +2,7 @@ use osm_base::Kind;
 use osm_element::{RawContent, Tags};
 
 /// What an operation does (OpenStreetMap wiki, "OsmChange").
-#[derive(Clone, Copy, PartialEq, Eq)]
+#[derive(Clone, Copy)]
 pub enum Action {
     Create,
     Modify,

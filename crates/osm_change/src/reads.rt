@@ -1,14 +1,14 @@
 use osm_base::{Ids, Key, Memory};
 
 /// One version of an element, as a read shows it.
-#[derive(Clone, Copy, PartialEq, Eq)]
+#[derive(Clone, Copy)]
 pub struct Shown {
     pub key: Key,
     pub number: u64,
 }
 
 /// Why a read shows no element. The first that holds counts.
-#[derive(Clone, Copy, PartialEq, Eq)]
+#[derive(Clone, Copy)]
 pub enum ReadFault {
     /// No such version; version 0 where the element never existed.
     NotFound {
@@ -42,7 +42,7 @@ impl From<Memory> for ReadFault {
 }
 
 /// Why a map call has no answer. The first that holds counts.
-#[derive(Clone, Copy, PartialEq, Eq)]
+#[derive(Clone, Copy)]
 pub enum MapFault {
     /// The area of the box in square units of 1e-7 degrees, which is above `AREA_LIMIT`.
     TooLarge { area: u64 },

@@ -3,7 +3,7 @@ use osm_element::LocalFault;
 
 /// An element as a client names it: by its id, or by the placeholder under which the same upload
 /// created it.
-#[derive(Clone, Copy, PartialEq, Eq)]
+#[derive(Clone, Copy)]
 pub enum Said {
     Id(u64),
     Placeholder(i64),

@@ -5,7 +5,7 @@ use osm_base::Memory;
 use std::alloc::{AllocError, AllocFailed};
 
 /// Why a body was refused.
-#[derive(Clone, Copy, PartialEq, Eq, Drop)]
+#[derive(Clone, Copy, Drop)]
 pub enum BodyFault {
     NotJson,
     /// The operation of that number is malformed, or for 0 the document is.
@@ -47,7 +47,7 @@ impl From<Memory> for BodyFault {
 }
 
 /// Why the next value of a body was not read.
-#[derive(Clone, Copy, PartialEq, Eq, Drop)]
+#[derive(Clone, Copy, Drop)]
 pub(crate) enum ReadFault {
     NotJson,
     Memory,

@@ -9,7 +9,7 @@ use std::alloc::Global;
 use std::marker::Model;
 
 /// An element that uses another.
-#[derive(Clone, Copy, PartialEq, Eq)]
+#[derive(Clone, Copy)]
 pub struct Pair {
     pub user: Key,
     pub used: Key,

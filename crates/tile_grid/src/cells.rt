@@ -7,7 +7,7 @@ const CELL_SIDE: u32 = 100_000;
 
 /// A cell of the globe: its row from the south pole, 0 to 18,000, and its column from 180 degrees
 /// west, 0 to 36,000. A position on the edge between cells lies in the one to the north and east.
-#[derive(Clone, Copy, PartialEq, Eq)]
+#[derive(Clone, Copy)]
 pub struct Cell {
     pub row: u32,
     pub column: u32,
