@@ -116,7 +116,7 @@ fn path_id(found: Option<Option<i64>>, action: Action, id: i64) -> Option<i64>
     }
 }
 
-/// The same, whose lists and tags are taken from what was found of the body.
+/// The changeset and the operation, whose lists and tags are taken from what was found.
 #[tactic(auto, unfolding(crate::specs::Found::single_of_fields))]
 fn single_from(
     alloc: Global,
