@@ -1,5 +1,5 @@
 -- What was written of a line, one part after another.
-use Rattle.std.proofs.Common.{◌≡◌, ℕ, List, [], ◌∷◌, ◌++◌, Some, None, Ok, flat_map, refl, sym, ap, ◌∙◌, subst, append_assoc, append-nil}
+use Rattle.std.proofs.Common.{◌≡◌, ℕ, List, [], ◌∷◌, ◌++◌, Some, None, Result, Ok, Err, OnOk, flat_map, refl, sym, ap, ◌∙◌, subst, append_assoc, append-nil}
 use Rattle.std.proofs.lemmas.Grind.{flat_map-append}
 use Rattle.std.specs.Str.{IsUtf8}
 use Rattle.std.specs.declared.alloc.AllocError.{AllocError}
@@ -27,6 +27,11 @@ record_tokens fields = ap (λ ts. begin_object ∷ ts) (fields_of fields)
 -- the writer's own clause
 pub sent : {a b : Written} {t : Token} → Writes {E = AllocError} (Ok tt) a b t → Appends a b (t ∷ [])
 sent w = record { before = w.room.0; tokens = w.ok }
+
+-- the last write, whose own result is given
+pub at_last : {a b : Written} {t : Token} {P : Type 0} (result : Result (Unit {0}) AllocError) → Writes result a b t → (Appends a b (t ∷ []) → P) → OnOk result P
+at_last (Ok u) w f = f (sent w)
+at_last (Err fault) w f = tt
 
 infixr 10 ◌⨾◌
 pub ◌⨾◌ : {a b c : Written} {ts us : List Token} → Appends a b ts → Appends b c us → Appends a c (ts ++ us)

@@ -1,7 +1,8 @@
 //! The entry of a line.
-ghost use Rattle.std.specs.Prelude.{◌≡◌, IfOk};
+ghost use Rattle.std.specs.Prelude.{◌≡◌, Err, IfOk, OnOk};
 ghost use Rattle.json.specs.Lex.{tokens};
 ghost use Rattle.osm_model.specs.declared.commands.Entry.{Entry};
+ghost use Rattle.journal_text.specs.declared.faults.LineFault.{LineFault};
 ghost use Rattle.journal_text.specs.Heard.{Finds, IsEntryRead};
 ghost use Rattle.journal_text.specs.Line.{line, IsEntry};
 ghost use Rattle.journal_text.specs.Read.{entry_next, alone};
@@ -55,9 +56,18 @@ pub fn read_entry(alloc: Global, bytes: &[u8]) -> Result<Entry, LineFault>
     ensures all { (e : Entry) → IsEntry e → bytes.now ≡ line e → IsEntryRead result e }
 {
     let found = entry_like(alloc, bytes)?;
-    let own = entry_line(alloc, &found)?;
+    compare(alloc, &found, bytes)?;
+    Ok(found)
+}
+
+/// Refuses what isn't the line of the entry.
+fn compare(alloc: Global, entry: &Entry, bytes: &[u8]) -> Result<(), LineFault>
+    ensures same { OnOk result (bytes.now ≡ line entry.now) }
+    ensures other { result ≡ Err LineFault.NotLine → bytes.now ≡ line entry.now → ⊥ }
+{
+    let own = entry_line(alloc, entry)?;
     if own.as_slice() == bytes {
-        Ok(found)
+        Ok(())
     } else {
         Err(LineFault::NotLine)
     }

@@ -109,7 +109,19 @@ pub fn read_journal(alloc: Global, text: &[u8]) -> Result<Vec<Entry>, JournalFau
         return Err(JournalFault::Header);
     };
     let mut journal = Journal::new(alloc);
-    read_lines(alloc, lines, &mut journal)?;
+    entries_of(alloc, lines, &mut journal)
+}
+
+/// The entries of the lines behind a header, which a journal that is empty before keeps.
+fn entries_of(alloc: Global, text: &[u8], journal: &mut Journal) -> Result<Vec<Entry>, JournalFault>
+    requires { journal.old ≡ [] }
+    ensures ok { IfOk result (λ v. text.now ≡ lines v.items) }
+    ensures legal { IfOk result (λ v. IsLegal v.items) }
+    ensures only { IfOk result (λ v. (es : List Entry) → All IsEntry es → text.now ≡ lines es → v.items ≡ es) }
+    ensures fault { IfErr result (λ f. IsLinesFault f text.now) }
+    ensures refused { IfErr result (λ f. IsRefused f text.now) }
+{
+    read_lines(alloc, text, journal)?;
     let entries = copy_all(alloc, journal.entries())?;
     Ok(entries)
 }

@@ -1,11 +1,11 @@
 //! The parts of a line, read token by token.
-ghost use Rattle.std.specs.Prelude.{◌≡◌, ◌<◌, ◌^◌, length, codes, IfOk};
+ghost use Rattle.std.specs.Prelude.{◌≡◌, ◌<◌, ◌^◌, length, codes, Some, IfOk};
 ghost use Rattle.serde_json.specs.Find.{as_bool, as_str};
 ghost use Rattle.osm_change.specs.Build.{IsRaw};
 ghost use Rattle.osm_json.specs.Again.{natural_of, next_as, ops_of};
 ghost use Rattle.osm_json.specs.Reading.{kind_of, tags_of};
 ghost use Rattle.journal_text.specs.Heard.{Hears, heard_of};
-ghost use Rattle.journal_text.specs.Read.{begin_next, end_next, key_next, member_next, user_next, change_next, create_next, retag_next, close_next, upload_next, single_next, title_next, redact_next, unredact_next, by_act, command_next, session_next, entry_next};
+ghost use Rattle.journal_text.specs.Read.{◌>>=◌ as bind, begin_next, end_next, key_next, member_next, user_next, change_next, create_next, retag_next, close_next, upload_next, single_next, title_next, redact_next, unredact_next, by_act, command_next, session_next, entry_next};
 
 use crate::faults::LineFault;
 use json::{Reader, Token};
@@ -132,8 +132,8 @@ fn user(alloc: Global, reader: &mut Reader<'_>) -> Result<User, LineFault>
     let id = natural(reader, "id")?;
     let moderator = flag(reader, "moderator")?;
     let name = text(reader, "name")?;
-    let name = Text::of(alloc, name)?;
     end(reader)?;
+    let name = Text::of(alloc, name)?;
     Ok(User {
         id,
         name,
@@ -276,6 +276,17 @@ fn session(reader: &mut Reader<'_>) -> Result<u32, LineFault>
     }
 }
 
+/// What stands behind the command of an entry: its session and its user.
+fn behind_command(alloc: Global, reader: &mut Reader<'_>) -> Result<(u32, User), LineFault>
+    ensures { Hears (λ p. p) result (bind (session_next reader.old) (λ session ts. bind (key_next (codes "user") ts) (λ _ ts. bind (user_next ts) (λ user ts. bind (end_next ts) (λ _ ts. Some ((session, user), ts)))))) reader.new }
+{
+    let session = session(reader)?;
+    key(reader, "user")?;
+    let user = user(alloc, reader)?;
+    end(reader)?;
+    Ok((session, user))
+}
+
 /// The object of an entry, each member in its place and no other one.
 #[tactic(auto, unfolding(crate::specs::Read::entry_next))]
 pub(crate) fn entry(alloc: Global, reader: &mut Reader<'_>) -> Result<Entry, LineFault>
@@ -286,10 +297,7 @@ pub(crate) fn entry(alloc: Global, reader: &mut Reader<'_>) -> Result<Entry, Lin
     let call = natural(reader, "call")?;
     key(reader, "command")?;
     let command = command(alloc, reader)?;
-    let session = session(reader)?;
-    key(reader, "user")?;
-    let user = user(alloc, reader)?;
-    end(reader)?;
+    let (session, user) = behind_command(alloc, reader)?;
     Ok(Entry {
         session,
         call,

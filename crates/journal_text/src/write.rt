@@ -37,8 +37,7 @@ fn with_tags(out: &mut Writer, front: &[(&str, Shown<'_>)], tags: &Tags) -> Resu
     write_members(out, front)?;
     out.key("tags")?;
     write_tags(out, tags)?;
-    out.end_object()?;
-    Ok(())
+    out.end_object()
 }
 
 fn with_change(
@@ -62,8 +61,7 @@ fn with_change(
     )?;
     out.key("osmChange")?;
     write_change(out, change)?;
-    out.end_object()?;
-    Ok(())
+    out.end_object()
 }
 
 fn name_of(kind: Kind) -> &'static str
@@ -167,6 +165,5 @@ pub(crate) fn entry(out: &mut Writer, entry: &Entry) -> Result<(), AllocError>
     write_members(out, &[("session", Shown::Natural(entry.session as u64))])?;
     out.key("user")?;
     user(out, &entry.user)?;
-    out.end_object()?;
-    Ok(())
+    out.end_object()
 }

@@ -1,5 +1,5 @@
 -- A member whose value was read and kept.
-use Rattle.std.proofs.Common.{◌≡◌, List, Option, Some, option_map, Result, Ok, Err, OnOk, MatchResult, sym, ap, ◌∙◌}
+use Rattle.std.proofs.Common.{◌≡◌, Bool, true, List, Option, Some, option_map, Result, Ok, Err, OnOk, MatchResult, sym, ap, ◌∙◌}
 use Rattle.json.specs.Token.{Token}
 use Rattle.osm_json.specs.declared.fault.ReadFault.{ReadFault}
 use Rattle.osm_json.specs.Pull.{Pulled}
@@ -24,3 +24,17 @@ kept_seen view reading write (Err fault) result place found rest h k = rw k h
 pub kept_on : {A : Type 0} (P : Type 0) (read : Result A ReadFault) (result : Result (Unit {0}) ReadFault) (place : Option A) → OnOk read P → Keeps read result place → OnOk result P
 kept_on P (Ok value) result place h k = rw k.0 h
 kept_on P (Err fault) result place h k = rw k tt
+
+-- the member was there and is a list or not, or reading failed
+abbrev pub KeepsList : Result Bool ReadFault → Result (Unit {0}) ReadFault → Bool → Bool → Type 0
+KeepsList read result there is_list = MatchResult read (λ value. (result ≡ Ok tt) × (there ≡ true) × (is_list ≡ value)) (λ fault. result ≡ Err fault)
+
+pub kept_list : {S G F : Type 0} (reading : S → Bool × G) (seen : G) (write : Bool → Bool → G → F) (read : Result Bool ReadFault) (result : Result (Unit {0}) ReadFault) (there is_list : Bool) (found : Option (S × List Token)) (rest : List Token)
+    → Pulled (λ b. (b, seen)) reading read found rest → KeepsList read result there is_list → Pulled (λ _. write there is_list seen) (λ s. write true (reading s).0 (reading s).1) result found rest
+kept_list reading seen write (Ok value) result there is_list found rest h k =
+    rw k.0 (record { source = h.source; begins = h.begins; reads = ap (λ w. write true w.0 w.1) h.reads ∙ ap (λ b. write b value seen) (sym k.1) ∙ ap (λ b. write there b seen) (sym k.2) })
+kept_list reading seen write (Err fault) result there is_list found rest h k = rw k h
+
+pub kept_list_on : (P : Type 0) (read : Result Bool ReadFault) (result : Result (Unit {0}) ReadFault) (there is_list : Bool) → OnOk read P → KeepsList read result there is_list → OnOk result P
+kept_list_on P (Ok value) result there is_list h k = rw k.0 h
+kept_list_on P (Err fault) result there is_list h k = rw k tt

@@ -1,5 +1,5 @@
 -- The tokens of objects and arrays, part by part.
-use Rattle.std.proofs.Common.{◌≡◌, ℕ, ◌<◌, ◌+◌, ◌≤◌, length, take, get_or, List, [], ◌∷◌, ◌++◌, Some, None, Ok, map, flat_map, refl, sym, ap, ◌∙◌, append_assoc}
+use Rattle.std.proofs.Common.{◌≡◌, ℕ, ◌<◌, ◌+◌, ◌≤◌, length, take, get_or, List, [], ◌∷◌, ◌++◌, Some, None, Result, Ok, Err, OnOk, map, flat_map, refl, sym, ap, ◌∙◌, append_assoc}
 use Rattle.std.proofs.lemmas.List.{append-nil, take_all, take_more, flat_map_more}
 use Rattle.std.proofs.lemmas.List.Folds.{flat_map-map}
 use Rattle.std.proofs.lemmas.Grind.{flat_map-append}
@@ -40,6 +40,11 @@ list_tokens shown xs = ap (λ ts. begin_array ∷ ts) (items_are shown xs)
 -- the writer's own clause
 pub sent : {a b : Written} {t : Token} → Writes {E = AllocError} (Ok tt) a b t → Appends a b (t ∷ [])
 sent w = record { before = w.room.0; tokens = w.ok }
+
+-- the last write, whose own result is given
+pub at_last : {a b : Written} {t : Token} {P : Type 0} (result : Result (Unit {0}) AllocError) → Writes result a b t → (Appends a b (t ∷ []) → P) → OnOk result P
+at_last (Ok u) w f = f (sent w)
+at_last (Err fault) w f = tt
 
 infixr 10 ◌⨾◌
 pub ◌⨾◌ : {a b c : Written} {ts us : List Token} → Appends a b ts → Appends b c us → Appends a c (ts ++ us)

@@ -1,11 +1,11 @@
 //! The blocks of an upload.
-ghost use Rattle.std.specs.Prelude.{◌≡◌, ◌<◌, ◌≤◌, map, take, length, option_map, vec_len, OnOk};
+ghost use Rattle.std.specs.Prelude.{◌≡◌, ◌<◌, ◌≤◌, true, map, take, length, option_map, vec_len, Ok, Err, MatchResult, OnOk};
 ghost use Rattle.serde_json.specs.Data.{no_items};
 ghost use Rattle.serde_json.specs.Find.{as_array};
 ghost use Rattle.osm_json.specs.Pull.{next_data, next_items, next_members, Pulled, PulledMembers};
 ghost use Rattle.osm_json.specs.Walked.{sight, walk_one, walk_all, walk_list, put_entry, SeesMembers, only_unused, mark_ops, finish_block, told, walk_block, walk_blocks, walk_value};
 
-use crate::fault::ReadFault;
+use crate::fault::{ReadFault, keep};
 use crate::names::{Entry, entry_of};
 use crate::operation::operation;
 use crate::pass::{pass_items, pass_value};
@@ -119,6 +119,22 @@ fn listed(
     list(alloc, reader, depth, action, progress)
 }
 
+/// Keeps that a member was there, and whether it is a list.
+#[inline(always)]
+fn keep_list(
+    there: &mut bool,
+    is_list: &mut bool,
+    read: Result<bool, ReadFault>,
+) -> Result<(), ReadFault>
+    ensures { MatchResult read
+        (λ value. (result ≡ Ok tt) × (there.new ≡ true) × (is_list.new ≡ value))
+        (λ fault. result ≡ Err fault) }
+{
+    *is_list = read?;
+    *there = true;
+    Ok(())
+}
+
 /// Reads a member of a block.
 fn entry(
     alloc: Global,
@@ -133,29 +149,27 @@ fn entry(
     ensures shorter { OnOk result (length reader.new < length reader.old) }
 {
     match name {
-        Entry::Create => {
-            let is_list = listed(alloc, reader, depth, Action::Create, base, progress)?;
-            found.create = true;
-            found.is_list = is_list;
-        }
-        Entry::Modify => {
-            let is_list = listed(alloc, reader, depth, Action::Modify, base, progress)?;
-            found.modify = true;
-            found.is_list = is_list;
-        }
+        Entry::Create => keep_list(
+            &mut found.create,
+            &mut found.is_list,
+            listed(alloc, reader, depth, Action::Create, base, progress),
+        ),
+        Entry::Modify => keep_list(
+            &mut found.modify,
+            &mut found.is_list,
+            listed(alloc, reader, depth, Action::Modify, base, progress),
+        ),
         Entry::Delete => {
             let action = Action::Delete { if_unused: false };
-            let is_list = listed(alloc, reader, depth, action, base, progress)?;
-            found.delete = true;
-            found.is_list = is_list;
+            keep_list(
+                &mut found.delete,
+                &mut found.is_list,
+                listed(alloc, reader, depth, action, base, progress),
+            )
         }
-        Entry::IfUnused => {
-            let if_unused = next_flag(reader, depth)?;
-            found.if_unused = Some(if_unused);
-        }
-        Entry::Other => pass_value(reader, depth)?,
+        Entry::IfUnused => keep(&mut found.if_unused, next_flag(reader, depth)),
+        Entry::Other => pass_value(reader, depth),
     }
-    Ok(())
 }
 
 /// The members of the block that was entered.

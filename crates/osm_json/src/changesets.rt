@@ -60,8 +60,7 @@ fn changeset_row(alloc: Global, out: &mut Writer, row: &ChangesetRow) -> Result<
     out.key("tags")?;
     tags(out, &row.tags)?;
     owner(out, &row.owner)?;
-    out.end_object()?;
-    Ok(())
+    out.end_object()
 }
 
 pub(crate) fn changeset(
@@ -76,8 +75,7 @@ pub(crate) fn changeset(
     out.key("changeset")?;
     changeset_row(alloc, out, row)?;
     version(out)?;
-    out.end_object()?;
-    Ok(())
+    out.end_object()
 }
 
 fn changeset_rows(alloc: Global, out: &mut Writer, rows: &[ChangesetRow]) -> Result<(), AllocError>
@@ -104,6 +102,5 @@ pub(crate) fn changesets(
     changeset_rows(alloc, out, rows)?;
     out.end_array()?;
     version(out)?;
-    out.end_object()?;
-    Ok(())
+    out.end_object()
 }

@@ -125,8 +125,7 @@ pub(crate) fn tags(out: &mut Writer, tags: &Tags) -> Result<(), AllocError>
 {
     out.begin_object()?;
     pairs(out, tags)?;
-    out.end_object()?;
-    Ok(())
+    out.end_object()
 }
 
 /// The tags of a version, where it is visible.

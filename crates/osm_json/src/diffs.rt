@@ -41,6 +41,5 @@ pub(crate) fn diff(out: &mut Writer, rows: &[DiffRow]) -> Result<(), AllocError>
     diff_rows(out, rows)?;
     out.end_array()?;
     version(out)?;
-    out.end_object()?;
-    Ok(())
+    out.end_object()
 }

@@ -57,8 +57,7 @@ fn element(alloc: Global, out: &mut Writer, row: &ElementRow<'_>) -> Result<(), 
     visible_tags(out, row.version)?;
     moment(alloc, out, "timestamp", row.version.stamp)?;
     origin(out, row)?;
-    out.end_object()?;
-    Ok(())
+    out.end_object()
 }
 
 fn element_rows(alloc: Global, out: &mut Writer, rows: &[ElementRow<'_>]) -> Result<(), AllocError>
@@ -103,8 +102,7 @@ pub(crate) fn elements(
     element_rows(alloc, out, rows)?;
     out.end_array()?;
     version(out)?;
-    out.end_object()?;
-    Ok(())
+    out.end_object()
 }
 
 fn action_name(row: &ElementRow<'_>) -> &'static str
@@ -128,8 +126,7 @@ fn block(alloc: Global, out: &mut Writer, row: &ElementRow<'_>) -> Result<(), Al
     out.begin_array()?;
     element(alloc, out, row)?;
     out.end_array()?;
-    out.end_object()?;
-    Ok(())
+    out.end_object()
 }
 
 fn blocks(alloc: Global, out: &mut Writer, rows: &[ElementRow<'_>]) -> Result<(), AllocError>
@@ -156,6 +153,5 @@ pub(crate) fn download(
     blocks(alloc, out, rows)?;
     out.end_array()?;
     version(out)?;
-    out.end_object()?;
-    Ok(())
+    out.end_object()
 }

@@ -1,7 +1,7 @@
 //! One operation.
 ghost use Rattle.std.specs.Prelude.{◌≡◌, ◌<◌, ◌≤◌, length, OnOk};
 ghost use Rattle.osm_json.specs.Reading.{operation_of};
-ghost use Rattle.osm_json.specs.Found.{put_field, fields_of, allowed, version_in, tags_in, content_of_parts, given_parts, operation_in};
+ghost use Rattle.osm_json.specs.Found.{put_field, fields_of, allowed, version_in, tags_in, content_in, given_content, operation_in};
 ghost use Rattle.osm_json.specs.Pull.{next_data, next_members, Pulled};
 ghost use Rattle.serde_json.specs.Data.{no_members};
 
@@ -115,23 +115,18 @@ pub(crate) fn given_tags(alloc: Global, action: Action, found: Option<Option<Tag
     }
 }
 
-fn content(
-    kind: Kind,
-    lat7: Option<Option<i64>>,
-    lon7: Option<Option<i64>>,
-    nodes: Option<Option<Refs<i64>>>,
-    members: Option<Option<Members<i64>>>,
-) -> Option<RawContent>
-    ensures { result ≡ content_of_parts kind lat7 lon7 nodes members }
+/// The content of a kind, taken from what was found.
+fn content(kind: Kind, found: &mut Fields) -> Option<RawContent>
+    ensures { result ≡ content_in kind found.old }
 {
     match kind {
         Kind::Node => {
-            let lat7 = lat7??;
-            let lon7 = lon7??;
+            let lat7 = found.lat7??;
+            let lon7 = found.lon7??;
             Some(RawContent::Node { lat7, lon7 })
         }
-        Kind::Way => Some(RawContent::Way(nodes??)),
-        Kind::Relation => Some(RawContent::Relation(members??)),
+        Kind::Way => Some(RawContent::Way(found.nodes.take()??)),
+        Kind::Relation => Some(RawContent::Relation(found.members.take()??)),
     }
 }
 
@@ -139,36 +134,27 @@ fn content(
 pub(crate) fn content_of(
     action: Action,
     kind: Kind,
-    lat7: Option<Option<i64>>,
-    lon7: Option<Option<i64>>,
-    nodes: Option<Option<Refs<i64>>>,
-    members: Option<Option<Members<i64>>>,
+    found: &mut Fields,
 ) -> Option<Option<RawContent>>
-    ensures { result ≡ given_parts action kind lat7 lon7 nodes members }
+    ensures { result ≡ given_content action kind found.old }
 {
     match action {
-        Action::Create | Action::Modify => Some(Some(content(kind, lat7, lon7, nodes, members)?)),
+        Action::Create | Action::Modify => Some(Some(content(kind, found)?)),
         Action::Delete { .. } => Some(None),
     }
 }
 
+/// The operation, whose lists and tags are taken from what was found.
 #[tactic(auto, unfolding(crate::specs::Found::operation_in))]
-fn operation_from(alloc: Global, action: Action, found: Fields) -> Option<RawOp>
-    ensures { result ≡ operation_in action found }
+fn operation_from(alloc: Global, action: Action, found: &mut Fields) -> Option<RawOp>
+    ensures { result ≡ operation_in action found.old }
 {
     let kind = found.kind??;
     let id = found.id??;
     let version = version(action, found.version)?;
     let changeset = optional(found.changeset)?;
-    let tags = given_tags(alloc, action, found.tags)?;
-    let content = content_of(
-        action,
-        kind,
-        found.lat7,
-        found.lon7,
-        found.nodes,
-        found.members,
-    )?;
+    let tags = given_tags(alloc, action, found.tags.take())?;
+    let content = content_of(action, kind, found)?;
     Some(RawOp {
         action,
         kind,
@@ -192,8 +178,8 @@ pub(crate) fn operation(
 {
     match enter_object(reader, depth)? {
         Some(within) => {
-            let found = read_fields(alloc, reader, within)?;
-            Ok(operation_from(alloc, action, found))
+            let mut found = read_fields(alloc, reader, within)?;
+            Ok(operation_from(alloc, action, &mut found))
         }
         None => Ok(None),
     }

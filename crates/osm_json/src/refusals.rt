@@ -323,6 +323,5 @@ pub(crate) fn refusal(alloc: Global, out: &mut Writer, fault: &Refusal) -> Resul
     of_request(out, fault)?;
     of_changeset(out, fault)?;
     of_element(out, fault)?;
-    out.end_object()?;
-    Ok(())
+    out.end_object()
 }

@@ -92,8 +92,7 @@ pub fn record(out: &mut Writer, fields: &[(&str, Shown<'_>)]) -> Result<(), Allo
 {
     out.begin_object()?;
     members(out, fields)?;
-    out.end_object()?;
-    Ok(())
+    out.end_object()
 }
 
 /// The version of the interface, which ends each document.

@@ -116,15 +116,16 @@ fn path_id(found: Option<Option<i64>>, action: Action, id: i64) -> Option<i64>
     }
 }
 
+/// The changeset and the operation, whose lists and tags are taken from what was found.
 #[tactic(auto, unfolding(crate::specs::Found::single_of_fields))]
 fn single_from(
     alloc: Global,
-    found: Fields,
+    found: &mut Fields,
     action: Action,
     kind: Kind,
     id: i64,
 ) -> Option<(u64, RawOp)>
-    ensures { result ≡ single_of_fields action kind id found }
+    ensures { result ≡ single_of_fields action kind id found.old }
 {
     if !is_same_kind(found.kind, kind) {
         return None;
@@ -132,15 +133,8 @@ fn single_from(
     let named = path_id(found.id, action, id)?;
     let version = version(action, found.version)?;
     let changeset = found.changeset??;
-    let tags = given_tags(alloc, action, found.tags)?;
-    let content = content_of(
-        action,
-        kind,
-        found.lat7,
-        found.lon7,
-        found.nodes,
-        found.members,
-    )?;
+    let tags = given_tags(alloc, action, found.tags.take())?;
+    let content = content_of(action, kind, found)?;
     Some((
         changeset,
         RawOp {
@@ -170,7 +164,7 @@ pub fn read_single(
     let object = object_body(alloc, body)?;
     match object {
         None => Err(BodyFault::Shape { op: 1 }),
-        Some(found) => match single_from(alloc, found, action, kind, id) {
+        Some(mut found) => match single_from(alloc, &mut found, action, kind, id) {
             Some(single) => Ok(single),
             None => Err(BodyFault::Shape { op: 1 }),
         },

@@ -150,8 +150,7 @@ fn kept(
     content(out, change, holds)?;
     tags_if_some(out, tags)?;
     type_and_version(out, kind_of(holds), version)?;
-    out.end_object()?;
-    Ok(())
+    out.end_object()
 }
 
 #[tactic(auto, unfolding(crate::specs::Uploads::given_op))]
@@ -256,8 +255,7 @@ fn close(out: &mut Writer, action: Action) -> Result<(), AllocError>
 {
     out.end_array()?;
     members(out, &[("if-unused", if_unused(action))])?;
-    out.end_object()?;
-    Ok(())
+    out.end_object()
 }
 
 /// Goes on to an operation of that action, from those of the block that is open.

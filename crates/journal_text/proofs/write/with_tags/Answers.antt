@@ -1,8 +1,8 @@
 use Rattle.std.proofs.Common.{codes}
 use Rattle.osm_json.specs.Rows.{tags as tags_data}
-use Rattle.journal_text.proofs.Sent.{◌⊕◌, member_sent, record_sent, sent}
+use Rattle.journal_text.proofs.Sent.{◌⊕◌, member_sent, record_sent, sent, at_last}
 use Rattle.journal_text.proofs.write.with_tags.Goals as goal
 
 pub returns : goal.returns
 returns c =
-    record_sent (sent c.in_ok-begin_object.ensures) (c.in_ok-members.ensures ⊕ member_sent (codes "tags") (tags_data c.args.tags.now) (sent c.in_ok-key.ensures) c.in_ok-write_tags.ensures) (sent c.in_ok-end_object.ensures)
+    at_last c.end_object.result c.end_object.ensures (λ end. record_sent (sent c.in_ok-begin_object.ensures) (c.in_ok-members.ensures ⊕ member_sent (codes "tags") (tags_data c.args.tags.now) (sent c.in_ok-key.ensures) c.in_ok-write_tags.ensures) end)

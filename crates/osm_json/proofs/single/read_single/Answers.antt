@@ -17,8 +17,8 @@ returns-in-Some-single_from-clause-value c =
     single_read c.args.action c.args.kind c.args.id c.args.body.now _ c.in_ok-object.ensures ∙ ap (λ o. or_shape 1 (o >>= single_of_fields c.args.action c.args.kind c.args.id)) c.in-Some.is
     ∙ ap (or_shape 1) (sym made ∙ c.in-Some-single_from.is)
 
-pub returns-in-None-single_from-clause-value : goal.returns-in-None-single_from-clause-value
-returns-in-None-single_from-clause-value c =
+pub returns-clause-value : goal.returns-clause-value
+returns-clause-value c =
     let fits : FitsSigned w64 c.args.id = search rules in
     let made = simp to_z-of_z at c.single_from.ensures in
     single_read c.args.action c.args.kind c.args.id c.args.body.now _ c.in_ok-object.ensures ∙ ap (λ o. or_shape 1 (o >>= single_of_fields c.args.action c.args.kind c.args.id)) c.in-Some.is
