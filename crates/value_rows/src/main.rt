@@ -4,6 +4,7 @@
 
 mod answers;
 mod changes;
+mod labels;
 mod loads;
 mod tables;
 mod values;
@@ -15,11 +16,11 @@ use std::process::ExitCode;
 fn main(rt: HostRuntime) -> io::Result<ExitCode> {
     let alloc = rt.alloc();
     let mut tally = Tally::none();
-    tables::play(&rt, alloc, &mut tally)?;
-    values::play(&rt, alloc, &mut tally)?;
-    changes::play(&rt, alloc, &mut tally)?;
-    loads::play(&rt, alloc, &mut tally)?;
-    answers::play(&rt, alloc, &mut tally)?;
+    tables::play(&rt, alloc, &mut tally);
+    values::play(&rt, alloc, &mut tally);
+    changes::play(&rt, alloc, &mut tally);
+    loads::play(&rt, alloc, &mut tally);
+    answers::play(&rt, alloc, &mut tally);
     tally.tell(&rt)?;
     if tally.is_right() {
         Ok(ExitCode::SUCCESS)
