@@ -1,5 +1,6 @@
 //! Calls at values that were worked out by hand: of tables, changes, loads and answers. What each
-//! must give stands beside it; docs/ROWS.md tells more.
+//! must give stands beside it. Bodies and journals come from the input, with what each must be read
+//! as; docs/ROWS.md tells more.
 #![tactic(auto)]
 
 mod answers;
@@ -7,6 +8,7 @@ mod changes;
 mod labels;
 mod loads;
 mod tables;
+mod texts;
 mod values;
 
 use row_tally::Tally;
@@ -22,7 +24,9 @@ fn main(rt: HostRuntime) -> io::Result<ExitCode> {
     loads::play(&rt, alloc, &mut tally);
     answers::play(&rt, alloc, &mut tally);
     tally.tell(&rt)?;
-    if tally.is_right() {
+    let text = io::read_to_string(alloc, rt.stdin())?;
+    let are_read = texts::play(&rt, alloc, text.as_str())?;
+    if tally.is_right() && are_read {
         Ok(ExitCode::SUCCESS)
     } else {
         Ok(ExitCode::FAILURE)
