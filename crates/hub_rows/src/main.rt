@@ -17,8 +17,8 @@ fn main(rt: HostRuntime) -> io::Result<ExitCode> {
         &rt,
         "two sessions add numbers",
         sessions::two_sessions_add_numbers(alloc),
-    )?;
-    offers::play_all(&rt, alloc, &mut tally)?;
+    );
+    offers::play_all(&rt, alloc, &mut tally);
     tally.tell(&rt)?;
     if tally.is_right() {
         Ok(ExitCode::SUCCESS)

@@ -7,7 +7,6 @@ use machine_law::{Machine, Tag};
 use osm_base::{Memory, Steps};
 use row_tally::Tally;
 use std::alloc::Global;
-use std::io;
 use std::marker::Brand;
 use std::sync::ledger::{Blank, Ledger};
 
@@ -120,8 +119,13 @@ fn commit<L: Ledger>(
 }
 
 fn calls_in(count: usize, session: u32) -> u64 {
-    let first = ENTRIES.iter().take(count);
-    first.filter(|entry| entry.0.session == session).count() as u64
+    let mut calls = 0u64;
+    for entry in ENTRIES.iter().take(count) {
+        if entry.0.session == session {
+            calls = calls.saturating_add(1);
+        }
+    }
+    calls
 }
 
 /// Whether journal, world, counts and outlet are those after so many entries.
@@ -215,20 +219,20 @@ fn a_cleared_outlet_counts_on(alloc: Global) -> Result<bool, Memory> {
     Ok(is_right && outlet.held().is_empty())
 }
 
-pub fn play_all<R: Print>(rt: &R, alloc: Global, tally: &mut Tally) -> io::Result<()> {
+pub fn play_all<R: Print>(rt: &R, alloc: Global, tally: &mut Tally) {
     tally.note(
         rt,
         "no offer is refused",
         lacks(alloc, Vec::new(alloc), None),
-    )?;
+    );
     tally.note(
         rt,
         "each offer is refused in turn",
         each_offer_is_refused_in_turn(alloc),
-    )?;
+    );
     tally.note(
         rt,
         "a cleared outlet counts on",
         a_cleared_outlet_counts_on(alloc),
-    )
+    );
 }

@@ -51,62 +51,116 @@ fn play<L: Ledger>(
     interleave::<Rising, L>(alloc, 2, events, &mut steps)
 }
 
+/// What comes next, at the moment 0.
+#[derive(Clone, Copy)]
+enum Step {
+    Plan { session: u32, number: u64 },
+    Commit { session: u32 },
+    Publish,
+    Ask { session: u32, place: u64 },
+    Freshen { session: u32 },
+}
+
+fn event_of(step: Step) -> Event<u64, u64> {
+    match step {
+        Step::Plan { session, number } => Event::Plan {
+            session,
+            command: number,
+        },
+        Step::Commit { session } => Event::Commit { session, moment: 0 },
+        Step::Publish => Event::Publish,
+        Step::Ask { session, place } => Event::Ask {
+            session,
+            query: place,
+            moment: 0,
+        },
+        Step::Freshen { session } => Event::Freshen { session },
+    }
+}
+
 /// Session 0 adds 5 on what it planned, so the plan of session 1 to add 3 no longer stands and is
 /// refused; its plan to add 7 was made before 6 came, and is settled after all.
+const STEPS: [(Step, Reply); 17] = [
+    (
+        Step::Plan {
+            session: 0,
+            number: 5,
+        },
+        Reply::Planned,
+    ),
+    (
+        Step::Plan {
+            session: 1,
+            number: 3,
+        },
+        Reply::Planned,
+    ),
+    (Step::Commit { session: 0 }, Reply::Added { place: 0 }),
+    (
+        Step::Commit { session: 1 },
+        Reply::Refused { last: Some(5) },
+    ),
+    (Step::Commit { session: 0 }, Reply::Idle),
+    (Step::Commit { session: 2 }, Reply::Idle),
+    (
+        Step::Ask {
+            session: 0,
+            place: 0,
+        },
+        Reply::Idle,
+    ),
+    (
+        Step::Ask {
+            session: 1,
+            place: 0,
+        },
+        Reply::Idle,
+    ),
+    (Step::Publish, Reply::Idle),
+    (
+        Step::Plan {
+            session: 1,
+            number: 7,
+        },
+        Reply::Planned,
+    ),
+    (
+        Step::Plan {
+            session: 0,
+            number: 6,
+        },
+        Reply::Planned,
+    ),
+    (Step::Commit { session: 0 }, Reply::Added { place: 1 }),
+    (
+        Step::Commit { session: 1 },
+        Reply::AddedAfterAll { place: 2 },
+    ),
+    (Step::Freshen { session: 0 }, Reply::Idle),
+    (Step::Freshen { session: 2 }, Reply::Idle),
+    (
+        Step::Ask {
+            session: 0,
+            place: 2,
+        },
+        Reply::Answered { number: Some(7) },
+    ),
+    (
+        Step::Ask {
+            session: 0,
+            place: 3,
+        },
+        Reply::Answered { number: None },
+    ),
+];
+
 fn events(alloc: Global) -> Result<Vec<Event<u64, u64>>, Memory> {
     let mut events = Vec::new(alloc);
-    for (session, command) in [(0, 5), (1, 3)] {
-        events.push(Event::Plan { session, command })?;
-    }
-    for session in [0, 1, 0, 2] {
-        events.push(Event::Commit { session, moment: 0 })?;
-    }
-    for (session, query) in [(0, 0), (1, 0)] {
-        events.push(Event::Ask {
-            session,
-            query,
-            moment: 0,
-        })?;
-    }
-    events.push(Event::Publish)?;
-    for (session, command) in [(1, 7), (0, 6)] {
-        events.push(Event::Plan { session, command })?;
-    }
-    for session in [0, 1] {
-        events.push(Event::Commit { session, moment: 0 })?;
-    }
-    for session in [0, 2] {
-        events.push(Event::Freshen { session })?;
-    }
-    for query in [2, 3] {
-        events.push(Event::Ask {
-            session: 0,
-            query,
-            moment: 0,
-        })?;
+    for (step, _) in &STEPS {
+        events.push(event_of(*step))?;
     }
     Ok(events)
 }
-
-const REPLIES: [Reply; 17] = [
-    Reply::Planned,
-    Reply::Planned,
-    Reply::Added { place: 0 },
-    Reply::Refused { last: Some(5) },
-    Reply::Idle,
-    Reply::Idle,
-    Reply::Idle,
-    Reply::Idle,
-    Reply::Idle,
-    Reply::Planned,
-    Reply::Planned,
-    Reply::Added { place: 1 },
-    Reply::AddedAfterAll { place: 2 },
-    Reply::Idle,
-    Reply::Idle,
-    Reply::Answered { number: Some(7) },
-    Reply::Answered { number: None },
-];
 
 const ENTRIES: [(Tag, u64); 3] = [
     (
@@ -132,12 +186,16 @@ const ENTRIES: [(Tag, u64); 3] = [
     ),
 ];
 
+fn are_wanted(replies: &[Seen<Option<u64>>]) -> bool {
+    let mut is_right = replies.len() == STEPS.len();
+    for (seen, step) in replies.iter().zip(STEPS.iter()) {
+        is_right &= reply_of(seen) == step.1;
+    }
+    is_right
+}
+
 pub fn two_sessions_add_numbers(alloc: Global) -> Result<bool, Memory> {
     let events = events(alloc)?;
     let run = play::<Brand>(alloc, Blank::new(1), events)?;
-    let mut is_right = run.replies.len() == REPLIES.len();
-    for (seen, wanted) in run.replies.iter().zip(REPLIES.iter()) {
-        is_right &= reply_of(seen) == *wanted;
-    }
-    Ok(is_right && run.journal.as_slice() == ENTRIES.as_slice())
+    Ok(are_wanted(run.replies.as_slice()) && run.journal.as_slice() == ENTRIES.as_slice())
 }

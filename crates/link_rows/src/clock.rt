@@ -1,6 +1,6 @@
 //! When the clock is read.
 use crate::desks::MomentDesk;
-use crate::memory_link;
+use crate::link_of;
 use http_link::{LinkEnd, serve_desk};
 use osm_base::Memory;
 use osm_outside::{Clock, Failed, Link, MemLink, Outside, Sink, Source, Trace};
@@ -52,11 +52,10 @@ impl Clock for CountedLink {
 
 impl Link for CountedLink {}
 
-/// A link with this input, in pieces of that size, and ample room.
+/// A link with this input, in pieces of that size.
 fn counted(alloc: Global, input: &[u8], cut: usize) -> Result<CountedLink, Memory> {
-    let cuts = Vec::from_elem(alloc, cut, input.len())?;
     Ok(CountedLink {
-        link: memory_link(alloc, input, cuts, 100)?,
+        link: link_of(alloc, input, cut)?,
         reads: 0,
         fixed: None,
         trace: Trace::new(),

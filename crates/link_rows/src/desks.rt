@@ -1,8 +1,22 @@
 //! Desks that answer one digit.
+ghost use Rattle.std.specs.Prelude.{IfOk};
+ghost use Rattle.osm_base.specs.Status.{IsStatus};
+
 use http_link::{Desk, Reply};
 use http_wire::Message;
 use osm_base::{Bytes, Memory};
 use std::alloc::Global;
+
+/// The last digit of a number.
+fn digit(alloc: Global, number: u64) -> Result<Reply, Memory>
+    ensures { IfOk result (λ reply. IsStatus reply.status) }
+{
+    let digit = [b'0' + (number % 10) as u8];
+    Ok(Reply {
+        status: 200,
+        body: Bytes::of(alloc, &digit)?,
+    })
+}
 
 /// Answers the length of the body.
 #[derive(Drop)]
@@ -14,11 +28,7 @@ impl Desk for LengthDesk {
     ghost allows = { λ _ _ _ _ _. ⊤ };
 
     fn answer(&mut self, alloc: Global, message: Message, _moment: u64) -> Result<Reply, Memory> {
-        let digit = [b'0' + (message.body.as_slice().len() % 10) as u8];
-        Ok(Reply {
-            status: 200,
-            body: Bytes::of(alloc, &digit)?,
-        })
+        digit(alloc, message.body.as_slice().len() as u64)
     }
 }
 
@@ -32,10 +42,6 @@ impl Desk for MomentDesk {
     ghost allows = { λ _ _ _ _ _. ⊤ };
 
     fn answer(&mut self, alloc: Global, _message: Message, moment: u64) -> Result<Reply, Memory> {
-        let digit = [b'0' + (moment % 10) as u8];
-        Ok(Reply {
-            status: 200,
-            body: Bytes::of(alloc, &digit)?,
-        })
+        digit(alloc, moment)
     }
 }

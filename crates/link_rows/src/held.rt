@@ -1,6 +1,6 @@
 //! A client that sends a request only when the reply to the one before came whole.
 use crate::desks::LengthDesk;
-use crate::memory_link;
+use crate::link_of;
 use http_link::{LinkEnd, serve_desk};
 use osm_base::Memory;
 use osm_outside::{Clock, Failed, Link, MemLink, Outside, Sink, Source};
@@ -56,9 +56,8 @@ impl Link for HeldLink {}
 
 /// A client with this input, one request of that length after another, which waits for replies of 71 bytes.
 fn held(alloc: Global, input: &[u8], request: usize) -> Result<HeldLink, Memory> {
-    let cuts = Vec::from_elem(alloc, request, input.len())?;
     Ok(HeldLink {
-        link: memory_link(alloc, input, cuts, 4096)?,
+        link: link_of(alloc, input, request)?,
         reply: 71,
         reads: 0,
         faults: 0,

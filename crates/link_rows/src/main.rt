@@ -4,7 +4,6 @@
 
 mod clock;
 mod desks;
-mod ends;
 mod held;
 mod outside;
 mod stream;
@@ -38,24 +37,29 @@ fn memory_link(
     )
 }
 
+/// A link with this input in pieces of that size, and ample room.
+fn link_of(alloc: Global, input: &[u8], cut: usize) -> Result<MemLink, Memory> {
+    let cuts = Vec::from_elem(alloc, cut, input.len())?;
+    memory_link(alloc, input, cuts, 100_000)
+}
+
 fn main(rt: HostRuntime) -> io::Result<ExitCode> {
     let alloc = rt.alloc();
     let mut tally = Tally::none();
-    outside::play(&rt, alloc, &mut tally)?;
-    wire::play(&rt, alloc, &mut tally)?;
-    whole::play(&rt, alloc, &mut tally)?;
-    ends::play(&rt, alloc, &mut tally)?;
+    outside::play(&rt, alloc, &mut tally);
+    wire::play(&rt, alloc, &mut tally);
+    whole::play(&rt, alloc, &mut tally);
     tally.note(
         &rt,
         "the clock is read after the last byte",
         clock::the_clock_is_read_after_the_last_byte(alloc),
-    )?;
+    );
     tally.note(
         &rt,
         "each reply comes before the next request",
         held::each_reply_comes_before_the_next_request(alloc),
-    )?;
-    stream::play(rt, &mut tally)?;
+    );
+    stream::play(rt, &mut tally);
     tally.tell(&rt)?;
     if tally.is_right() {
         Ok(ExitCode::SUCCESS)

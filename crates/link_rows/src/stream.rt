@@ -7,7 +7,6 @@ use osm_outside::{Clock, Outside, Sink, Source};
 use osm_real::StreamLink;
 use row_tally::Tally;
 use std::alloc::Global;
-use std::io;
 
 /// Why nothing was observed.
 #[derive(Drop)]
@@ -57,28 +56,40 @@ fn a_link_passes_bytes_and_tells_the_time(rt: HostRuntime) -> bool {
         && link.now() == 5
 }
 
-fn the_trace_tells_what_was_read_and_written(rt: HostRuntime) -> Result<bool, Unseen> {
-    let mut link = StreamLink::new(b"ab".as_slice(), Vec::new(rt.alloc()), rt);
-    let given = read_once(rt.alloc(), &mut link)?;
-    let taken = write_once(rt.alloc(), &mut link, b"cd")?;
-    let last = read_once(rt.alloc(), &mut link)?;
-    Ok(
-        given.as_slice() == b"ab".as_slice()
-            && taken.as_slice() == b"cd".as_slice()
-            && last.is_empty(),
-    )
+/// Whether a read gives these bytes.
+fn reads<S: Source>(alloc: Global, source: &mut S, wanted: &[u8]) -> Result<bool, Unseen> {
+    let given = read_once(alloc, source)?;
+    Ok(given.as_slice() == wanted)
 }
 
-pub fn play(rt: HostRuntime, tally: &mut Tally) -> io::Result<()> {
+/// Whether a write takes all of the bytes.
+fn writes<S: Sink>(alloc: Global, sink: &mut S, piece: &[u8]) -> Result<bool, Unseen> {
+    let taken = write_once(alloc, sink, piece)?;
+    Ok(taken.as_slice() == piece)
+}
+
+fn tells<L: Source + Sink>(alloc: Global, link: &mut L) -> Result<bool, Unseen> {
+    let first = reads(alloc, link, b"ab")?;
+    let written = writes(alloc, link, b"cd")?;
+    let last = reads(alloc, link, b"")?;
+    Ok(first && written && last)
+}
+
+fn the_trace_tells_what_was_read_and_written(rt: HostRuntime) -> Result<bool, Unseen> {
+    let mut link = StreamLink::new(b"ab".as_slice(), Vec::new(rt.alloc()), rt);
+    tells(rt.alloc(), &mut link)
+}
+
+pub fn play(rt: HostRuntime, tally: &mut Tally) {
     tally.note(
         &rt,
         "a link passes bytes and tells the time",
         Ok(a_link_passes_bytes_and_tells_the_time(rt)),
-    )?;
+    );
     let outcome = match the_trace_tells_what_was_read_and_written(rt) {
         Ok(is_right) => Ok(is_right),
         Err(Unseen::Failed) => Ok(false),
         Err(Unseen::Memory) => Err(Memory),
     };
-    tally.note(&rt, "the trace tells what was read and written", outcome)
+    tally.note(&rt, "the trace tells what was read and written", outcome);
 }

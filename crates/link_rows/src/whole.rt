@@ -1,20 +1,35 @@
-//! Links in memory, served to their ends.
+//! Links in memory, served to their ends, and what is left of their input then.
 use crate::desks::LengthDesk;
-use crate::memory_link;
+use crate::link_of;
 use http_link::{LinkEnd, serve_desk};
 use http_wire::WireEnd;
 use osm_base::Memory;
-use osm_outside::MemLink;
 use row_tally::Tally;
 use std::alloc::Global;
-use std::io;
 
-/// How a link with this input in pieces of that size ends, and the link.
-fn served(alloc: Global, input: &[u8], cut: usize) -> Result<(LinkEnd, MemLink), Memory> {
-    let cuts = Vec::from_elem(alloc, cut, input.len())?;
-    let mut link = memory_link(alloc, input, cuts, 4096)?;
+/// What must come of a link: its end, and what it wrote and left, where that is compared.
+struct Outcome {
+    end: LinkEnd,
+    written: Option<&'static [u8]>,
+    left: Option<&'static [u8]>,
+}
+
+fn is_wanted(bytes: &[u8], wanted: Option<&[u8]>) -> bool {
+    match wanted {
+        Some(wanted) => bytes == wanted,
+        None => true,
+    }
+}
+
+/// Whether that comes of a link with this input in pieces of that size.
+fn comes(alloc: Global, input: &[u8], cut: usize, outcome: &Outcome) -> Result<bool, Memory> {
+    let mut link = link_of(alloc, input, cut)?;
     let end = serve_desk(alloc, &mut LengthDesk, &mut link);
-    Ok((end, link))
+    Ok(
+        end == outcome.end
+            && is_wanted(link.written(), outcome.written)
+            && is_wanted(link.left(), outcome.left),
+    )
 }
 
 const REQUESTS: &[u8] =
@@ -23,48 +38,111 @@ const REQUESTS: &[u8] =
 const REPLIES: &[u8] =
     b"HTTP/1.1 200 OK\r\nContent-Type: application/json\r\nContent-Length: 1\r\n\r\n0HTTP/1.1 200 OK\r\nContent-Type: application/json\r\nContent-Length: 1\r\n\r\n3HTTP/1.1 200 OK\r\nContent-Type: application/json\r\nContent-Length: 1\r\n\r\n0";
 
-fn answers_in_cuts(alloc: Global, cut: usize) -> Result<bool, Memory> {
-    let (end, link) = served(alloc, REQUESTS, cut)?;
-    Ok(end == LinkEnd::Ended && link.written() == REPLIES)
-}
+const ANSWERED: Outcome = Outcome {
+    end: LinkEnd::Ended,
+    written: Some(REPLIES),
+    left: None,
+};
 
 fn answers_in_any_cuts(alloc: Global) -> Result<bool, Memory> {
     for cut in 1..=REQUESTS.len() {
-        if !answers_in_cuts(alloc, cut)? {
+        if !comes(alloc, REQUESTS, cut, &ANSWERED)? {
             return Ok(false);
         }
     }
     Ok(true)
 }
 
-/// Inputs that are refused, and why.
-const REFUSED: [(&str, &[u8], WireEnd); 3] = [
+const CLOSING: &[u8] =
+    b"GET /a HTTP/1.1\r\n\r\nGET /b HTTP/1.1\r\nConnection: close\r\n\r\nGET /c HTTP/1.1\r\n\r\n";
+
+const CLOSED: &[u8] =
+    b"HTTP/1.1 200 OK\r\nContent-Type: application/json\r\nContent-Length: 1\r\n\r\n0HTTP/1.1 200 OK\r\nContent-Type: application/json\r\nContent-Length: 1\r\nConnection: close\r\n\r\n0";
+
+/// Names, inputs, the sizes of their pieces, and what must come of them.
+const ROWS: [(&str, &[u8], usize, Outcome); 5] = [
     (
         "refuses a coding",
         b"GET / HTTP/1.1\r\nTransfer-Encoding: chunked\r\n\r\n",
-        WireEnd::Coded,
+        7,
+        Outcome {
+            end: LinkEnd::Refused(WireEnd::Coded),
+            written: None,
+            left: None,
+        },
     ),
     (
         "refuses two lengths",
         b"GET / HTTP/1.1\r\nContent-Length: 1\r\nContent-Length: 2\r\n\r\n",
-        WireEnd::BadLength,
+        7,
+        Outcome {
+            end: LinkEnd::Refused(WireEnd::BadLength),
+            written: None,
+            left: None,
+        },
     ),
     (
         "ends inside a body",
         b"GET / HTTP/1.1\r\nContent-Length: 3\r\n\r\nab",
-        WireEnd::Truncated,
+        7,
+        Outcome {
+            end: LinkEnd::Refused(WireEnd::Truncated),
+            written: None,
+            left: None,
+        },
+    ),
+    (
+        "a close leaves the input behind it",
+        CLOSING,
+        19,
+        Outcome {
+            end: LinkEnd::Closed,
+            written: None,
+            left: Some(b"GET /c HTTP/1.1\r\n\r\n"),
+        },
+    ),
+    (
+        "a close amid pipelined requests ends the link",
+        CLOSING,
+        100,
+        Outcome {
+            end: LinkEnd::Closed,
+            written: Some(CLOSED),
+            left: None,
+        },
     ),
 ];
 
-fn refuses(alloc: Global, input: &[u8], why: WireEnd) -> Result<bool, Memory> {
-    let (end, _link) = served(alloc, input, 7)?;
-    Ok(end == LinkEnd::Refused(why))
+const REQUEST: &[u8] = b"GET / HTTP/1.1\r\n\r\n";
+
+/// 1,001 requests.
+fn requests(alloc: Global) -> Result<Vec<u8>, Memory> {
+    let mut input = Vec::new(alloc);
+    for _ in 0..1_001 {
+        input.extend_from_slice(REQUEST)?;
+    }
+    Ok(input)
 }
 
-pub fn play<R: Print>(rt: &R, alloc: Global, tally: &mut Tally) -> io::Result<()> {
-    tally.note(rt, "answers in any cuts", answers_in_any_cuts(alloc))?;
-    for (name, input, why) in REFUSED {
-        tally.note(rt, name, refuses(alloc, input, why))?;
+const LAST: Outcome = Outcome {
+    end: LinkEnd::Budget,
+    written: None,
+    left: Some(REQUEST),
+};
+
+fn the_last_request_that_is_answered_leaves_the_next(alloc: Global) -> Result<bool, Memory> {
+    let input = requests(alloc)?;
+    comes(alloc, input.as_slice(), 18, &LAST)
+}
+
+pub fn play<R: Print>(rt: &R, alloc: Global, tally: &mut Tally) {
+    tally.note(rt, "answers in any cuts", answers_in_any_cuts(alloc));
+    for (name, input, cut, outcome) in &ROWS {
+        tally.note(rt, name, comes(alloc, input, *cut, outcome));
     }
-    Ok(())
+    tally.note(
+        rt,
+        "the last request that is answered leaves the next",
+        the_last_request_that_is_answered_leaves_the_next(alloc),
+    );
 }

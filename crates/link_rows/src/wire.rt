@@ -5,19 +5,22 @@ use osm_base::Memory;
 use osm_outside::MemLink;
 use row_tally::Tally;
 use std::alloc::Global;
-use std::io;
 
-/// A link with this input, which comes in pieces of at most three bytes at first, and ample room.
-fn link_of(alloc: Global, input: &[u8]) -> Result<MemLink, Memory> {
+/// A link with this input, which comes in pieces of at most three bytes at first.
+fn slow_link(alloc: Global, input: &[u8]) -> Result<MemLink, Memory> {
     let cuts = Vec::from_elem(alloc, 3, 4)?;
     memory_link(alloc, input, cuts, 200)
 }
 
+fn first_of(alloc: Global, link: &mut MemLink) -> Result<Message, WireEnd> {
+    let mut wire = Wire::new(alloc)?;
+    wire.read_message(alloc, link)
+}
+
 /// The first message of the input, or the end that stands in its place.
 fn first_message(alloc: Global, input: &[u8]) -> Result<Message, WireEnd> {
-    let mut link = link_of(alloc, input)?;
-    let mut wire = Wire::new(alloc)?;
-    wire.read_message(alloc, &mut link)
+    let mut link = slow_link(alloc, input)?;
+    first_of(alloc, &mut link)
 }
 
 fn a_message_is_read(alloc: Global) -> bool {
@@ -31,24 +34,30 @@ fn a_message_is_read(alloc: Global) -> bool {
 fn huge_lengths_that_differ_are_bad(alloc: Global) -> bool {
     let input =
         b"PUT / HTTP/1.1\r\nContent-Length: 99999999999999999999\r\nContent-Length: 99999999999999999998\r\n\r\n";
-    first_message(alloc, input).err() == Some(WireEnd::BadLength)
+    match first_message(alloc, input) {
+        Ok(_) => false,
+        Err(why) => why == WireEnd::BadLength,
+    }
 }
 
 const REPLY: &[u8] =
     b"HTTP/1.1 404 Not Found\r\nContent-Type: application/json\r\nContent-Length: 2\r\nConnection: close\r\n\r\n{}";
 
-fn a_reply_is_written(alloc: Global) -> Result<bool, Memory> {
-    let mut link = link_of(alloc, b"")?;
-    let is_done = write_reply(&mut link, 404, b"{}", true).is_ok();
-    Ok(is_done && link.written() == REPLY)
+fn takes_a_reply(link: &mut MemLink) -> bool {
+    write_reply(link, 404, b"{}", true).is_ok() && link.written() == REPLY
 }
 
-pub fn play<R: Print>(rt: &R, alloc: Global, tally: &mut Tally) -> io::Result<()> {
-    tally.note(rt, "a message is read", Ok(a_message_is_read(alloc)))?;
+fn a_reply_is_written(alloc: Global) -> Result<bool, Memory> {
+    let mut link = slow_link(alloc, b"")?;
+    Ok(takes_a_reply(&mut link))
+}
+
+pub fn play<R: Print>(rt: &R, alloc: Global, tally: &mut Tally) {
+    tally.note(rt, "a message is read", Ok(a_message_is_read(alloc)));
     tally.note(
         rt,
         "huge lengths that differ are bad",
         Ok(huge_lengths_that_differ_are_bad(alloc)),
-    )?;
-    tally.note(rt, "a reply is written", a_reply_is_written(alloc))
+    );
+    tally.note(rt, "a reply is written", a_reply_is_written(alloc));
 }

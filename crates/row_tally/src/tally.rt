@@ -17,21 +17,17 @@ impl Tally {
         self.wrong == 0
     }
 
-    /// Counts a row, and names it where it didn't come out right.
-    pub fn note<R: Print>(
-        &mut self,
-        rt: &R,
-        name: &str,
-        outcome: Result<bool, Memory>,
-    ) -> io::Result<()> {
+    /// Counts a row, and names it where it didn't come out right. It counts as wrong even where its
+    /// name cannot be written.
+    pub fn note<R: Print>(&mut self, rt: &R, name: &str, outcome: Result<bool, Memory>) {
         self.rows = self.rows.saturating_add(1);
         let why = match outcome {
-            Ok(true) => return Ok(()),
+            Ok(true) => return,
             Ok(false) => "wrong",
             Err(Memory) => "no memory",
         };
         self.wrong = self.wrong.saturating_add(1);
-        println!(rt; "{why}: {name}")
+        let _ = println!(rt; "{why}: {name}");
     }
 
     /// Says what was tried.

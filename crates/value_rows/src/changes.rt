@@ -2,13 +2,13 @@
 ghost use Rattle.std.specs.Prelude.{IfOk, IfSome};
 ghost use Rattle.osm_change.specs.Build.{HasContent, IsRawOp, IsRaw};
 
+use crate::labels::labels;
 use diff_result::rows;
-use osm_base::{Items, Kind, Memory, Text, TryCopy};
-use osm_change::{Action, Cause, Change, FirstIds, OneOp, Op, OpDone, OpDones, RawOp};
+use osm_base::{Items, Kind, Memory, TryCopy};
+use osm_change::{Action, Cause, Change, DiffRow, FirstIds, OneOp, Op, OpDone, OpDones, RawOp};
 use osm_element::{Content, RawContent, Tags};
 use row_tally::Tally;
 use std::alloc::Global;
-use std::io;
 
 /// The content of an operation on a node: a delete has none.
 fn content(action: Action) -> Option<RawContent>
@@ -99,20 +99,33 @@ const TOLD: [(i64, Option<u64>, Option<u64>); 6] = [
     (9, Some(9), Some(4)),
 ];
 
-fn a_row_for_each_operation(alloc: Global) -> Result<bool, Memory> {
-    let Some(change) = built(alloc, raws(alloc)?)? else {
-        return Ok(false);
-    };
-    let done: OpDones = Items::of(DONE.to_vec(alloc)?);
+fn are_told(rows: &[DiffRow]) -> bool {
+    let mut is_right = rows.len() == TOLD.len();
+    for (row, told) in rows.iter().zip(TOLD.iter()) {
+        is_right &= (row.old_id, row.new_id, row.new_version) == *told;
+    }
+    is_right
+}
+
+/// Whether what a change came to is told by those rows.
+fn comes_to(alloc: Global, change: &Change, done: &OpDones) -> Result<bool, Memory> {
     if change.len() as usize != done.items().len() {
         return Ok(false);
     }
-    let rows = rows(alloc, &change, &done, FIRST_IDS)?;
-    let mut is_right = rows.len() == 6;
-    for (row, told) in rows.items().iter().zip(TOLD.iter()) {
-        is_right &= (row.old_id, row.new_id, row.new_version) == *told;
+    let rows = rows(alloc, change, done, FIRST_IDS)?;
+    Ok(are_told(rows.items()))
+}
+
+fn has_its_rows(alloc: Global, change: &Change) -> Result<bool, Memory> {
+    let done: OpDones = Items::of(DONE.to_vec(alloc)?);
+    comes_to(alloc, change, &done)
+}
+
+fn a_row_for_each_operation(alloc: Global) -> Result<bool, Memory> {
+    match built(alloc, raws(alloc)?)? {
+        Some(change) => has_its_rows(alloc, &change),
+        None => Ok(false),
     }
-    Ok(is_right)
 }
 
 /// The only operation of a change with one.
@@ -125,12 +138,23 @@ fn only(alloc: Global, raw: RawOp) -> Result<Option<OneOp>, Memory>
     }
 }
 
+fn has_six(change: Change) -> bool {
+    let count = change.len();
+    let operations = change.into_operations();
+    count == 6 && operations.len() == 6
+}
+
+/// Whether a change is given back whole, since it isn't one operation.
+fn is_given_back(change: Change) -> bool {
+    match OneOp::of(change) {
+        Ok(_) => false,
+        Err(six) => has_six(six),
+    }
+}
+
 fn six_are_not_one(alloc: Global) -> Result<bool, Memory> {
     match built(alloc, raws(alloc)?)? {
-        Some(six) => match OneOp::of(six) {
-            Ok(_) => Ok(false),
-            Err(six) => Ok(six.len() == 6 && six.into_operations().len() == 6),
-        },
+        Some(six) => Ok(is_given_back(six)),
         None => Ok(false),
     }
 }
@@ -149,8 +173,7 @@ fn one_is_one(alloc: Global) -> Result<bool, Memory> {
 fn tagged(alloc: Global) -> Result<Option<RawOp>, Memory>
     ensures { IfOk result (λ made. IfSome made IsRawOp) }
 {
-    let pair = (Text::of(alloc, "a")?, Text::of(alloc, "b")?);
-    let Some(tags) = Tags::of(alloc, &[pair])? else {
+    let Some(tags) = labels(alloc, &[("a", "b")])? else {
         return Ok(None);
     };
     Ok(Some(RawOp {
@@ -178,28 +201,32 @@ fn is_tagged(change: &Change) -> bool {
     }
 }
 
-fn a_copy_says_what_the_change_says(alloc: Global) -> Result<bool, Memory> {
-    let Some(raw) = tagged(alloc)? else {
-        return Ok(false);
-    };
-    let Some(one) = only(alloc, raw)? else {
-        return Ok(false);
-    };
+fn is_copied(alloc: Global, one: &OneOp) -> Result<bool, Memory> {
     let copy = one.copy(alloc)?;
     Ok(is_tagged(one.change()) && is_tagged(copy.change()))
 }
 
-pub fn play<R: Print>(rt: &R, alloc: Global, tally: &mut Tally) -> io::Result<()> {
+fn a_copy_says_what_the_change_says(alloc: Global) -> Result<bool, Memory> {
+    let Some(raw) = tagged(alloc)? else {
+        return Ok(false);
+    };
+    match only(alloc, raw)? {
+        Some(one) => is_copied(alloc, &one),
+        None => Ok(false),
+    }
+}
+
+pub fn play<R: Print>(rt: &R, alloc: Global, tally: &mut Tally) {
     tally.note(
         rt,
         "a row for each operation",
         a_row_for_each_operation(alloc),
-    )?;
-    tally.note(rt, "six are not one", six_are_not_one(alloc))?;
-    tally.note(rt, "one is one", one_is_one(alloc))?;
+    );
+    tally.note(rt, "six are not one", six_are_not_one(alloc));
+    tally.note(rt, "one is one", one_is_one(alloc));
     tally.note(
         rt,
         "a copy says what the change says",
         a_copy_says_what_the_change_says(alloc),
-    )
+    );
 }

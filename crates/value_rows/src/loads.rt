@@ -4,7 +4,6 @@ use load_summary::{Figures, Run, figures_of, replay_summary, summary};
 use osm_base::{Coord, Memory};
 use row_tally::Tally;
 use std::alloc::Global;
-use std::io;
 use user_table::{UserTable, UsersFault, Who};
 use workload::{Load, requests, users_text};
 
@@ -82,22 +81,22 @@ fn a_run_of_a_thousand_uploads(alloc: Global) -> Result<bool, Memory> {
     Ok(text.as_str() == expected)
 }
 
-pub fn play<R: Print>(rt: &R, alloc: Global, tally: &mut Tally) -> io::Result<()> {
+pub fn play<R: Print>(rt: &R, alloc: Global, tally: &mut Tally) {
     tally.note(
         rt,
         "the first request creates a changeset",
         the_first_request_creates_a_changeset(alloc),
-    )?;
+    );
     tally.note(
         rt,
         "the first upload of seed 1",
         the_first_upload_of_seed_1(alloc),
-    )?;
-    tally.note(rt, "the last user is known", the_last_user_is_known(alloc))?;
-    tally.note(rt, "nothing is replayed", nothing_is_replayed(alloc))?;
+    );
+    tally.note(rt, "the last user is known", the_last_user_is_known(alloc));
+    tally.note(rt, "nothing is replayed", nothing_is_replayed(alloc));
     tally.note(
         rt,
         "a run of a thousand uploads",
         a_run_of_a_thousand_uploads(alloc),
-    )
+    );
 }

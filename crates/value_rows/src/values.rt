@@ -1,9 +1,8 @@
 //! Values that changes are made of: positions, boxes, stamps and tags.
-use osm_base::{Box7, Coord, Memory, Stamp, Text};
-use osm_element::Tags;
+use crate::labels::labels;
+use osm_base::{Box7, Coord, Memory, Stamp};
 use row_tally::Tally;
 use std::alloc::Global;
-use std::io;
 
 /// Latitudes and longitudes, and whether they are a position.
 const POSITIONS: [(i32, i32, bool); 6] = [
@@ -43,37 +42,48 @@ const STAMPS: [(u64, u64); 3] = [
     (18_446_744_073_709_551_615, 253_000_000_000),
 ];
 
-/// Keys of two tags in their order, and whether they may be.
-const KEYS: [([&str; 2], bool); 3] = [(["a", "b"], true), (["b", "a"], false), (["a", "a"], false)];
+/// Two tags in their order, and whether they may be.
+const TAGS: [([(&str, &str); 2], bool); 3] = [
+    ([("a", "x"), ("b", "x")], true),
+    ([("b", "x"), ("a", "x")], false),
+    ([("a", "x"), ("a", "x")], false),
+];
 
-fn pair(alloc: Global, key: &str) -> Result<(Text, Text), Memory> {
-    Ok((Text::of(alloc, key)?, Text::of(alloc, "x")?))
-}
-
-/// Whether tags with these keys are given just where they may be.
-fn are_given(alloc: Global, keys: [&str; 2], may_be: bool) -> Result<bool, Memory> {
-    let mut pairs = Vec::new(alloc);
-    for key in keys {
-        pairs.push(pair(alloc, key)?)?;
-    }
-    let tags = Tags::of(alloc, pairs.as_slice())?;
+/// Whether these tags are given just where they may be.
+fn are_given(alloc: Global, pairs: &[(&str, &str)], may_be: bool) -> Result<bool, Memory> {
+    let tags = labels(alloc, pairs)?;
     Ok(tags.is_some() == may_be)
 }
 
-pub fn play<R: Print>(rt: &R, alloc: Global, tally: &mut Tally) -> io::Result<()> {
-    for (lat7, lon7, is_some) in POSITIONS {
-        let is_position = Coord::new(lat7, lon7).is_some();
-        tally.note(rt, "positions", Ok(is_position == is_some))?;
+fn play_positions<R: Print>(rt: &R, tally: &mut Tally) {
+    for (lat7, lon7, is_some) in &POSITIONS {
+        let is_position = Coord::new(*lat7, *lon7).is_some();
+        tally.note(rt, "positions", Ok(is_position == *is_some));
     }
-    for (edges, area) in AREAS {
-        tally.note(rt, "areas", Ok(area_of(edges) == area))?;
+}
+
+fn play_areas<R: Print>(rt: &R, tally: &mut Tally) {
+    for (edges, area) in &AREAS {
+        tally.note(rt, "areas", Ok(area_of(*edges) == *area));
     }
-    for (moment, seconds) in STAMPS {
-        let stamp = Stamp::after(Stamp(5), moment);
-        tally.note(rt, "stamps", Ok(stamp == Stamp(seconds)))?;
+}
+
+fn play_stamps<R: Print>(rt: &R, tally: &mut Tally) {
+    for (moment, seconds) in &STAMPS {
+        let stamp = Stamp::after(Stamp(5), *moment);
+        tally.note(rt, "stamps", Ok(stamp == Stamp(*seconds)));
     }
-    for (keys, may_be) in KEYS {
-        tally.note(rt, "keys of tags rise", are_given(alloc, keys, may_be))?;
+}
+
+fn play_tags<R: Print>(rt: &R, alloc: Global, tally: &mut Tally) {
+    for (pairs, may_be) in &TAGS {
+        tally.note(rt, "keys of tags rise", are_given(alloc, pairs, *may_be));
     }
-    Ok(())
+}
+
+pub fn play<R: Print>(rt: &R, alloc: Global, tally: &mut Tally) {
+    play_positions(rt, tally);
+    play_areas(rt, tally);
+    play_stamps(rt, tally);
+    play_tags(rt, alloc, tally);
 }

@@ -1,36 +1,26 @@
 //! The status and the body of each refusal.
 ghost use Rattle.osm_change.specs.Moments.{RefusalHasShownEnd};
 
+use super::tells;
 use osm_base::{Kind, Memory, Stamp, Text};
 use osm_change::{Answer, Refusal, Said};
 use osm_element::LocalFault;
-use osm_json::{answer_body, answer_status};
 use row_tally::Tally;
 use std::alloc::Global;
-use std::io;
 
 fn shows(alloc: Global, fault: Refusal, status: u16, text: &str) -> Result<bool, Memory>
     requires { RefusalHasShownEnd fault }
 {
-    let answer = Answer::Refused(fault);
-    let body = answer_body(alloc, &answer)?;
-    Ok(answer_status(&answer) == status && body.as_slice() == text.as_bytes())
+    tells(alloc, Answer::Refused(fault), status, text)
 }
 
-fn row<R: Print>(
-    rt: &R,
-    alloc: Global,
-    tally: &mut Tally,
-    fault: Refusal,
-    status: u16,
-    text: &str,
-) -> io::Result<()>
+fn row<R: Print>(rt: &R, alloc: Global, tally: &mut Tally, fault: Refusal, status: u16, text: &str)
     requires { RefusalHasShownEnd fault }
 {
-    tally.note(rt, text, shows(alloc, fault, status, text))
+    tally.note(rt, text, shows(alloc, fault, status, text));
 }
 
-fn of_the_wire<R: Print>(rt: &R, alloc: Global, tally: &mut Tally) -> io::Result<()> {
+fn of_the_wire<R: Print>(rt: &R, alloc: Global, tally: &mut Tally) {
     row(
         rt,
         alloc,
@@ -38,7 +28,7 @@ fn of_the_wire<R: Print>(rt: &R, alloc: Global, tally: &mut Tally) -> io::Result
         Refusal::BadHead,
         400,
         r#"{"error":"bad_head"}"#,
-    )?;
+    );
     row(
         rt,
         alloc,
@@ -46,7 +36,7 @@ fn of_the_wire<R: Print>(rt: &R, alloc: Global, tally: &mut Tally) -> io::Result
         Refusal::HeadLong,
         431,
         r#"{"error":"head_long"}"#,
-    )?;
+    );
     row(
         rt,
         alloc,
@@ -54,7 +44,7 @@ fn of_the_wire<R: Print>(rt: &R, alloc: Global, tally: &mut Tally) -> io::Result
         Refusal::Coded,
         501,
         r#"{"error":"coded"}"#,
-    )?;
+    );
     row(
         rt,
         alloc,
@@ -62,7 +52,7 @@ fn of_the_wire<R: Print>(rt: &R, alloc: Global, tally: &mut Tally) -> io::Result
         Refusal::BadLength,
         400,
         r#"{"error":"bad_length"}"#,
-    )?;
+    );
     row(
         rt,
         alloc,
@@ -70,11 +60,11 @@ fn of_the_wire<R: Print>(rt: &R, alloc: Global, tally: &mut Tally) -> io::Result
         Refusal::BodyLong,
         413,
         r#"{"error":"body_long"}"#,
-    )?;
-    row(rt, alloc, tally, Refusal::Xml, 415, r#"{"error":"xml"}"#)
+    );
+    row(rt, alloc, tally, Refusal::Xml, 415, r#"{"error":"xml"}"#);
 }
 
-fn of_the_target<R: Print>(rt: &R, alloc: Global, tally: &mut Tally) -> io::Result<()> {
+fn of_the_target<R: Print>(rt: &R, alloc: Global, tally: &mut Tally) {
     row(
         rt,
         alloc,
@@ -82,7 +72,7 @@ fn of_the_target<R: Print>(rt: &R, alloc: Global, tally: &mut Tally) -> io::Resu
         Refusal::NoPath,
         404,
         r#"{"error":"no_path"}"#,
-    )?;
+    );
     row(
         rt,
         alloc,
@@ -90,7 +80,7 @@ fn of_the_target<R: Print>(rt: &R, alloc: Global, tally: &mut Tally) -> io::Resu
         Refusal::WrongMethod,
         405,
         r#"{"error":"wrong_method"}"#,
-    )?;
+    );
     row(
         rt,
         alloc,
@@ -98,7 +88,7 @@ fn of_the_target<R: Print>(rt: &R, alloc: Global, tally: &mut Tally) -> io::Resu
         Refusal::NoUser,
         401,
         r#"{"error":"no_user"}"#,
-    )?;
+    );
     row(
         rt,
         alloc,
@@ -106,8 +96,8 @@ fn of_the_target<R: Print>(rt: &R, alloc: Global, tally: &mut Tally) -> io::Resu
         Refusal::BadNumber,
         400,
         r#"{"error":"bad_number"}"#,
-    )?;
-    row(rt, alloc, tally, Refusal::Role, 403, r#"{"error":"role"}"#)?;
+    );
+    row(rt, alloc, tally, Refusal::Role, 403, r#"{"error":"role"}"#);
     row(
         rt,
         alloc,
@@ -115,10 +105,10 @@ fn of_the_target<R: Print>(rt: &R, alloc: Global, tally: &mut Tally) -> io::Resu
         Refusal::NotJson,
         400,
         r#"{"error":"not_json"}"#,
-    )
+    );
 }
 
-fn of_the_body<R: Print>(rt: &R, alloc: Global, tally: &mut Tally) -> io::Result<()> {
+fn of_the_body<R: Print>(rt: &R, alloc: Global, tally: &mut Tally) {
     let op = Some(1);
     row(
         rt,
@@ -127,7 +117,7 @@ fn of_the_body<R: Print>(rt: &R, alloc: Global, tally: &mut Tally) -> io::Result
         Refusal::Shape { op: Some(0) },
         400,
         r#"{"error":"shape","op":0}"#,
-    )?;
+    );
     row(
         rt,
         alloc,
@@ -135,7 +125,7 @@ fn of_the_body<R: Print>(rt: &R, alloc: Global, tally: &mut Tally) -> io::Result
         Refusal::NotNegative { op },
         400,
         r#"{"error":"not_negative","op":1}"#,
-    )?;
+    );
     row(
         rt,
         alloc,
@@ -143,7 +133,7 @@ fn of_the_body<R: Print>(rt: &R, alloc: Global, tally: &mut Tally) -> io::Result
         Refusal::DoublePlaceholder { op },
         400,
         r#"{"error":"double_placeholder","op":1}"#,
-    )?;
+    );
     row(
         rt,
         alloc,
@@ -151,7 +141,7 @@ fn of_the_body<R: Print>(rt: &R, alloc: Global, tally: &mut Tally) -> io::Result
         Refusal::UnknownPlaceholder { op },
         400,
         r#"{"error":"unknown_placeholder","op":1}"#,
-    )?;
+    );
     row(
         rt,
         alloc,
@@ -159,7 +149,7 @@ fn of_the_body<R: Print>(rt: &R, alloc: Global, tally: &mut Tally) -> io::Result
         Refusal::NoVersion { op },
         400,
         r#"{"error":"no_version","op":1}"#,
-    )?;
+    );
     row(
         rt,
         alloc,
@@ -167,7 +157,7 @@ fn of_the_body<R: Print>(rt: &R, alloc: Global, tally: &mut Tally) -> io::Result
         Refusal::OtherChangeset { named: 2, op },
         409,
         r#"{"error":"other_changeset","named":2,"op":1}"#,
-    )
+    );
 }
 
 const OF_THE_PARTS: [(LocalFault, &str); 7] = [
@@ -183,21 +173,23 @@ const OF_THE_PARTS: [(LocalFault, &str); 7] = [
     (LocalFault::Position, r#"{"error":"position","op":1}"#),
 ];
 
-fn of_the_parts<R: Print>(rt: &R, alloc: Global, tally: &mut Tally) -> io::Result<()> {
-    for (fault, text) in OF_THE_PARTS {
+fn of_the_parts<R: Print>(rt: &R, alloc: Global, tally: &mut Tally) {
+    for (fault, text) in &OF_THE_PARTS {
         row(
             rt,
             alloc,
             tally,
-            Refusal::Local { fault, op: Some(1) },
+            Refusal::Local {
+                fault: *fault,
+                op: Some(1),
+            },
             400,
             text,
-        )?;
+        );
     }
-    Ok(())
 }
 
-fn of_changesets<R: Print>(rt: &R, alloc: Global, tally: &mut Tally) -> io::Result<()> {
+fn of_changesets<R: Print>(rt: &R, alloc: Global, tally: &mut Tally) {
     row(
         rt,
         alloc,
@@ -205,7 +197,7 @@ fn of_changesets<R: Print>(rt: &R, alloc: Global, tally: &mut Tally) -> io::Resu
         Refusal::NoChangeset { id: 5 },
         404,
         r#"{"error":"no_changeset","id":5}"#,
-    )?;
+    );
     row(
         rt,
         alloc,
@@ -216,7 +208,7 @@ fn of_changesets<R: Print>(rt: &R, alloc: Global, tally: &mut Tally) -> io::Resu
         },
         409,
         r#"{"changeset":1,"error":"owner","owner":1}"#,
-    )?;
+    );
     let full = Refusal::Full {
         applied: 1,
         changeset: 1,
@@ -230,7 +222,7 @@ fn of_changesets<R: Print>(rt: &R, alloc: Global, tally: &mut Tally) -> io::Resu
         full,
         409,
         r#"{"applied":1,"changeset":1,"count":10000,"error":"full","limit":10000}"#,
-    )?;
+    );
     let closed = Refusal::Closed {
         changeset: 1,
         closed_at: Stamp(1_700_003_600),
@@ -242,10 +234,10 @@ fn of_changesets<R: Print>(rt: &R, alloc: Global, tally: &mut Tally) -> io::Resu
         closed,
         409,
         r#"{"changeset":1,"closed_at":"2023-11-14T23:13:20Z","error":"closed"}"#,
-    )
+    );
 }
 
-fn of_maps_and_redactions<R: Print>(rt: &R, alloc: Global, tally: &mut Tally) -> io::Result<()> {
+fn of_maps_and_redactions<R: Print>(rt: &R, alloc: Global, tally: &mut Tally) {
     let area = Refusal::MapArea {
         area: 25_000_005_000_000,
         limit: 25_000_000_000_000,
@@ -257,7 +249,7 @@ fn of_maps_and_redactions<R: Print>(rt: &R, alloc: Global, tally: &mut Tally) ->
         area,
         400,
         r#"{"area":25000005000000,"error":"map_area","limit":25000000000000}"#,
-    )?;
+    );
     row(
         rt,
         alloc,
@@ -268,7 +260,7 @@ fn of_maps_and_redactions<R: Print>(rt: &R, alloc: Global, tally: &mut Tally) ->
         },
         400,
         r#"{"error":"map_nodes","limit":50000,"nodes":50001}"#,
-    )?;
+    );
     row(
         rt,
         alloc,
@@ -276,7 +268,7 @@ fn of_maps_and_redactions<R: Print>(rt: &R, alloc: Global, tally: &mut Tally) ->
         Refusal::NoRedaction { id: 2 },
         404,
         r#"{"error":"no_redaction","id":2}"#,
-    )?;
+    );
     let current = Refusal::RedactCurrent {
         id: Said::Id(1),
         kind: Kind::Node,
@@ -289,7 +281,7 @@ fn of_maps_and_redactions<R: Print>(rt: &R, alloc: Global, tally: &mut Tally) ->
         current,
         400,
         r#"{"error":"redact_current","id":1,"type":"node","version":2}"#,
-    )?;
+    );
     let redacted = Refusal::Redacted {
         id: Said::Id(1),
         redaction: 1,
@@ -303,10 +295,10 @@ fn of_maps_and_redactions<R: Print>(rt: &R, alloc: Global, tally: &mut Tally) ->
         redacted,
         403,
         r#"{"error":"redacted","id":1,"redaction":1,"type":"node","version":1}"#,
-    )
+    );
 }
 
-fn of_elements<R: Print>(rt: &R, alloc: Global, tally: &mut Tally) -> io::Result<()> {
+fn of_elements<R: Print>(rt: &R, alloc: Global, tally: &mut Tally) {
     let id = Said::Id(1);
     let kind = Kind::Node;
     let none = Refusal::NoElement {
@@ -321,7 +313,7 @@ fn of_elements<R: Print>(rt: &R, alloc: Global, tally: &mut Tally) -> io::Result
         none,
         404,
         r#"{"error":"no_element","id":-7,"op":2,"type":"node"}"#,
-    )?;
+    );
     let version = Refusal::NoSuchVersion {
         id,
         kind,
@@ -334,7 +326,7 @@ fn of_elements<R: Print>(rt: &R, alloc: Global, tally: &mut Tally) -> io::Result
         version,
         404,
         r#"{"error":"no_such_version","id":1,"type":"node","version":3}"#,
-    )?;
+    );
     let gone = Refusal::Gone {
         id,
         op: None,
@@ -348,10 +340,10 @@ fn of_elements<R: Print>(rt: &R, alloc: Global, tally: &mut Tally) -> io::Result
         gone,
         410,
         r#"{"error":"gone","id":1,"type":"node","version":2}"#,
-    )
+    );
 }
 
-fn of_conflicts<R: Print>(rt: &R, alloc: Global, tally: &mut Tally) -> io::Result<()> {
+fn of_conflicts<R: Print>(rt: &R, alloc: Global, tally: &mut Tally) {
     let id = Said::Id(1);
     let kind = Kind::Node;
     let op = Some(1);
@@ -369,7 +361,7 @@ fn of_conflicts<R: Print>(rt: &R, alloc: Global, tally: &mut Tally) -> io::Resul
         wrong,
         409,
         r#"{"error":"version","found":2,"id":1,"op":1,"provided":1,"type":"node"}"#,
-    )?;
+    );
     let missing = Refusal::Missing {
         id: Said::Id(9),
         op,
@@ -383,7 +375,7 @@ fn of_conflicts<R: Print>(rt: &R, alloc: Global, tally: &mut Tally) -> io::Resul
         missing,
         412,
         r#"{"error":"missing","id":9,"op":1,"type":"node","version":0}"#,
-    )?;
+    );
     let used = Refusal::Used {
         id,
         op,
@@ -399,7 +391,7 @@ fn of_conflicts<R: Print>(rt: &R, alloc: Global, tally: &mut Tally) -> io::Resul
         used,
         412,
         r#"{"error":"used","id":1,"op":1,"type":"node","user_id":1,"user_type":"way","user_version":1}"#,
-    )
+    );
 }
 
 const BAD_BOX: &str = r#"{"error":"bad_parameter","name":"bbox"}"#;
@@ -418,17 +410,16 @@ fn of_a_parameter(alloc: Global, name: &str, text: &str) -> Result<bool, Memory>
     shows(alloc, Refusal::BadParameter { name }, 400, text)
 }
 
-pub fn play<R: Print>(rt: &R, alloc: Global, tally: &mut Tally) -> io::Result<()> {
-    of_the_wire(rt, alloc, tally)?;
-    of_the_target(rt, alloc, tally)?;
-    of_the_body(rt, alloc, tally)?;
-    of_the_parts(rt, alloc, tally)?;
-    of_changesets(rt, alloc, tally)?;
-    of_maps_and_redactions(rt, alloc, tally)?;
-    of_elements(rt, alloc, tally)?;
-    of_conflicts(rt, alloc, tally)?;
-    for (name, text) in OF_PARAMETERS {
-        tally.note(rt, text, of_a_parameter(alloc, name, text))?;
+pub fn play<R: Print>(rt: &R, alloc: Global, tally: &mut Tally) {
+    of_the_wire(rt, alloc, tally);
+    of_the_target(rt, alloc, tally);
+    of_the_body(rt, alloc, tally);
+    of_the_parts(rt, alloc, tally);
+    of_changesets(rt, alloc, tally);
+    of_maps_and_redactions(rt, alloc, tally);
+    of_elements(rt, alloc, tally);
+    of_conflicts(rt, alloc, tally);
+    for (name, text) in &OF_PARAMETERS {
+        tally.note(rt, text, of_a_parameter(alloc, name, text));
     }
-    Ok(())
 }

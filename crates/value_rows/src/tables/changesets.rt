@@ -30,14 +30,18 @@ fn touches(changeset: &mut Changeset, lat7: i32, lon7: i32) -> bool {
     }
 }
 
-pub fn a_changeset_counts_what_it_did(alloc: Global) -> Result<bool, Memory> {
-    let mut changeset = of_alice(alloc)?;
+fn counts(changeset: &mut Changeset) -> Result<bool, Memory> {
     changeset.room(1)?;
     changeset.worked(NODE, 1);
     Ok(
         changeset.count() == 1
             && changeset.open_at(Stamp(1_700_003_599))
             && !changeset.open_at(Stamp(1_700_003_600))
-            && touches(&mut changeset, 5, 6),
+            && touches(changeset, 5, 6),
     )
+}
+
+pub fn a_changeset_counts_what_it_did(alloc: Global) -> Result<bool, Memory> {
+    let mut changeset = of_alice(alloc)?;
+    counts(&mut changeset)
 }

@@ -2,7 +2,6 @@
 use osm_base::{Ids, Items, Key, Kind, Memory, Roomy, TryCopy};
 use row_tally::Tally;
 use std::alloc::Global;
-use std::io;
 
 fn an_item_is_changed_in_its_place(alloc: Global) -> Result<bool, Memory> {
     let mut ids: Ids = Items::none(alloc);
@@ -36,20 +35,20 @@ fn keys_are_ordered_by_kind_then_id() -> bool {
     node.is_before(way) && node < way && node.is(node)
 }
 
-pub fn play<R: Print>(rt: &R, alloc: Global, tally: &mut Tally) -> io::Result<()> {
+pub fn play<R: Print>(rt: &R, alloc: Global, tally: &mut Tally) {
     tally.note(
         rt,
         "an item is changed in its place",
         an_item_is_changed_in_its_place(alloc),
-    )?;
+    );
     tally.note(
         rt,
         "promised room is used up",
         promised_room_is_used_up(alloc),
-    )?;
+    );
     tally.note(
         rt,
         "keys are ordered by kind, then id",
         Ok(keys_are_ordered_by_kind_then_id()),
-    )
+    );
 }

@@ -12,19 +12,23 @@ const BINDINGS: [(Kind, i64, u32, bool); 3] = [
 
 fn bind_all(map: &mut PlaceholderMap) -> Result<bool, Memory> {
     let mut is_right = true;
-    for (kind, placeholder, place, is_new) in BINDINGS {
-        is_right &= map.bind(kind, placeholder, place)? == is_new;
+    for (kind, placeholder, place, is_new) in &BINDINGS {
+        is_right &= map.bind(*kind, *placeholder, *place)? == *is_new;
     }
     Ok(is_right)
 }
 
-pub fn a_placeholder_binds_once(alloc: Global) -> Result<bool, Memory> {
-    let mut map = PlaceholderMap::new(alloc);
-    let are_bound = bind_all(&mut map)?;
+fn binds_once(map: &mut PlaceholderMap) -> Result<bool, Memory> {
+    let are_bound = bind_all(map)?;
     Ok(
         are_bound
             && map.look(Kind::Node, -1) == Some(0)
             && map.look(Kind::Node, -2) == None
             && map.count(Kind::Node) == 1,
     )
+}
+
+pub fn a_placeholder_binds_once(alloc: Global) -> Result<bool, Memory> {
+    let mut map = PlaceholderMap::new(alloc);
+    binds_once(&mut map)
 }

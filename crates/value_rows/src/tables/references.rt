@@ -24,8 +24,7 @@ fn relation(id: u64) -> Key {
     }
 }
 
-pub fn users_are_in_the_order_of_keys(alloc: Global) -> Result<bool, Memory> {
-    let mut index = UserIndex::new(alloc);
+fn are_in_order(alloc: Global, index: &mut UserIndex) -> Result<bool, Memory> {
     let by_relation = Pair {
         user: relation(1),
         used: node(5),
@@ -35,6 +34,9 @@ pub fn users_are_in_the_order_of_keys(alloc: Global) -> Result<bool, Memory> {
         used: node(5),
     };
     index.room(alloc, &[by_relation, by_way])?;
+    if is_listed(index.users(by_relation.used), by_relation.user) {
+        return Ok(false);
+    }
     index.add(by_relation);
     if is_listed(index.users(by_way.used), by_way.user) {
         return Ok(false);
@@ -50,4 +52,9 @@ pub fn users_are_in_the_order_of_keys(alloc: Global) -> Result<bool, Memory> {
             && index.users(node(5)) == [relation(1)].as_slice()
             && index.users(way(5)).is_empty(),
     )
+}
+
+pub fn users_are_in_the_order_of_keys(alloc: Global) -> Result<bool, Memory> {
+    let mut index = UserIndex::new(alloc);
+    are_in_order(alloc, &mut index)
 }
