@@ -11,35 +11,41 @@ pub struct Counts {
     words: Vec<(String, u64)>,
 }
 
-/// The path of a request with N in the place of each number, and the name of its first parameter.
-fn route(alloc: Global, method: &str, path: &str) -> Result<String, Memory> {
-    let (path, query) = path.split_once('?').unwrap_or((path, ""));
-    let path = path.strip_suffix(".json").unwrap_or(path);
-    let mut text = String::from_str(alloc, method)?;
-    text.push(' ')?;
-    let mut in_number = false;
-    for letter in path.chars() {
-        let is_digit = letter.is_ascii_digit();
-        if !is_digit {
-            text.push(letter)?;
-        } else if !in_number {
-            text.push('N')?;
-        }
-        in_number = is_digit;
+/// Adds a part of a path, or `N` where it is a number.
+fn add_part(route: &mut String, part: &str) -> Result<(), Memory> {
+    let is_number = part.as_bytes().first().is_some_and(u8::is_ascii_digit);
+    route.push_str(if is_number { "N" } else { part })?;
+    Ok(())
+}
+
+fn add_path(route: &mut String, path: &str) -> Result<(), Memory> {
+    let mut parts = path.split('/');
+    add_part(route, parts.next().unwrap_or(""))?;
+    for part in parts {
+        route.push('/')?;
+        add_part(route, part)?;
     }
+    Ok(())
+}
+
+/// Adds the route of a request: its method, its path, and the name of its first parameter.
+fn add_route(route: &mut String, method: &str, target: &str) -> Result<(), Memory> {
+    let (path, query) = target.split_once('?').unwrap_or((target, ""));
+    route.push_str(method)?;
+    route.push(' ')?;
+    add_path(route, path.strip_suffix(".json").unwrap_or(path))?;
     if let Some((name, _)) = query.split_once('=') {
-        text.push('?')?;
-        text.push_str(name)?;
+        route.push('?')?;
+        route.push_str(name)?;
     }
-    Ok(text)
+    Ok(())
 }
 
 /// The word of a refusal: the member `error` of its body.
 fn refusal(body: &[u8]) -> &str {
     let text = str::from_utf8(body).unwrap_or("");
-    let (_, behind) = text.split_once("\"error\":\"").unwrap_or((text, ""));
-    let (word, _) = behind.split_once('"').unwrap_or((behind, ""));
-    word
+    let word = text.split("\"error\":\"").nth(1).unwrap_or("");
+    word.split('"').next().unwrap_or("")
 }
 
 impl Counts {
@@ -49,14 +55,14 @@ impl Counts {
         }
     }
 
-    fn add(&mut self, word: String) -> Result<(), Memory> {
+    fn add(&mut self, alloc: Global, word: &str) -> Result<(), Memory> {
         for (known, count) in self.words.iter_mut() {
-            if known.as_str() == word.as_str() {
+            if known.as_str() == word {
                 *count = count.saturating_add(1);
                 return Ok(());
             }
         }
-        self.words.push((word, 1))?;
+        self.words.push((String::from_str(alloc, word)?, 1))?;
         Ok(())
     }
 
@@ -64,15 +70,23 @@ impl Counts {
     /// with 200. A request of bytes has no route.
     pub fn note(&mut self, alloc: Global, line: &str, reply: &Reply) -> Result<(), Memory> {
         if reply.status != 200 {
-            return self.add(String::from_str(alloc, refusal(reply.body.as_slice()))?);
+            return self.add(alloc, refusal(reply.body.as_slice()));
         }
         if line.starts_with('>') {
             return Ok(());
         }
+        self.note_route(alloc, line)
+    }
+
+    fn note_route(&mut self, alloc: Global, line: &str) -> Result<(), Memory> {
         let (_, rest) = word_of(line);
         let (method, rest) = word_of(rest);
-        let (path, _) = word_of(rest);
-        self.add(route(alloc, method, path)?)
+        let (target, _) = word_of(rest);
+        let mut route = String::new(alloc);
+        match add_route(&mut route, method, target) {
+            Ok(()) => self.add(alloc, route.as_str()),
+            Err(Memory) => Err(Memory),
+        }
     }
 
     /// Says how often each came, by their names.

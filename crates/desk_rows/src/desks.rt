@@ -4,12 +4,18 @@ use crate::plain::PlainDesk;
 use api_desk::OneDesk;
 use http_link::{Desk, Reply};
 use http_wire::Message;
-use journal_text::entry_line;
+use journal_text::journal_text;
 use osm_base::{Bytes, Memory};
-use osm_model::Entry;
-use same_maps::difference;
+use osm_model::Journal;
 use std::alloc::Global;
 use whole_messages::whole_message;
+
+/// Who sends a request, and when.
+#[derive(Clone, Copy)]
+pub struct Sender {
+    pub session: u32,
+    pub moment: u64,
+}
 
 /// The replies of both to one request.
 #[derive(Drop)]
@@ -35,59 +41,42 @@ fn message_of(alloc: Global, bytes: &[u8]) -> Result<Message, Fault> {
     }
 }
 
-/// Sends a message to both.
+/// Sends a message to both. The plain one keeps its entries in that journal.
 pub fn replies_of(
-    alloc: Global,
     fast: &mut OneDesk<'_>,
-    plain: &mut PlainDesk<'_>,
-    session: u32,
-    moment: u64,
+    plain: &PlainDesk<'_>,
+    journal: &mut Journal,
+    sender: Sender,
     bytes: &[u8],
 ) -> Result<Replies, Fault> {
-    let message = message_of(alloc, bytes)?;
-    let slow = plain.answer(alloc, session, &message, moment)?;
-    fast.switch_to(session);
-    let quick = fast.answer(alloc, message, moment)?;
+    let message = message_of(plain.alloc, bytes)?;
+    Ok(answer(fast, plain, journal, sender, message)?)
+}
+
+fn answer(
+    fast: &mut OneDesk<'_>,
+    plain: &PlainDesk<'_>,
+    journal: &mut Journal,
+    sender: Sender,
+    message: Message,
+) -> Result<Replies, Memory> {
+    let slow = plain.answer(journal, sender, &message)?;
+    fast.switch_to(sender.session);
+    let quick = fast.answer(plain.alloc, message, sender.moment)?;
     Ok(Replies {
         plain: slow,
         fast: quick,
     })
 }
 
-/// The first part in which their maps differ.
-pub fn maps_differ(
-    alloc: Global,
-    fast: &OneDesk<'_>,
-    plain: &PlainDesk<'_>,
-) -> Result<Option<&'static str>, Memory> {
-    difference(alloc, plain.journal().state(), fast.world())
-}
-
-/// Whether their journals differ. The line of an entry in the text of a journal tells all of it.
+/// Whether their journals differ. The text of a journal tells all of it.
 pub fn journals_differ(
     alloc: Global,
     fast: &OneDesk<'_>,
-    plain: &PlainDesk<'_>,
+    journal: &Journal,
 ) -> Result<Option<&'static str>, Memory> {
-    let (one, other) = (plain.journal().entries(), fast.entries());
-    if one.len() == other.len() && are_same(alloc, one, other)? {
-        Ok(None)
-    } else {
-        Ok(Some("the journals"))
-    }
-}
-
-fn are_same(alloc: Global, plain: &[Entry], fast: &[Entry]) -> Result<bool, Memory> {
-    for (one, other) in plain.iter().zip(fast.iter()) {
-        if !is_same(alloc, one, other)? {
-            return Ok(false);
-        }
-    }
-    Ok(true)
-}
-
-fn is_same(alloc: Global, plain: &Entry, fast: &Entry) -> Result<bool, Memory> {
-    let plain = entry_line(alloc, plain)?;
-    let fast = entry_line(alloc, fast)?;
-    Ok(plain.as_slice() == fast.as_slice())
+    let slow = journal_text(alloc, journal.entries())?;
+    let quick = journal_text(alloc, fast.entries())?;
+    let are_same = slow.as_slice() == quick.as_slice();
+    Ok(if are_same { None } else { Some("the journals") })
 }

@@ -2,16 +2,16 @@
 use osm_base::Memory;
 use row_lines::RowFault;
 use std::io;
-use user_table::UsersFault;
 
-#[derive(Drop)]
+#[derive(Clone, Copy)]
 pub enum Fault {
     Memory,
     /// A line isn't of the format.
     Line,
     /// The users text isn't one.
-    Users(UsersFault),
-    Print(io::Error),
+    Users,
+    /// A line wasn't written.
+    Print,
 }
 
 impl Fault {
@@ -19,8 +19,8 @@ impl Fault {
         match self {
             Fault::Memory => "memory ran out",
             Fault::Line => "a line isn't of the format",
-            Fault::Users(_) => "the users text isn't one",
-            Fault::Print(_) => "a line wasn't written",
+            Fault::Users => "the users text isn't one",
+            Fault::Print => "a line wasn't written",
         }
     }
 }
@@ -40,14 +40,8 @@ impl From<RowFault> for Fault {
     }
 }
 
-impl From<UsersFault> for Fault {
-    fn from(why: UsersFault) -> Fault {
-        Fault::Users(why)
-    }
-}
-
 impl From<io::Error> for Fault {
-    fn from(why: io::Error) -> Fault {
-        Fault::Print(why)
+    fn from(_: io::Error) -> Fault {
+        Fault::Print
     }
 }

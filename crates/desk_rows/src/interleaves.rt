@@ -147,18 +147,26 @@ fn tell_replies<R: Print>(rt: &R, run: &Run<Entry, Look>) -> io::Result<()> {
     println!(rt; "accepted {}", tally.accepted)
 }
 
-fn tell_journal<R: Print>(rt: &R, journal: &[Entry]) -> io::Result<()> {
-    let created = Created::by(journal);
+fn tell_created<R: Print>(rt: &R, created: Created) -> io::Result<()> {
     println!(rt; "nodes {}", created.nodes)?;
     println!(rt; "ways {}", created.ways)?;
     match created.first {
-        Some(at) => println!(rt; "first {} {}", at.lat7(), at.lon7())?,
-        None => println!(rt; "first none")?,
+        Some(at) => println!(rt; "first {} {}", at.lat7(), at.lon7()),
+        None => println!(rt; "first none"),
     }
+}
+
+fn tell_journal<R: Print>(rt: &R, journal: &[Entry]) -> io::Result<()> {
+    tell_created(rt, Created::by(journal))?;
     match journal.last() {
         Some(last) => println!(rt; "last session {} call {}", last.session, last.call),
         None => println!(rt; "last none"),
     }
+}
+
+fn tell_run<R: Print>(rt: &R, run: &Run<Entry, Look>) -> io::Result<()> {
+    tell_replies(rt, run)?;
+    tell_journal(rt, run.journal.as_slice())
 }
 
 /// Plays a load of so many sessions and uploads, and tells what came of it.
@@ -168,10 +176,7 @@ pub fn tell_interleaved<R: Print>(rt: &R, alloc: Global, load: (u32, u32)) -> io
         return println!(rt; "no events: there are no {sessions} sessions");
     }
     match play::<Brand>(alloc, sessions, uploads, Blank::new(1)) {
-        Ok(run) => {
-            tell_replies(rt, &run)?;
-            tell_journal(rt, run.journal.as_slice())
-        }
+        Ok(run) => tell_run(rt, &run),
         Err(fault) => println!(rt; "no events: {fault:?}"),
     }
 }

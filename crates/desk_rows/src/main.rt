@@ -15,7 +15,8 @@ mod steps;
 use faults::Fault;
 use plain::PlainDesk;
 use plays::Play;
-use rows::{Row, play_row};
+use route_table::Routes;
+use rows::play_row;
 use std::alloc::Global;
 use std::io;
 use std::process::ExitCode;
@@ -26,43 +27,44 @@ use user_table::UserTable;
 const USERS: &str =
     "1 alicetoken user alice\n2 bobtoken moderator bob\n3 caroltoken user Carol \"Ö\" \\ 3\n4 t1 user m1\n5 t2 user m2\n6 t3 user m3\n";
 
-/// Plays a row on a plain desk of its own, which it gives.
-fn play_next<'u, R: Print>(
-    rt: &R,
-    alloc: Global,
-    users: &'u UserTable,
-    play: &mut Play,
-    above: &PlainDesk<'_>,
-    text: &str,
-) -> Result<PlainDesk<'u>, Fault> {
-    let mut plain = PlainDesk::new(alloc, users)?;
-    let row = Row::of(text, above.journal().entries());
-    play_row(rt, alloc, users, &mut plain, play, &row)?;
-    Ok(plain)
-}
-
-/// Plays each row of the text.
+/// Plays each row of the text, and tells how often each route was answered and each refusal came.
 fn play_rows<R: Print>(
     rt: &R,
-    alloc: Global,
-    users: &UserTable,
+    plain: &PlainDesk<'_>,
     play: &mut Play,
     text: &str,
-) -> Result<(), Fault> {
-    let mut above = PlainDesk::new(alloc, users)?;
+) -> Result<bool, Fault> {
     for row in text.split("\n== ").skip(1) {
-        above = play_next(rt, alloc, users, play, &above, row)?;
+        play_row(rt, plain, play, row)?;
     }
-    Ok(())
-}
-
-/// Plays the rows, and tells how often each route was answered and each refusal came.
-fn play_all<R: Print>(rt: &R, alloc: Global, text: &str) -> Result<bool, Fault> {
-    let users = UserTable::read(alloc, USERS.as_bytes())?;
-    let mut play = Play::new(alloc);
-    play_rows(rt, alloc, &users, &mut play, text)?;
     play.counts.tell(rt)?;
     Ok(play.is_right())
+}
+
+fn play_on<R: Print>(rt: &R, plain: &PlainDesk<'_>, text: &str) -> Result<bool, Fault> {
+    let mut play = Play::new(plain.alloc);
+    play_rows(rt, plain, &mut play, text)
+}
+
+fn play_for<R: Print>(rt: &R, alloc: Global, users: &UserTable, text: &str) -> Result<bool, Fault> {
+    match Routes::new(alloc) {
+        Ok(routes) => {
+            let plain = PlainDesk {
+                alloc,
+                routes: &routes,
+                users,
+            };
+            play_on(rt, &plain, text)
+        }
+        Err(why) => Err(Fault::from(why)),
+    }
+}
+
+fn play_all<R: Print>(rt: &R, alloc: Global, text: &str) -> Result<bool, Fault> {
+    match UserTable::read(alloc, USERS.as_bytes()) {
+        Ok(users) => play_for(rt, alloc, &users, text),
+        Err(_) => Err(Fault::Users),
+    }
 }
 
 fn main(rt: HostRuntime) -> io::Result<ExitCode> {

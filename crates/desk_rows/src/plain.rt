@@ -5,15 +5,17 @@ ghost use Rattle.osm_change.specs.Moments.{HasShownMoments};
 ghost use Rattle.osm_model.specs.Act.{act};
 ghost use Rattle.osm_model.specs.Ask.{ask};
 ghost use Rattle.osm_model.specs.Journal.{replay, journal_after};
+ghost use Rattle.osm_model.specs.Judgement.{IsJudgedOn, answer_of, kept_after};
 ghost use Rattle.api_desk.specs.Answers.{reply_of};
 
+use crate::desks::Sender;
 use api_desk::{Asked, Request, RequestFault, request_of};
 use http_link::Reply;
 use http_wire::Message;
 use osm_base::Memory;
 use osm_change::Answer;
 use osm_json::{answer_body, answer_status};
-use osm_model::{Journal, Query};
+use osm_model::{Journal, Judgement, Query};
 use plain_reads::plain_ask;
 use route_table::Routes;
 use std::alloc::Global;
@@ -29,7 +31,41 @@ fn reply_to(alloc: Global, answer: &Answer<'_>) -> Result<Reply, Memory>
     })
 }
 
-/// Does a command, once its reply is made.
+fn keep_judged(journal: &mut Journal, judged: Judgement) -> Result<(), Memory>
+    requires judged { IsJudgedOn journal.old judged }
+    ensures kept { OnOk result (journal.new ≡ kept_after journal.old judged) }
+    ensures memory { OnErr result (journal.new ≡ journal.old) }
+{
+    match journal.keep(judged) {
+        Ok(_) => Ok(()),
+        Err(Memory) => Err(Memory),
+    }
+}
+
+/// Keeps a judgement beside its reply, which it gives.
+fn keep_replied(journal: &mut Journal, judged: Judgement, reply: Reply) -> Result<Reply, Memory>
+    requires judged { IsJudgedOn journal.old judged }
+    ensures reply { IfOk result (λ given. given ≡ reply) }
+    ensures kept { OnOk result (journal.new ≡ kept_after journal.old judged) }
+    ensures memory { OnErr result (journal.new ≡ journal.old) }
+{
+    keep_judged(journal, judged)?;
+    Ok(reply)
+}
+
+/// Keeps a judgement, once its reply is made.
+fn keep(journal: &mut Journal, alloc: Global, judged: Judgement) -> Result<Reply, Memory>
+    requires shown { HasShownMoments (answer_of judged) }
+    requires judged { IsJudgedOn journal.old judged }
+    ensures reply { IfOk result (λ reply. reply ≡ reply_of (Some (answer_of judged))) }
+    ensures kept { OnOk result (journal.new ≡ kept_after journal.old judged) }
+    ensures memory { OnErr result (journal.new ≡ journal.old) }
+{
+    let reply = reply_to(alloc, judged.answer())?;
+    keep_replied(journal, judged, reply)
+}
+
+/// Does a command.
 fn change(
     journal: &mut Journal,
     alloc: Global,
@@ -45,9 +81,7 @@ fn change(
 {
     let Asked { user, command } = asked;
     let judged = journal.judge(alloc, session, user, moment, command)?;
-    let reply = reply_to(alloc, judged.answer())?;
-    journal.keep(judged)?;
-    Ok(reply)
+    keep(journal, alloc, judged)
 }
 
 fn read(journal: &Journal, alloc: Global, query: &Query, moment: u64) -> Result<Reply, Memory>
@@ -58,43 +92,27 @@ fn read(journal: &Journal, alloc: Global, query: &Query, moment: u64) -> Result<
     reply_to(alloc, &answer)
 }
 
-/// A desk over a journal of its own.
-#[derive(Drop)]
+/// A desk that answers from a journal.
+#[derive(Clone, Copy)]
 pub struct PlainDesk<'a> {
-    journal: Journal,
-    routes: Routes,
-    users: &'a UserTable,
+    pub alloc: Global,
+    pub routes: &'a Routes,
+    pub users: &'a UserTable,
 }
 
-impl<'a> PlainDesk<'a> {
-    /// A desk over no entries.
-    pub fn new(alloc: Global, users: &'a UserTable) -> Result<PlainDesk<'a>, Memory> {
-        let routes = Routes::new(alloc)?;
-        Ok(PlainDesk {
-            journal: Journal::new(alloc),
-            routes,
-            users,
-        })
-    }
-
-    /// The journal, and the map that it makes.
-    pub fn journal(&self) -> &Journal {
-        &self.journal
-    }
-
+impl PlainDesk<'_> {
     /// Answers a message of a session.
     pub fn answer(
-        &mut self,
-        alloc: Global,
-        session: u32,
+        &self,
+        journal: &mut Journal,
+        sender: Sender,
         message: &Message,
-        moment: u64,
     ) -> Result<Reply, Memory> {
-        match request_of(alloc, message, &self.routes, self.users) {
-            Ok(Request::Change(asked)) => {
-                change(&mut self.journal, alloc, session, asked, moment)
-            }
-            Ok(Request::Read(query)) => read(&self.journal, alloc, &query, moment),
+        let alloc = self.alloc;
+        let Sender { session, moment } = sender;
+        match request_of(alloc, message, self.routes, self.users) {
+            Ok(Request::Change(asked)) => change(journal, alloc, session, asked, moment),
+            Ok(Request::Read(query)) => read(journal, alloc, &query, moment),
             Err(RequestFault::Refused(refusal)) => reply_to(alloc, &Answer::Refused(refusal)),
             Err(RequestFault::Memory) => Err(Memory),
         }

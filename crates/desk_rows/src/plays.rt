@@ -1,18 +1,21 @@
 //! A play: who sends the next request and when, and how much of the row was played.
 use crate::counts::Counts;
-use crate::desks::Replies;
-use crate::faults::Fault;
-use row_lines::shown;
+use crate::desks::{Replies, Sender};
+use osm_model::Journal;
 use std::alloc::Global;
-use std::io;
+use std::{io, mem};
 
 /// When a row begins, in seconds since 1970: 2023-11-14T22:13:20Z.
 const BEGIN: u64 = 1_700_000_000;
 
+const FIRST: Sender = Sender {
+    session: 0,
+    moment: BEGIN,
+};
+
 #[derive(Drop)]
 pub struct Play {
-    pub session: u32,
-    pub moment: u64,
+    pub sender: Sender,
     pub requests: u64,
     /// The entries after which the maps were compared.
     pub entries: usize,
@@ -20,29 +23,33 @@ pub struct Play {
     /// How much was wrong in the rows before.
     wrong_before: u64,
     pub counts: Counts,
+    /// The plain desk's entries of the row, and those of the row above.
+    pub journal: Journal,
+    pub above: Journal,
 }
 
 impl Play {
     pub fn new(alloc: Global) -> Play {
         Play {
-            session: 0,
-            moment: BEGIN,
+            sender: FIRST,
             requests: 0,
             entries: 0,
             wrong: 0,
             wrong_before: 0,
             counts: Counts::none(alloc),
+            journal: Journal::new(alloc),
+            above: Journal::new(alloc),
         }
     }
 
     /// Begins a row.
-    pub fn begin(&mut self) {
-        self.session = 0;
-        self.moment = BEGIN;
+    pub fn begin(&mut self, alloc: Global) {
+        self.sender = FIRST;
         self.requests = 0;
         self.entries = 0;
         self.wrong_before = self.wrong.saturating_add(self.wrong_before);
         self.wrong = 0;
+        self.above = mem::replace(&mut self.journal, Journal::new(alloc));
     }
 
     pub fn is_right(&self) -> bool {
@@ -50,7 +57,7 @@ impl Play {
     }
 
     pub fn wait(&mut self, seconds: u64) {
-        self.moment = self.moment.saturating_add(seconds);
+        self.sender.moment = self.sender.moment.saturating_add(seconds);
     }
 
     /// Counts and tells a part that differs, where one does.
@@ -73,33 +80,31 @@ impl Play {
     pub fn note_replies<R: Print>(
         &mut self,
         rt: &R,
-        alloc: Global,
         bytes: &[u8],
         replies: &Replies,
-    ) -> Result<(), Fault> {
+    ) -> io::Result<()> {
         self.requests = self.requests.saturating_add(1);
         if replies.are_same() {
             return Ok(());
         }
         self.wrong = self.wrong.saturating_add(1);
-        self.show(rt, alloc, bytes, replies)
-    }
-
-    fn show<R: Print>(
-        &self,
-        rt: &R,
-        alloc: Global,
-        bytes: &[u8],
-        replies: &Replies,
-    ) -> Result<(), Fault> {
-        let (session, moment) = (self.session, self.moment);
-        let sent = shown(alloc, bytes)?;
-        let plain = shown(alloc, replies.plain.body.as_slice())?;
-        let fast = shown(alloc, replies.fast.body.as_slice())?;
-        let (status, other) = (replies.plain.status, replies.fast.status);
-        println!(rt; "wrong: session {session} at {moment}: {sent}")?;
-        println!(rt; "    plain: {status} {plain}\n    fast:  {other} {fast}")?;
-        Ok(())
+        let Sender { session, moment } = self.sender;
+        println!(rt;
+            "wrong: session {session} at {moment}: {}",
+            bytes.escape_ascii()
+        )?;
+        show(
+            rt,
+            "plain",
+            replies.plain.status,
+            replies.plain.body.as_slice(),
+        )?;
+        show(
+            rt,
+            "fast",
+            replies.fast.status,
+            replies.fast.body.as_slice(),
+        )
     }
 
     /// Says how much was played.
@@ -107,4 +112,8 @@ impl Play {
         let (requests, entries, wrong) = (self.requests, self.entries, self.wrong);
         println!(rt; "{name}: {requests} requests, {entries} entries, {wrong} wrong")
     }
+}
+
+fn show<R: Print>(rt: &R, desk: &str, status: u16, body: &[u8]) -> io::Result<()> {
+    println!(rt; "    {desk}: {status} {}", body.escape_ascii())
 }

@@ -1,90 +1,113 @@
 //! A row, played on empty maps.
-use crate::desks::{journals_differ, maps_differ, replies_of};
+use crate::desks::{Replies, journals_differ, replies_of};
 use crate::faults::Fault;
 use crate::interleaves::tell_interleaved;
 use crate::plain::PlainDesk;
 use crate::plays::Play;
 use crate::steps::Step;
 use api_desk::{MapMachine, OneDesk};
-use http_link::Reply;
 use hub_core::Book;
 use osm_base::SESSION_LIMIT;
-use osm_model::Entry;
-use row_lines::{RowFault, request, unescaped, written_out};
-use same_maps::difference_anew;
-use std::alloc::Global;
-use user_table::UserTable;
-use workload::requests;
+use row_lines::{RowFault, add_request, add_unescaped, add_written_out};
+use same_maps::{difference, difference_anew};
+use workload::{Sent, requests};
 
 /// The seed of a load.
 const SEED: u64 = 1;
 
-/// The text of a row, and the journal of the row above.
-#[derive(Clone, Copy)]
-pub struct Row<'r> {
-    name: &'r str,
-    lines: &'r str,
-    above: &'r [Entry],
-}
-
-impl<'r> Row<'r> {
-    /// The row of a text: its name, and then its lines.
-    pub fn of(text: &'r str, above: &'r [Entry]) -> Row<'r> {
-        let (name, lines) = text.split_once('\n').unwrap_or((text, ""));
-        Row { name, lines, above }
-    }
-}
-
-/// Sends a request to both desks. Where it makes an entry, both maps are compared.
+/// Sends a request, which may be that of a line, to both desks.
 fn send<R: Print>(
     rt: &R,
-    alloc: Global,
     fast: &mut OneDesk<'_>,
-    plain: &mut PlainDesk<'_>,
+    plain: &PlainDesk<'_>,
     play: &mut Play,
     bytes: &[u8],
-) -> Result<Reply, Fault> {
-    let replies = replies_of(alloc, fast, plain, play.session, play.moment, bytes)?;
-    play.note_replies(rt, alloc, bytes, &replies)?;
+    line: Option<&str>,
+) -> Result<(), Fault> {
+    let replies = replies_of(fast, plain, &mut play.journal, play.sender, bytes)?;
+    note(rt, fast, plain, play, bytes, line, &replies)
+}
+
+/// Counts what comes of a request. Where it makes an entry, both maps are compared.
+fn note<R: Print>(
+    rt: &R,
+    fast: &OneDesk<'_>,
+    plain: &PlainDesk<'_>,
+    play: &mut Play,
+    bytes: &[u8],
+    line: Option<&str>,
+    replies: &Replies,
+) -> Result<(), Fault> {
+    play.note_replies(rt, bytes, replies)?;
+    if let Some(line) = line {
+        play.counts.note(plain.alloc, line, &replies.plain)?;
+    }
     let entries = fast.entries().len();
     if entries != play.entries {
         play.entries = entries;
-        let part = maps_differ(alloc, fast, plain)?;
+        let part = difference(plain.alloc, play.journal.state(), fast.world())?;
         play.note(rt, part)?;
     }
-    Ok(replies.plain)
+    Ok(())
 }
 
-/// The bytes of a request's line.
-fn bytes_of(alloc: Global, line: &str) -> Result<Vec<u8>, RowFault> {
+/// Adds the bytes of a request's line.
+fn add_bytes(bytes: &mut Vec<u8>, line: &str) -> Result<(), RowFault> {
     match line.strip_prefix("> ") {
-        Some(raw) => unescaped(alloc, raw),
-        None => request(alloc, &[], line),
+        Some(raw) => add_unescaped(bytes, raw),
+        None => add_request(bytes, &[], line),
     }
 }
 
-/// Sends the request of a line, and counts what comes of it.
-fn ask<R: Print>(
+/// Sends the request of a line that is written out.
+fn ask_whole<R: Print>(
     rt: &R,
-    alloc: Global,
     fast: &mut OneDesk<'_>,
-    plain: &mut PlainDesk<'_>,
+    plain: &PlainDesk<'_>,
     play: &mut Play,
     line: &str,
 ) -> Result<(), Fault> {
-    let line = written_out(alloc, line)?;
-    let bytes = bytes_of(alloc, line.as_str())?;
-    let reply = send(rt, alloc, fast, plain, play, bytes.as_slice())?;
-    play.counts.note(alloc, line.as_str(), &reply)?;
+    let mut bytes = Vec::new(plain.alloc);
+    match add_bytes(&mut bytes, line) {
+        Ok(()) => send(rt, fast, plain, play, bytes.as_slice(), Some(line)),
+        Err(why) => Err(Fault::from(why)),
+    }
+}
+
+/// Sends the request of a line.
+fn ask<R: Print>(
+    rt: &R,
+    fast: &mut OneDesk<'_>,
+    plain: &PlainDesk<'_>,
+    play: &mut Play,
+    line: &str,
+) -> Result<(), Fault> {
+    let mut whole = String::new(plain.alloc);
+    match add_written_out(&mut whole, line) {
+        Ok(()) => ask_whole(rt, fast, plain, play, whole.as_str()),
+        Err(why) => Err(Fault::from(why)),
+    }
+}
+
+fn send_all<R: Print>(
+    rt: &R,
+    fast: &mut OneDesk<'_>,
+    plain: &PlainDesk<'_>,
+    play: &mut Play,
+    load: &[Sent],
+) -> Result<(), Fault> {
+    for sent in load {
+        play.sender.session = sent.session;
+        send(rt, fast, plain, play, sent.bytes.as_slice(), None)?;
+    }
     Ok(())
 }
 
 /// Sends the requests of a load of so many sessions and uploads.
 fn send_load<R: Print>(
     rt: &R,
-    alloc: Global,
     fast: &mut OneDesk<'_>,
-    plain: &mut PlainDesk<'_>,
+    plain: &PlainDesk<'_>,
     play: &mut Play,
     load: (u32, u32),
 ) -> Result<(), Fault> {
@@ -92,86 +115,94 @@ fn send_load<R: Print>(
     if sessions == 0 || sessions > SESSION_LIMIT {
         return Err(Fault::Line);
     }
-    for sent in &requests(alloc, SEED, sessions, uploads)? {
-        play.session = sent.session;
-        send(rt, alloc, fast, plain, play, sent.bytes.as_slice())?;
+    match requests(plain.alloc, SEED, sessions, uploads) {
+        Ok(load) => send_all(rt, fast, plain, play, load.as_slice()),
+        Err(why) => Err(Fault::from(why)),
     }
+}
+
+/// An empty map takes all entries, on room for those of the row above.
+fn take_anew<R: Print>(rt: &R, plain: &PlainDesk<'_>, play: &mut Play) -> Result<(), Fault> {
+    let part = difference_anew(plain.alloc, &play.journal, play.above.entries())?;
+    play.note(rt, part)?;
     Ok(())
 }
 
-/// Plays a line. `above` is the journal of the row above.
 fn play_line<R: Print>(
     rt: &R,
-    alloc: Global,
     fast: &mut OneDesk<'_>,
-    plain: &mut PlainDesk<'_>,
+    plain: &PlainDesk<'_>,
     play: &mut Play,
-    above: &[Entry],
     line: &str,
 ) -> Result<(), Fault> {
     match Step::of(line)? {
-        Step::Nothing => {}
-        Step::Wait(seconds) => play.wait(seconds),
-        Step::Entries(count) => play.want(rt, count)?,
-        Step::Anew => {
-            let part = difference_anew(alloc, plain.journal(), above)?;
-            play.note(rt, part)?;
+        Step::Nothing => Ok(()),
+        Step::Wait(seconds) => {
+            play.wait(seconds);
+            Ok(())
         }
-        Step::Load(load) => send_load(rt, alloc, fast, plain, play, load)?,
-        Step::Interleave(load) => tell_interleaved(rt, alloc, load)?,
-        Step::Timed(session, moment, line) => {
-            play.session = session;
-            play.moment = moment;
-            ask(rt, alloc, fast, plain, play, line)?;
+        Step::Entries(count) => Ok(play.want(rt, count)?),
+        Step::Anew => take_anew(rt, plain, play),
+        Step::Load(load) => send_load(rt, fast, plain, play, load),
+        Step::Interleave(load) => Ok(tell_interleaved(rt, plain.alloc, load)?),
+        Step::Timed(sender, line) => {
+            play.sender = sender;
+            ask(rt, fast, plain, play, line)
         }
-        Step::Ask(line) => ask(rt, alloc, fast, plain, play, line)?,
+        Step::Ask(line) => ask(rt, fast, plain, play, line),
     }
-    Ok(())
 }
 
 /// Plays the lines of a row, and compares the journals at their end.
 fn play_lines<R: Print>(
     rt: &R,
-    alloc: Global,
     fast: &mut OneDesk<'_>,
-    plain: &mut PlainDesk<'_>,
+    plain: &PlainDesk<'_>,
     play: &mut Play,
-    row: &Row<'_>,
+    lines: &str,
 ) -> Result<(), Fault> {
-    for line in row.lines.lines() {
-        play_line(rt, alloc, fast, plain, play, row.above, line)?;
+    for line in lines.lines() {
+        play_line(rt, fast, plain, play, line)?;
     }
-    let part = journals_differ(alloc, fast, plain)?;
+    let part = journals_differ(plain.alloc, fast, &play.journal)?;
     play.note(rt, part)?;
     Ok(())
 }
 
-/// Plays a row on the plain desk and on one over a book.
+/// Plays lines on the plain desk and on one over a book.
 fn play_over<R: Print>(
     rt: &R,
-    alloc: Global,
-    users: &UserTable,
+    plain: &PlainDesk<'_>,
     book: &mut Book<MapMachine>,
-    plain: &mut PlainDesk<'_>,
     play: &mut Play,
-    row: &Row<'_>,
+    lines: &str,
 ) -> Result<(), Fault> {
-    let mut fast = OneDesk::new(alloc, book, users, 0)?;
-    play_lines(rt, alloc, &mut fast, plain, play, row)
+    match OneDesk::new(plain.alloc, book, plain.users, 0) {
+        Ok(mut fast) => play_lines(rt, &mut fast, plain, play, lines),
+        Err(why) => Err(Fault::from(why)),
+    }
 }
 
-/// Plays a row on a plain desk without entries and on an empty map, and tells how much was played.
+fn play_on_empty<R: Print>(
+    rt: &R,
+    plain: &PlainDesk<'_>,
+    play: &mut Play,
+    lines: &str,
+) -> Result<(), Fault> {
+    let mut book = Book::<MapMachine>::new(plain.alloc);
+    play_over(rt, plain, &mut book, play, lines)
+}
+
+/// Plays a row, its name and then its lines, on empty maps, and tells how much was played.
 pub fn play_row<R: Print>(
     rt: &R,
-    alloc: Global,
-    users: &UserTable,
-    plain: &mut PlainDesk<'_>,
+    plain: &PlainDesk<'_>,
     play: &mut Play,
-    row: &Row<'_>,
+    row: &str,
 ) -> Result<(), Fault> {
-    play.begin();
-    let mut book = Book::<MapMachine>::new(alloc);
-    play_over(rt, alloc, users, &mut book, plain, play, row)?;
-    play.tell(rt, row.name)?;
+    let (name, lines) = row.split_once('\n').unwrap_or((row, ""));
+    play.begin(plain.alloc);
+    play_on_empty(rt, plain, play, lines)?;
+    play.tell(rt, name)?;
     Ok(())
 }

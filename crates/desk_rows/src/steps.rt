@@ -1,4 +1,5 @@
 //! The lines of a row.
+use crate::desks::Sender;
 use crate::faults::Fault;
 use row_lines::{number, word_of};
 
@@ -17,7 +18,7 @@ pub enum Step<'a> {
     /// It is played as events.
     Interleave((u32, u32)),
     /// A request at that session and moment.
-    Timed(u32, u64, &'a str),
+    Timed(Sender, &'a str),
     /// A request.
     Ask(&'a str),
 }
@@ -66,7 +67,8 @@ fn request_of(line: &str) -> Result<Step<'_>, Fault> {
         return Ok(Step::Ask(line));
     };
     let (moment, request) = word_of(rest);
-    Ok(Step::Timed(session, number(moment)?, request))
+    let moment = number(moment)?;
+    Ok(Step::Timed(Sender { session, moment }, request))
 }
 
 impl Step<'_> {

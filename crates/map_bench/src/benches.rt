@@ -1,15 +1,15 @@
 //! One map with its journal, on which orders are followed.
-use crate::orders::{Order, Work};
+use crate::orders::{Order, Reading, Work};
 use crate::reads::{query_of, rows_of};
 use crate::replays::replay;
-use api_desk::{Asked, MapMachine};
-use hub_core::{Book, NoOutlet};
+use api_desk::{Asked, Look, MapMachine};
+use hub_core::{Book, Done, NoOutlet};
 use machine_law::{Machine, Tag};
-use osm_base::{CHANGE_LIMIT, Kind, Steps, Text, TryCopy, User};
+use osm_base::{CHANGE_LIMIT, Kind, Memory, Steps, Text, TryCopy, User};
 use osm_change::Change;
 use osm_element::Tags;
 use osm_json::read_change;
-use osm_model::Command;
+use osm_model::{Command, Query};
 use osm_world::World;
 use std::alloc::Global;
 use std::sync::ledger::Ledger;
@@ -70,19 +70,32 @@ impl Bench {
 
     /// Commits a command as the session's next call, and gives how many bytes its answer has.
     fn commit<L: Ledger>(&mut self, command: Command, steps: &mut Steps<L>) -> Option<usize> {
+        match self.user.copy(self.alloc) {
+            Ok(user) => self.plan(Asked { user, command }, steps),
+            Err(Memory) => None,
+        }
+    }
+
+    fn plan<L: Ledger>(&mut self, asked: Asked, steps: &mut Steps<L>) -> Option<usize> {
+        match MapMachine::plan(self.alloc, self.book.world(), asked, steps) {
+            Ok(plan) => self.commit_plan(plan, steps),
+            Err(Memory) => None,
+        }
+    }
+
+    fn commit_plan<L: Ledger>(
+        &mut self,
+        plan: <MapMachine as Machine>::Plan,
+        steps: &mut Steps<L>,
+    ) -> Option<usize> {
         let tag = Tag {
             session: SESSION,
             call: self.book.calls(SESSION).checked_add(1)?,
         };
-        let user = self.user.copy(self.alloc).ok()?;
-        let asked = Asked { user, command };
-        let plan = MapMachine::plan(self.alloc, self.book.world(), asked, steps).ok()?;
-        let done = self
-            .book
-            .commit(plan, MOMENT, tag, &mut NoOutlet, steps)
-            .ok()?;
-        let _ = done.place?;
-        Some(done.answer.as_slice().len())
+        match self.book.commit(plan, MOMENT, tag, &mut NoOutlet, steps) {
+            Ok(done) => bytes_of(&done),
+            Err(_) => None,
+        }
     }
 
     /// Sees to it that the changeset takes so many operations more, if any does.
@@ -105,15 +118,27 @@ impl Bench {
         Some(bytes)
     }
 
-    fn commit_next<L: Ledger>(&mut self, steps: &mut Steps<L>) -> Option<usize> {
-        let sent = self.load.next_request(self.alloc).ok()??;
-        let request = sent.bytes.as_slice();
-        let body = &request[request.len().saturating_sub(BODY_LENGTH)..];
+    fn commit_body<L: Ledger>(&mut self, body: &[u8], steps: &mut Steps<L>) -> Option<usize> {
         self.commit_change(change_of(self.alloc, body)?, steps)
+    }
+
+    fn commit_next<L: Ledger>(&mut self, steps: &mut Steps<L>) -> Option<usize> {
+        match self.load.next_request(self.alloc) {
+            Ok(Some(sent)) => self.commit_body(body_of(sent.bytes.as_slice()), steps),
+            _ => None,
+        }
     }
 
     fn copied(&self) -> Option<Change> {
         self.change.as_ref()?.copy(self.alloc).ok()
+    }
+
+    fn commit_copy<L: Ledger>(&mut self, steps: &mut Steps<L>) -> Option<usize> {
+        self.commit_change(self.copied()?, steps)
+    }
+
+    fn copy(&self) -> Option<usize> {
+        Some(self.copied()?.len() as usize)
     }
 
     /// Judges the change of the last body, and gives how many operations it has.
@@ -123,42 +148,61 @@ impl Bench {
             changeset: self.changeset,
             change: self.change.as_ref()?,
         };
-        match judge_upload(self.alloc, self.world(), &cmd, MOMENT, steps).ok()? {
-            Outcome::Accepted { rows, .. } => Some(rows.len()),
-            Outcome::Refused(_) => None,
+        match judge_upload(self.alloc, self.world(), &cmd, MOMENT, steps) {
+            Ok(outcome) => accepted(&outcome),
+            Err(_) => None,
+        }
+    }
+
+    /// Applies all entries to a second map, and gives how many they are.
+    fn replay(&self) -> Option<usize> {
+        let entries = self.book.journal();
+        match replay::<MapMachine>(self.alloc, entries) {
+            Ok(()) => Some(entries.len()),
+            Err(Memory) => None,
+        }
+    }
+
+    /// Makes the whole answer of a read, and gives how many bytes it has.
+    fn answer<L: Ledger>(&self, query: &Query, steps: &mut Steps<L>) -> Option<usize> {
+        match MapMachine::ask(self.alloc, self.book.world(), query, MOMENT, steps) {
+            Ok(answer) => Some(answer.as_slice().len()),
+            Err(Memory) => None,
+        }
+    }
+
+    fn rows<L: Ledger>(&self, reading: Reading, turn: u32, steps: &mut Steps<L>) -> Option<usize> {
+        match query_of(self.alloc, reading, turn, self.node_count()) {
+            Some(query) => rows_of(self.alloc, self.world(), &query, steps),
+            None => None,
+        }
+    }
+
+    fn bytes<L: Ledger>(&self, reading: Reading, turn: u32, steps: &mut Steps<L>) -> Option<usize> {
+        match query_of(self.alloc, reading, turn, self.node_count()) {
+            Some(query) => self.answer(&query, steps),
+            None => None,
         }
     }
 
     /// Does a work once, and gives how many elements, operations or bytes came of it.
     fn do_once<L: Ledger>(&mut self, work: Work, turn: u32, steps: &mut Steps<L>) -> Option<usize> {
-        let alloc = self.alloc;
         match work {
             Work::Load => self.commit_next(steps),
-            Work::Commit => self.commit_change(self.copied()?, steps),
+            Work::Commit => self.commit_copy(steps),
             Work::Judge => self.judge(steps),
-            Work::Copy => Some(self.copied()?.len() as usize),
-            Work::Replay => {
-                replay::<MapMachine>(alloc, self.book.journal()).ok()?;
-                Some(self.book.journal().len())
-            }
-            Work::Rows(reading) => {
-                let query = query_of(alloc, reading, turn, self.node_count())?;
-                rows_of(alloc, self.world(), &query, steps)
-            }
-            Work::Bytes(reading) => {
-                let query = query_of(alloc, reading, turn, self.node_count())?;
-                let answer = MapMachine::ask(alloc, self.book.world(), &query, MOMENT, steps).ok()?;
-                Some(answer.as_slice().len())
-            }
+            Work::Copy => self.copy(),
+            Work::Replay => self.replay(),
+            Work::Rows(reading) => self.rows(reading, turn, steps),
+            Work::Bytes(reading) => self.bytes(reading, turn, steps),
         }
     }
 
     /// Keeps the change of a body, and sees to it that the open changeset takes it.
     fn keep<L: Ledger>(&mut self, text: &str, steps: &mut Steps<L>) -> Option<usize> {
-        let change = change_of(self.alloc, text.as_bytes())?;
-        let operations = change.len();
+        self.change = change_of(self.alloc, text.as_bytes());
+        let operations = self.change.as_ref()?.len();
         self.make_way(u64::from(operations), steps)?;
-        self.change = Some(change);
         Some(operations as usize)
     }
 
@@ -177,6 +221,25 @@ impl Bench {
         }
         Some(total)
     }
+}
+
+/// How many bytes the answer of a command has that was accepted.
+fn bytes_of(done: &Done<Look>) -> Option<usize> {
+    let _ = done.place?;
+    Some(done.answer.as_slice().len())
+}
+
+/// How many operations an upload has that is accepted.
+fn accepted(outcome: &Outcome) -> Option<usize> {
+    match outcome {
+        Outcome::Accepted { rows, .. } => Some(rows.len()),
+        Outcome::Refused(_) => None,
+    }
+}
+
+/// The body that a request of the load ends with.
+fn body_of(request: &[u8]) -> &[u8] {
+    &request[request.len().saturating_sub(BODY_LENGTH)..]
 }
 
 /// The uploads of a load. Its first request, which creates a changeset, is passed over.

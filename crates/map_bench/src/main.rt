@@ -34,8 +34,8 @@ fn follow_lines<R: Input + Print, L: Ledger>(
     steps: &mut Steps<L>,
 ) -> io::Result<bool> {
     for line in rt.lines(alloc) {
-        let line = line?;
-        match follow_line(bench, line.as_str(), steps) {
+        let came = follow_line(bench, line?.as_str(), steps);
+        match came {
             Some(total) => println!(rt; "{total}")?,
             None => {
                 println!(rt; "not followed")?;

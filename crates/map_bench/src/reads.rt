@@ -55,12 +55,18 @@ pub fn rows_of<L: Ledger>(
     steps: &mut Steps<L>,
 ) -> Option<usize> {
     match query {
-        Query::One { key } => {
-            let _ = one(world, *key).ok()?;
-            Some(1)
-        }
-        Query::Many { kind, ids } => Some(many(alloc, world, *kind, ids.items()).ok()?.len()),
-        Query::Map { within } => Some(map(alloc, world, *within, steps).ok()?.nodes.len()),
+        Query::One { key } => match one(world, *key) {
+            Ok(_) => Some(1),
+            Err(_) => None,
+        },
+        Query::Many { kind, ids } => match many(alloc, world, *kind, ids.items()) {
+            Ok(rows) => Some(rows.len()),
+            Err(_) => None,
+        },
+        Query::Map { within } => match map(alloc, world, *within, steps) {
+            Ok(selection) => Some(selection.nodes.len()),
+            Err(_) => None,
+        },
         _ => None,
     }
 }

@@ -1,6 +1,5 @@
 //! Bytes in a line of text.
 use crate::faults::RowFault;
-use std::alloc::Global;
 
 /// Where the reading of an escape stands.
 #[derive(Clone, Copy)]
@@ -22,52 +21,41 @@ fn hex(byte: u8) -> Result<u8, RowFault> {
     }
 }
 
-/// The byte that comes of the next one, where one does, and where the reading stands behind it.
-fn escaped(escape: Escape, byte: u8) -> Result<(Option<u8>, Escape), RowFault> {
-    match (escape, byte) {
-        (Escape::Outside, b'\\') => Ok((None, Escape::Begun)),
-        (Escape::Outside, _) => Ok((Some(byte), Escape::Outside)),
-        (Escape::Begun, b'r') => Ok((Some(b'\r'), Escape::Outside)),
-        (Escape::Begun, b'n') => Ok((Some(b'\n'), Escape::Outside)),
-        (Escape::Begun, b't') => Ok((Some(b'\t'), Escape::Outside)),
-        (Escape::Begun, b'\\') => Ok((Some(b'\\'), Escape::Outside)),
-        (Escape::Begun, b'x') => Ok((None, Escape::Hex)),
-        (Escape::Begun, _) => Err(RowFault::Unread),
-        (Escape::Hex, _) => Ok((None, Escape::Digit(hex(byte)?))),
-        (Escape::Digit(high), _) => {
-            Ok((Some(high.wrapping_mul(16) | hex(byte)?), Escape::Outside))
+/// The byte behind a backslash and the one that it stands for.
+const SHORT: [(u8, u8); 4] = [(b'r', b'\r'), (b'n', b'\n'), (b't', b'\t'), (b'\\', b'\\')];
+
+fn short(byte: u8) -> Result<u8, RowFault> {
+    for (letter, meant) in SHORT {
+        if letter == byte {
+            return Ok(meant);
         }
     }
+    Err(RowFault::Unread)
 }
 
-/// The bytes of a text with the escapes `\r`, `\n`, `\t`, `\\` and `\xHH`.
-pub fn unescaped(alloc: Global, text: &str) -> Result<Vec<u8>, RowFault> {
-    let mut made = Vec::new(alloc);
+/// Adds the byte that comes of the next one, where one does, and says where the reading stands behind
+/// it.
+fn add_escaped(made: &mut Vec<u8>, escape: Escape, byte: u8) -> Result<Escape, RowFault> {
+    let came = match escape {
+        Escape::Outside if byte == b'\\' => return Ok(Escape::Begun),
+        Escape::Outside => byte,
+        Escape::Begun if byte == b'x' => return Ok(Escape::Hex),
+        Escape::Begun => short(byte)?,
+        Escape::Hex => return Ok(Escape::Digit(hex(byte)?)),
+        Escape::Digit(high) => high.wrapping_mul(16) | hex(byte)?,
+    };
+    made.push(came)?;
+    Ok(Escape::Outside)
+}
+
+/// Adds the bytes of a text with the escapes `\r`, `\n`, `\t`, `\\` and `\xHH`.
+pub fn add_unescaped(made: &mut Vec<u8>, text: &str) -> Result<(), RowFault> {
     let mut escape = Escape::Outside;
     for byte in text.as_bytes() {
-        let (came, next) = escaped(escape, *byte)?;
-        if let Some(came) = came {
-            made.push(came)?;
-        }
-        escape = next;
+        escape = add_escaped(made, escape, *byte)?;
     }
     match escape {
-        Escape::Outside => Ok(made),
+        Escape::Outside => Ok(()),
         _ => Err(RowFault::Unread),
     }
-}
-
-/// Bytes as a line of text, in which a backslash begins an escape.
-pub fn shown(alloc: Global, bytes: &[u8]) -> Result<String, RowFault> {
-    let mut text = String::new(alloc);
-    for byte in bytes {
-        match *byte {
-            b'\r' => text.push_str("\\r")?,
-            b'\n' => text.push_str("\\n")?,
-            b'\\' => text.push_str("\\\\")?,
-            b' '..=b'~' => text.push(char::from(*byte))?,
-            other => text.push_str(format!(in alloc; "\\x{other:02x}")?.as_str())?,
-        }
-    }
-    Ok(text)
 }

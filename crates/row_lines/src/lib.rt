@@ -7,7 +7,7 @@ mod faults;
 mod lines;
 mod wire;
 
-pub use escapes::{shown, unescaped};
+pub use escapes::add_unescaped;
 pub use faults::RowFault;
-pub use lines::{number, numbered, word_of, written_out};
-pub use wire::{reply, request};
+pub use lines::{add_numbered, add_written_out, number, word_of};
+pub use wire::{add_reply, add_request};

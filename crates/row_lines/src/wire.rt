@@ -1,6 +1,7 @@
 //! The bytes of requests and replies.
 use crate::faults::RowFault;
-use std::alloc::Global;
+use crate::lines::word_of;
+use itoa::Buffer;
 
 /// The fields that tell who asks.
 const TOKENS: [(&str, &str); 5] = [
@@ -29,6 +30,14 @@ const REASONS: [(&str, &str); 14] = [
     ("503", "Service Unavailable"),
 ];
 
+/// What stands between the first line of a reply and its length.
+const TYPE: &str = "Content-Type: application/json\r\nContent-Length: ";
+
+/// What stands behind the length of a reply, and the same where the link is closed.
+const KEPT: &str = "\r\n\r\n";
+
+const CLOSE: &str = "\r\nConnection: close\r\n\r\n";
+
 /// What a table has beside a word.
 fn looked_up(table: &[(&'static str, &'static str)], word: &str) -> Result<&'static str, RowFault> {
     for (name, text) in table {
@@ -39,48 +48,58 @@ fn looked_up(table: &[(&'static str, &'static str)], word: &str) -> Result<&'sta
     Err(RowFault::Unread)
 }
 
-/// What stands behind the fields of a request: its length and its body, where it has one.
-fn ending(alloc: Global, body: &str) -> Result<String, RowFault> {
-    let length = body.len();
-    if length == 0 {
-        return Ok(String::from_str(alloc, "\r\n")?);
+/// Adds the texts one behind the other.
+fn add_all(made: &mut Vec<u8>, texts: &[&str]) -> Result<(), RowFault> {
+    for text in texts {
+        made.extend_from_slice(text.as_bytes())?;
     }
-    Ok(format!(in alloc; "Content-Length: {length}\r\n\r\n{body}")?)
+    Ok(())
 }
 
-/// The first line of a request.
-fn request_line(alloc: Global, method: &str, path: &str) -> Result<String, RowFault> {
-    Ok(format!(in alloc; "{method} /api/0.6/{path} HTTP/1.1\r\n")?)
+fn add_number(made: &mut Vec<u8>, number: usize) -> Result<(), RowFault> {
+    let mut digits = Buffer::new();
+    made.extend_from_slice(digits.format(number).as_bytes())?;
+    Ok(())
 }
 
-/// The bytes of a request line, with these fields before the caller's: `CALLER METHOD PATH`, and
+/// Adds the last field of a request and what stands behind it: its length and its body, where it has
+/// one.
+fn add_ending(made: &mut Vec<u8>, field: &str, body: &str) -> Result<(), RowFault> {
+    if body.is_empty() {
+        return add_all(made, &[field, "\r\n"]);
+    }
+    add_all(made, &[field, "Content-Length: "])?;
+    add_number(made, body.len())?;
+    add_all(made, &["\r\n\r\n", body])
+}
+
+/// Adds the bytes of a request line, with these fields before the caller's: `CALLER METHOD PATH`, and
 /// perhaps a body.
-pub fn request(alloc: Global, fields: &[u8], line: &str) -> Result<Vec<u8>, RowFault> {
-    let (caller, rest) = line.split_once(' ').ok_or(RowFault::Unread)?;
-    let (method, rest) = rest.split_once(' ').ok_or(RowFault::Unread)?;
-    let (path, body) = rest.split_once(' ').unwrap_or((rest, ""));
+pub fn add_request(made: &mut Vec<u8>, fields: &[u8], line: &str) -> Result<(), RowFault> {
+    let (caller, rest) = word_of(line);
+    let (method, rest) = word_of(rest);
+    let (path, body) = word_of(rest);
     let token = looked_up(&TOKENS, caller)?;
-    let start = request_line(alloc, method, path)?;
-    let end = ending(alloc, body)?;
-    let mut made = start.into_bytes();
+    add_all(made, &[method, " /api/0.6/", path, " HTTP/1.1\r\n"])?;
     made.extend_from_slice(fields)?;
-    made.extend_from_slice(token.as_bytes())?;
-    made.extend_from_slice(end.as_bytes())?;
-    Ok(made)
+    add_ending(made, token, body)
 }
 
-/// The bytes of a reply line: `STATUS BODY`, or `STATUS close BODY` where the link is closed.
-pub fn reply(alloc: Global, line: &str) -> Result<Vec<u8>, RowFault> {
-    let (status, rest) = line.split_once(' ').ok_or(RowFault::Unread)?;
-    let (connection, body) = match rest.strip_prefix("close ") {
-        Some(body) => ("Connection: close\r\n", body),
-        None => ("", rest),
-    };
+/// Adds the first line of a reply, and what stands before its length.
+fn add_start(made: &mut Vec<u8>, status: &str, reason: &str) -> Result<(), RowFault> {
+    add_all(made, &["HTTP/1.1 ", status, " ", reason, "\r\n", TYPE])
+}
+
+/// Adds the bytes of a reply line: `STATUS BODY`, or `STATUS close BODY` where the link is closed.
+pub fn add_reply(made: &mut Vec<u8>, line: &str) -> Result<(), RowFault> {
+    let (status, rest) = word_of(line);
+    let body = rest.strip_prefix("close ").unwrap_or(rest);
+    let is_kept = body.len() == rest.len();
     let reason = looked_up(&REASONS, status)?;
-    let length = body.len();
-    let head = "Content-Type: application/json\r\nContent-Length: ";
-    let text = format!(in alloc;
-        "HTTP/1.1 {status} {reason}\r\n{head}{length}\r\n{connection}\r\n{body}"
-    )?;
-    Ok(text.into_bytes())
+    add_start(made, status, reason)?;
+    add_number(made, body.len())?;
+    let end = if is_kept { KEPT } else { CLOSE };
+    made.extend_from_slice(end.as_bytes())?;
+    made.extend_from_slice(body.as_bytes())?;
+    Ok(())
 }

@@ -1,5 +1,5 @@
 -- Entries of a journal where they stand.
-use Rattle.std.proofs.Common.{◌≡◌, ℕ, zero, suc, ◌+◌, ◌<◌, ◌≤◌, Bool, true, false, List, [], ◌∷◌, length, take, get_or, refl, ap, ◌∙◌, arith}
+use Rattle.std.proofs.Common.{◌≡◌, ℕ, zero, suc, ◌<◌, Bool, true, false, List, [], ◌∷◌, length, take, get_or, refl, ap, ◌∙◌, arith}
 use Rattle.std.specs.Prelude.{fold, ◌&&◌}
 use Rattle.osm_model.specs.Answered.{map_at}
 use Rattle.osm_model.specs.Journal.{IsLegal, after, is_legal_from, takes}

@@ -81,6 +81,16 @@ impl<'a> Anew<'a> {
         }
         Ok(())
     }
+
+    /// The first part in which the map differs from the plain one once it has taken all entries.
+    fn difference(
+        &mut self,
+        alloc: Global,
+        others: &[Entry],
+    ) -> Result<Option<&'static str>, Memory> {
+        self.take_all(alloc, others)?;
+        difference(alloc, self.journal.state(), &self.world)
+    }
 }
 
 /// The first part in which an empty map that takes all entries of a journal differs from the plain one
@@ -91,6 +101,5 @@ pub fn difference_anew(
     others: &[Entry],
 ) -> Result<Option<&'static str>, Memory> {
     let mut anew = Anew::of(alloc, journal);
-    anew.take_all(alloc, others)?;
-    difference(alloc, journal.state(), &anew.world)
+    anew.difference(alloc, others)
 }

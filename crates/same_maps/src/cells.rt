@@ -1,6 +1,6 @@
 //! Whether the nodes of each cell are those that lie there on the plain map.
 use osm_base::{Box7, Coord, Key, Kind, Memory};
-use osm_element::{Content, Elements};
+use osm_element::{Content, Elements, Version};
 use osm_world::World;
 use std::alloc::Global;
 use tile_grid::Cell;
@@ -65,7 +65,11 @@ impl Cells {
             self.now.push(place_of(at, id))?;
             self.visible.push(id)?;
         }
-        for version in elements.history(node) {
+        self.note_versions(elements.history(node))
+    }
+
+    fn note_versions(&mut self, history: &[Version]) -> Result<(), Memory> {
+        for version in history {
             if let Some(Content::Node(at)) = &version.content {
                 self.ever.push(place_of(*at, 0))?;
             }
@@ -117,12 +121,15 @@ fn is_each_cell_same(alloc: Global, cells: &Cells, world: &World) -> Result<bool
 
 /// Whether the nodes from a place on are these, in that cell.
 fn are_here(now: &[Lying], place: usize, cell: Lying, ids: &[u64]) -> bool {
-    place.saturating_add(ids.len()) <= now.len()
-        && now
-            .iter()
-            .skip(place)
-            .zip(ids.iter())
-            .all(|(due, id)| *due == Lying { id: *id, ..cell })
+    if place.saturating_add(ids.len()) > now.len() {
+        return false;
+    }
+    for (due, id) in now.iter().skip(place).zip(ids.iter()) {
+        if *due != (Lying { id: *id, ..cell }) {
+            return false;
+        }
+    }
+    true
 }
 
 /// The box of a cell's size that begins so far above and beside its lower left corner.

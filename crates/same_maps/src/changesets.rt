@@ -1,46 +1,44 @@
 //! Whether the changesets and the redactions of both maps are the same.
 use crate::histories::are_tags_same;
-use changeset_core::{Changeset, ChangesetRecord};
+use crate::same::{Same, are_same};
+use changeset_core::{Changeset, ChangesetRecord, Work};
 use osm_base::Text;
 
 pub fn are_changesets_same(plain: &[ChangesetRecord], came: &[Changeset]) -> bool {
-    plain.len() == came.len()
-        && plain
-            .iter()
-            .zip(came.iter())
-            .all(|(a, b)| is_changeset_same(a, b))
-        && came
-            .iter()
-            .enumerate()
-            .all(|(place, b)| b.id() == place as u64 + 1)
+    are_same(plain, came) && are_in_order(came)
 }
 
-fn is_changeset_same(plain: &ChangesetRecord, came: &Changeset) -> bool {
-    plain.owner.id == came.owner().id
-        && plain.owner.name.as_str() == came.owner().name.as_str()
-        && are_tags_same(&plain.tags, came.tags())
-        && plain.created == came.created()
-        && plain.touched == came.touched()
-        && plain.closed_at(came.closes()) == Some(came.closes())
-        && is_work_same(plain, came)
+fn are_in_order(came: &[Changeset]) -> bool {
+    for (place, changeset) in came.iter().enumerate() {
+        if changeset.id() != place as u64 + 1 {
+            return false;
+        }
+    }
+    true
 }
 
-fn is_work_same(plain: &ChangesetRecord, came: &Changeset) -> bool {
-    let done = plain.did.items();
-    let did = came.did();
-    came.count() == done.len() as u64
-        && done.len() == did.len()
-        && done
-            .iter()
-            .zip(did.iter())
-            .all(|(a, b)| a.key.is(b.key) && a.version == b.version)
+impl Same<Changeset> for ChangesetRecord {
+    fn is_same(&self, other: &Changeset) -> bool {
+        self.owner.id == other.owner().id
+            && self.owner.name.as_str() == other.owner().name.as_str()
+            && are_tags_same(&self.tags, other.tags())
+            && self.created == other.created()
+            && self.touched == other.touched()
+            && self.closed_at(other.closes()) == Some(other.closes())
+            && other.count() == self.did.items().len() as u64
+            && are_same(self.did.items(), other.did())
+    }
 }
 
-/// Titles of redactions.
-pub fn are_texts_same(plain: &[Text], came: &[Text]) -> bool {
-    plain.len() == came.len()
-        && plain
-            .iter()
-            .zip(came.iter())
-            .all(|(a, b)| a.as_str() == b.as_str())
+impl Same<Work> for Work {
+    fn is_same(&self, other: &Work) -> bool {
+        self.key.is(other.key) && self.version == other.version
+    }
+}
+
+/// A title of a redaction.
+impl Same<Text> for Text {
+    fn is_same(&self, other: &Text) -> bool {
+        self.as_str() == other.as_str()
+    }
 }

@@ -1,8 +1,9 @@
 //! Whether the indexed map is the plain one, part by part.
 use crate::cells::{Cells, are_cells_same};
-use crate::changesets::{are_changesets_same, are_texts_same};
+use crate::changesets::are_changesets_same;
 use crate::histories::are_histories_same;
 use crate::maps::are_maps_same;
+use crate::same::are_same;
 use crate::users::are_users_same;
 use osm_base::Memory;
 use osm_model::State;
@@ -24,7 +25,7 @@ pub fn difference(
     if !are_changesets_same(state.changesets.items(), world.changesets()) {
         return Ok(Some("changesets"));
     }
-    if !are_texts_same(state.redactions.items(), world.redactions().titles()) {
+    if !are_same(state.redactions.items(), world.redactions().titles()) {
         return Ok(Some("redactions"));
     }
     if !are_users_same(alloc, &state.elements, world)? {

@@ -1,4 +1,5 @@
 //! Whether the histories of both maps are the same.
+use crate::same::{Same, are_same};
 use osm_base::{Key, Kind};
 use osm_element::{Content, Elements, Member, Tags, Version};
 use osm_world::World;
@@ -7,9 +8,12 @@ const KINDS: [Kind; 3] = [Kind::Node, Kind::Way, Kind::Relation];
 
 /// Of each id that was given, and of the two at the ends of these that weren't.
 pub fn are_histories_same(elements: &Elements, world: &World) -> bool {
-    KINDS
-        .iter()
-        .all(|kind| are_kinds_same(elements, world, *kind))
+    for kind in KINDS {
+        if !are_kinds_same(elements, world, kind) {
+            return false;
+        }
+    }
+    true
 }
 
 fn are_kinds_same(elements: &Elements, world: &World, kind: Kind) -> bool {
@@ -20,27 +24,21 @@ fn are_kinds_same(elements: &Elements, world: &World, kind: Kind) -> bool {
     }
     for id in 0..next {
         let key = Key { kind, id };
-        if !are_versions_same(elements.history(key), store.history(key)) {
+        if !are_same(elements.history(key), store.history(key)) {
             return false;
         }
     }
     store.history(Key { kind, id: next }).is_empty()
 }
 
-fn are_versions_same(plain: &[Version], came: &[Version]) -> bool {
-    plain.len() == came.len()
-        && plain
-            .iter()
-            .zip(came.iter())
-            .all(|(a, b)| is_version_same(a, b))
-}
-
-fn is_version_same(plain: &Version, came: &Version) -> bool {
-    plain.changeset == came.changeset
-        && plain.stamp == came.stamp
-        && plain.redaction == came.redaction
-        && are_tags_same(&plain.tags, &came.tags)
-        && is_content_same(&plain.content, &came.content)
+impl Same<Version> for Version {
+    fn is_same(&self, other: &Version) -> bool {
+        self.changeset == other.changeset
+            && self.stamp == other.stamp
+            && self.redaction == other.redaction
+            && are_tags_same(&self.tags, &other.tags)
+            && is_content_same(&self.content, &other.content)
+    }
 }
 
 fn is_content_same(plain: &Option<Content<u64>>, came: &Option<Content<u64>>) -> bool {
@@ -49,22 +47,18 @@ fn is_content_same(plain: &Option<Content<u64>>, came: &Option<Content<u64>>) ->
         (Some(Content::Node(at)), Some(Content::Node(other))) => *at == *other,
         (Some(Content::Way(nodes)), Some(Content::Way(others))) => nodes.items() == others.items(),
         (Some(Content::Relation(members)), Some(Content::Relation(others))) => {
-            are_members_same(members.items(), others.items())
+            are_same(members.items(), others.items())
         }
         _ => false,
     }
 }
 
-fn are_members_same(plain: &[Member<u64>], came: &[Member<u64>]) -> bool {
-    plain.len() == came.len()
-        && plain
-            .iter()
-            .zip(came.iter())
-            .all(|(a, b)| is_member_same(a, b))
-}
-
-fn is_member_same(plain: &Member<u64>, came: &Member<u64>) -> bool {
-    plain.kind.is(came.kind) && plain.name == came.name && plain.role.as_str() == came.role.as_str()
+impl Same<Member<u64>> for Member<u64> {
+    fn is_same(&self, other: &Member<u64>) -> bool {
+        self.kind.is(other.kind)
+            && self.name == other.name
+            && self.role.as_str() == other.role.as_str()
+    }
 }
 
 pub fn are_tags_same(plain: &Tags, came: &Tags) -> bool {

@@ -8,6 +8,7 @@ mod changesets;
 mod compared;
 mod histories;
 mod maps;
+mod same;
 mod users;
 
 pub use anew::difference_anew;

@@ -56,15 +56,30 @@ fn is_map_same<L: Ledger>(
     within: Box7,
     steps: &mut Steps<L>,
 ) -> Result<bool, Memory> {
-    let plain = plain_ask(alloc, state, 0, &Query::Map { within })?;
-    let came = match map(alloc, world, within, steps) {
-        Ok(came) => came,
-        Err(MapFault::Memory) => return Err(Memory),
-        Err(_) => return Ok(false),
-    };
+    match map(alloc, world, within, steps) {
+        Ok(came) => is_plain_map(alloc, state, within, &came),
+        Err(MapFault::Memory) => Err(Memory),
+        Err(_) => Ok(false),
+    }
+}
+
+/// Whether the plain map selects those elements.
+fn is_plain_map(
+    alloc: Global,
+    state: &State,
+    within: Box7,
+    came: &Selection,
+) -> Result<bool, Memory> {
+    match plain_ask(alloc, state, 0, &Query::Map { within }) {
+        Ok(plain) => Ok(is_answered(&plain, came)),
+        Err(Memory) => Err(Memory),
+    }
+}
+
+fn is_answered(plain: &Answer<'_>, came: &Selection) -> bool {
     match plain {
-        Answer::Elements { bounds: _, rows } => Ok(is_selected(rows.items(), &came)),
-        _ => Ok(false),
+        Answer::Elements { bounds: _, rows } => is_selected(rows.items(), came),
+        _ => false,
     }
 }
 
@@ -81,8 +96,10 @@ fn is_selected(rows: &[ElementRow<'_>], selection: &Selection) -> bool {
 }
 
 fn are_ids_at(rows: &[ElementRow<'_>], place: usize, kind: Kind, ids: &[u64]) -> bool {
-    rows.iter()
-        .skip(place)
-        .zip(ids.iter())
-        .all(|(row, id)| row.key.is(Key { kind, id: *id }))
+    for (row, id) in rows.iter().skip(place).zip(ids.iter()) {
+        if !row.key.is(Key { kind, id: *id }) {
+            return false;
+        }
+    }
+    true
 }

@@ -25,12 +25,15 @@ pub fn are_users_same(alloc: Global, elements: &Elements, world: &World) -> Resu
 
 /// Whether the uses from a place on are those of that element by these.
 fn are_due(uses: &[(Key, Key)], place: usize, key: Key, users: &[Key]) -> bool {
-    place.saturating_add(users.len()) <= uses.len()
-        && uses
-            .iter()
-            .skip(place)
-            .zip(users.iter())
-            .all(|(due, user)| *due == (key, *user))
+    if place.saturating_add(users.len()) > uses.len() {
+        return false;
+    }
+    for (due, user) in uses.iter().skip(place).zip(users.iter()) {
+        if *due != (key, *user) {
+            return false;
+        }
+    }
+    true
 }
 
 /// Each element that is used with each that uses it, in order.

@@ -2,6 +2,7 @@
 //! and what must come of them. docs/ROWS.md has the format.
 #![tactic(auto)]
 
+mod pieces;
 mod plays;
 mod rows;
 mod sweeps;

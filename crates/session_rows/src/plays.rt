@@ -3,9 +3,9 @@ use crate::rows::Row;
 use osm_base::Bytes;
 use osm_outside::{MemHost, MemLink};
 use osm_serve::run;
-use row_lines::{RowFault, shown};
+use row_lines::RowFault;
 use std::alloc::Global;
-use std::fmt;
+use std::io;
 
 /// The room for what is written, in bytes, where a row's sweeps don't take less.
 const ROOM: usize = 1_000_000;
@@ -16,145 +16,138 @@ const SHOWN_BEFORE: usize = 120;
 
 const SHOWN: usize = 600;
 
-/// What is special about a run.
-#[derive(Clone, Copy)]
-pub enum Way {
-    Whole,
-    InPieces(usize),
-    CutBehind(usize),
-    EndedBehind(usize),
-    BadRead(usize),
-    BadWrite(usize),
-    WithRoom(usize),
-}
-
-impl fmt::Display for Way {
-    fn fmt<W: fmt::Write>(&self, f: &mut fmt::Formatter<W>) -> fmt::Result {
-        match *self {
-            Way::Whole => write!(f, "as it is"),
-            Way::InPieces(size) => write!(f, "in reads of {size} bytes"),
-            Way::CutBehind(at) => write!(f, "cut behind byte {at}"),
-            Way::EndedBehind(at) => write!(f, "ended behind byte {at}"),
-            Way::BadRead(number) => write!(f, "where read {number} fails"),
-            Way::BadWrite(number) => write!(f, "where write {number} fails"),
-            Way::WithRoom(room) => write!(f, "with room for {room} bytes"),
-        }
-    }
-}
-
 /// A run of a row: what its link is given beside the row's own, and what must come.
-#[derive(Drop)]
+#[derive(Clone, Copy)]
 pub struct Play<'a> {
-    pub way: Way,
+    /// What is special about it, and the number of the byte, read or write where it is so.
+    pub way: &'static str,
+    pub number: usize,
     pub input: &'a [u8],
-    /// The most bytes that each read gives, past the list any number.
-    pub cuts: Vec<usize>,
-    pub bad_reads: Vec<u64>,
-    pub bad_writes: Vec<u64>,
+    /// The most bytes that each of so many reads gives, past these any number.
+    pub cut: usize,
+    pub cut_count: usize,
+    /// The only read and the only write that fails, where these aren't the row's own.
+    pub bad_read: Option<u64>,
+    pub bad_write: Option<u64>,
     pub room: usize,
     pub wanted: &'a [u8],
-    pub status: u8,
+    pub status: u64,
 }
 
 impl<'a> Play<'a> {
-    /// A run with that input in any pieces, with the row's failing calls.
-    pub fn whole(
-        alloc: Global,
-        row: &Row,
-        input: &'a [u8],
-        wanted: &'a [u8],
-    ) -> Result<Play<'a>, RowFault> {
-        Ok(Play {
-            way: Way::Whole,
-            input,
-            cuts: Vec::new(alloc),
-            bad_reads: row.bad_reads.as_slice().to_vec(alloc)?,
-            bad_writes: row.bad_writes.as_slice().to_vec(alloc)?,
+    /// A run with the row's input in any pieces, with the row's failing calls.
+    pub fn whole(row: &'a Row) -> Play<'a> {
+        Play {
+            way: "as it is",
+            number: 0,
+            input: row.requests.all(),
+            cut: 0,
+            cut_count: 0,
+            bad_read: None,
+            bad_write: None,
             room: ROOM,
-            wanted,
+            wanted: row.replies.all(),
             status: row.status,
-        })
+        }
     }
 
-    /// Runs the server, and says what was wrong, where something was.
-    pub fn wrong(self, alloc: Global, row: &Row) -> Result<Option<String>, RowFault> {
-        let Play {
-            way,
-            input,
-            cuts,
-            bad_reads,
-            bad_writes,
-            room,
-            wanted,
-            status,
-        } = self;
-        let link = link_of(alloc, row, input, cuts, bad_reads, bad_writes, room)?;
-        let came = served(alloc, row, link)?;
-        if came.status == status && came.written.as_slice() == wanted {
-            return Ok(None);
+    /// Runs the server, and answers whether what came is what must come. Tells what was wrong.
+    pub fn run<R: Print>(&self, rt: &R, alloc: Global, name: &str, row: &Row) -> io::Result<bool> {
+        match link_of(alloc, row, self) {
+            Ok(mut link) => self.run_on(rt, alloc, name, row, &mut link),
+            Err(why) => self.tell_fault(rt, name, why),
         }
-        Ok(Some(differing(alloc, way, wanted, status, &came)?))
+    }
+
+    fn run_on<R: Print>(
+        &self,
+        rt: &R,
+        alloc: Global,
+        name: &str,
+        row: &Row,
+        link: &mut MemLink,
+    ) -> io::Result<bool> {
+        match served(alloc, row, link) {
+            Ok(status) => self.judge(rt, name, u64::from(status), link.written()),
+            Err(why) => self.tell_fault(rt, name, why),
+        }
+    }
+
+    fn tell_fault<R: Print>(&self, rt: &R, name: &str, why: RowFault) -> io::Result<bool> {
+        println!(rt; "wrong: {name}: {} {}: {why}", self.way, self.number)?;
+        Ok(false)
+    }
+
+    /// Whether what came is what was wanted. Tells both where it isn't.
+    fn judge<R: Print>(&self, rt: &R, name: &str, status: u64, came: &[u8]) -> io::Result<bool> {
+        if status == self.status && came == self.wanted {
+            return Ok(true);
+        }
+        self.tell_difference(rt, name, status, came)?;
+        Ok(false)
+    }
+
+    /// Tells what was wanted and what came, from shortly before the first byte that differs.
+    fn tell_difference<R: Print>(
+        &self,
+        rt: &R,
+        name: &str,
+        status: u64,
+        came: &[u8],
+    ) -> io::Result<()> {
+        let start = same(self.wanted, came).saturating_sub(SHOWN_BEFORE);
+        println!(rt; "wrong: {name}: {} {}", self.way, self.number)?;
+        show(rt, "wanted", self.status, shown(self.wanted, start))?;
+        show(rt, "came", status, shown(came, start))
+    }
+}
+
+fn show<R: Print>(rt: &R, what: &str, status: u64, bytes: &[u8]) -> io::Result<()> {
+    println!(rt; "    {what}: status {status}, {}", bytes.escape_ascii())
+}
+
+/// The numbers of the calls that fail: the one that does in a play, or else the row's.
+fn bad(alloc: Global, usual: &[u64], number: Option<u64>) -> Result<Vec<u64>, RowFault> {
+    match number {
+        Some(number) => Ok(Vec::from_elem(alloc, number, 1)?),
+        None => Ok(usual.to_vec(alloc)?),
     }
 }
 
 /// The link of a run, with the row's clock.
-fn link_of(
-    alloc: Global,
-    row: &Row,
-    input: &[u8],
-    cuts: Vec<usize>,
-    bad_reads: Vec<u64>,
-    bad_writes: Vec<u64>,
-    room: usize,
-) -> Result<MemLink, RowFault> {
-    let input = Bytes::of(alloc, input)?;
+fn link_of(alloc: Global, row: &Row, play: &Play<'_>) -> Result<MemLink, RowFault> {
+    let input = Bytes::of(alloc, play.input)?;
+    let cuts = Vec::from_elem(alloc, play.cut, play.cut_count)?;
     let moments = row.moments.as_slice().to_vec(alloc)?;
-    Ok(MemLink::new(alloc, input, cuts, moments, bad_reads, bad_writes, room)?)
+    let bad_reads = bad(alloc, row.bad_reads.as_slice(), play.bad_read)?;
+    let bad_writes = bad(alloc, row.bad_writes.as_slice(), play.bad_write)?;
+    Ok(MemLink::new(
+        alloc, input, cuts, moments, bad_reads, bad_writes, play.room,
+    )?)
 }
 
-/// What comes of a run: the program's status, and what it wrote.
-#[derive(Drop)]
-struct Came {
-    status: u8,
-    written: Vec<u8>,
-}
-
-/// Runs the server on the link, with the row's words and host.
-fn served(alloc: Global, row: &Row, mut link: MemLink) -> Result<Came, RowFault> {
+/// Runs the server on the link, with the row's words and host, and gives the program's status.
+fn served(alloc: Global, row: &Row, link: &mut MemLink) -> Result<u8, RowFault> {
     let users = Bytes::of(alloc, row.users.as_slice())?;
     let bad_calls = row.bad_calls.as_slice().to_vec(alloc)?;
     let mut host = MemHost::new(users, bad_calls);
-    let status = run(alloc, row.words.as_slice(), &mut host, &mut link);
-    let written = link.written().to_vec(alloc)?;
-    Ok(Came { status, written })
-}
-
-/// What was wanted and what came, from shortly before the first byte that differs.
-fn differing(
-    alloc: Global,
-    way: Way,
-    wanted: &[u8],
-    due: u8,
-    came: &Came,
-) -> Result<String, RowFault> {
-    let status = came.status;
-    let written = came.written.as_slice();
-    let start = same(wanted, written).saturating_sub(SHOWN_BEFORE);
-    let wanted = shown_from(alloc, wanted, start)?;
-    let written = shown_from(alloc, written, start)?;
-    Ok(format!(in alloc;
-        "{way}\n    wanted: status {due}, {wanted}\n    came:   status {status}, {written}"
-    )?)
+    Ok(run(alloc, row.words.as_slice(), &mut host, link))
 }
 
 /// How many bytes are the same at the front of both.
 fn same(wanted: &[u8], came: &[u8]) -> usize {
-    let pairs = wanted.iter().zip(came.iter());
-    pairs.take_while(|(wanted, came)| wanted == came).count()
+    let mut count = 0_usize;
+    for (wanted, came) in wanted.iter().zip(came.iter()) {
+        if wanted != came {
+            break;
+        }
+        count = count.saturating_add(1);
+    }
+    count
 }
 
-/// Some bytes from there on, as a line of text.
-fn shown_from(alloc: Global, bytes: &[u8], start: usize) -> Result<String, RowFault> {
+/// As many bytes from there on as are shown.
+fn shown(bytes: &[u8], start: usize) -> &[u8] {
     let rest = bytes.get(start..).unwrap_or(&[]);
-    shown(alloc, rest.get(..SHOWN).unwrap_or(rest))
+    rest.get(..SHOWN).unwrap_or(rest)
 }

@@ -1,14 +1,16 @@
 //! A row: a session on one link, and what must come of it.
-use row_lines::{RowFault, number, numbered, reply, request, unescaped, written_out};
+use crate::pieces::Pieces;
+use row_lines::{
+    RowFault, add_numbered, add_reply, add_request, add_unescaped, add_written_out, number, word_of,
+};
 use std::alloc::Global;
 
-/// The words of most rows, and those of a row by the link's own clock.
-const WORDS: &str = "osm pipe --users users.txt --at 1700000000";
+/// With what a row begins, where its own lines say nothing else.
+const USUAL: &str =
+    "@words osm pipe --users users.txt --at 1700000000\n@users 1 alicetoken user alice\\n2 bobtoken moderator bob\\n";
 
+/// The words of a row by the link's own clock.
 const WORDS_BY_THE_CLOCK: &str = "osm pipe --users users.txt";
-
-/// The users text of most rows.
-const USERS: &str = "1 alicetoken user alice\n2 bobtoken moderator bob\n";
 
 /// What is played beside the row itself: the same session once more for each of many links.
 #[derive(Clone, Copy)]
@@ -27,6 +29,91 @@ pub enum Sweep {
     Room,
 }
 
+const SWEEPS: [(&str, Sweep); 5] = [
+    ("piece", Sweep::Piece),
+    ("cut", Sweep::Cut),
+    ("end", Sweep::End),
+    ("write", Sweep::Write),
+    ("room", Sweep::Room),
+];
+
+fn sweep_of(text: &str) -> Result<Sweep, RowFault> {
+    for (name, sweep) in SWEEPS {
+        if name == text {
+            return Ok(sweep);
+        }
+    }
+    match text.strip_prefix("read ") {
+        Some(size) => Ok(Sweep::Read(number(size)? as usize)),
+        None => Err(RowFault::Unread),
+    }
+}
+
+/// What a line says whose first word is a mark.
+#[derive(Clone, Copy)]
+enum Mark {
+    Request,
+    Reply,
+    Field,
+    Words,
+    Users,
+    Moments,
+    BadCalls,
+    BadReads,
+    BadWrites,
+    Status,
+    Each,
+}
+
+const MARKS: [(&str, Mark); 11] = [
+    (">", Mark::Request),
+    ("<", Mark::Reply),
+    ("+", Mark::Field),
+    ("@words", Mark::Words),
+    ("@users", Mark::Users),
+    ("@moments", Mark::Moments),
+    ("@bad_calls", Mark::BadCalls),
+    ("@bad_reads", Mark::BadReads),
+    ("@bad_writes", Mark::BadWrites),
+    ("@status", Mark::Status),
+    ("@each", Mark::Each),
+];
+
+fn mark_of(word: &str) -> Option<Mark> {
+    for (name, mark) in MARKS {
+        if name == word {
+            return Some(mark);
+        }
+    }
+    None
+}
+
+/// Puts the words of a text, parted by single spaces, in the place of those; `""` is an empty word.
+fn put_words(words: &mut Vec<String>, alloc: Global, text: &str) -> Result<(), RowFault> {
+    words.clear();
+    for word in text.split(' ') {
+        let word = if word == "\"\"" { "" } else { word };
+        words.push(String::from_str(alloc, word)?)?;
+    }
+    Ok(())
+}
+
+/// Puts the numbers of a text in the place of those.
+fn put_numbers(numbers: &mut Vec<u64>, text: &str) -> Result<(), RowFault> {
+    numbers.clear();
+    for word in text.split(' ') {
+        numbers.push(number(word)?)?;
+    }
+    Ok(())
+}
+
+/// A line that can't be read, and why.
+#[derive(Clone, Copy)]
+pub struct Unread<'a> {
+    pub line: &'a str,
+    pub why: RowFault,
+}
+
 /// What a row's link and host are given, and what must come.
 #[derive(Drop)]
 pub struct Row {
@@ -41,145 +128,129 @@ pub struct Row {
     /// The fields of the next request.
     fields: Vec<u8>,
     /// The bytes of each request, and of each reply that must come.
-    pub requests: Vec<Vec<u8>>,
-    pub replies: Vec<Vec<u8>>,
+    pub requests: Pieces,
+    pub replies: Pieces,
     /// The program's status that must come.
-    pub status: u8,
+    pub status: u64,
     pub sweeps: Vec<Sweep>,
 }
 
-/// The words of a text, parted by single spaces; `""` is an empty word.
-fn words_of(alloc: Global, text: &str) -> Result<Vec<String>, RowFault> {
-    let mut words = Vec::new(alloc);
-    for word in text.split(' ') {
-        let word = if word == "\"\"" { "" } else { word };
-        words.push(String::from_str(alloc, word)?)?;
-    }
-    Ok(words)
-}
-
-fn numbers_of(alloc: Global, text: &str) -> Result<Vec<u64>, RowFault> {
-    let mut numbers = Vec::new(alloc);
-    for word in text.split(' ') {
-        numbers.push(number(word)?)?;
-    }
-    Ok(numbers)
-}
-
-fn sweep_of(text: &str) -> Result<Sweep, RowFault> {
-    match text {
-        "piece" => Ok(Sweep::Piece),
-        "cut" => Ok(Sweep::Cut),
-        "end" => Ok(Sweep::End),
-        "write" => Ok(Sweep::Write),
-        "room" => Ok(Sweep::Room),
-        _ => {
-            let size = text.strip_prefix("read ").ok_or(RowFault::Unread)?;
-            Ok(Sweep::Read(size.parse::<usize>().map_err(|_| RowFault::Unread)?))
-        }
-    }
-}
-
 impl Row {
-    /// A row without requests, with the usual words and users, in which nothing fails.
-    fn usual(alloc: Global) -> Result<Row, RowFault> {
-        Ok(Row {
-            words: words_of(alloc, WORDS)?,
-            users: Vec::from_slice(alloc, USERS.as_bytes())?,
+    /// A row of nothing.
+    pub fn new(alloc: Global) -> Row {
+        Row {
+            words: Vec::new(alloc),
+            users: Vec::new(alloc),
             moments: Vec::new(alloc),
             bad_calls: Vec::new(alloc),
             bad_reads: Vec::new(alloc),
             bad_writes: Vec::new(alloc),
             fields: Vec::new(alloc),
-            requests: Vec::new(alloc),
-            replies: Vec::new(alloc),
+            requests: Pieces::none(alloc),
+            replies: Pieces::none(alloc),
             status: 0,
             sweeps: Vec::new(alloc),
-        })
-    }
-
-    /// The row of its lines.
-    pub fn of(alloc: Global, text: &str) -> Result<Row, RowFault> {
-        let mut row = Row::usual(alloc)?;
-        for line in text.lines() {
-            row.read(alloc, line)?;
         }
-        Ok(row)
     }
 
-    /// The first of the lines that isn't of the format, where one isn't.
-    pub fn unread(alloc: Global, text: &str) -> Option<&str> {
-        let mut row = Row::usual(alloc).ok()?;
+    /// Reads the lines of a row, with the usual words and users.
+    pub fn read<'t>(&mut self, alloc: Global, text: &'t str) -> Result<(), Unread<'t>> {
+        self.read_lines(alloc, USUAL)?;
+        self.read_lines(alloc, text)
+    }
+
+    fn read_lines<'t>(&mut self, alloc: Global, text: &'t str) -> Result<(), Unread<'t>> {
+        let mut room = String::new(alloc);
         for line in text.lines() {
-            if row.read(alloc, line).is_err() {
-                return Some(line);
+            room.clear();
+            if let Err(why) = self.read_line(alloc, line, &mut room) {
+                return Err(Unread { line, why });
             }
         }
-        None
+        Ok(())
     }
 
-    fn read(&mut self, alloc: Global, line: &str) -> Result<(), RowFault> {
+    /// Reads a line, which is written out in that room.
+    fn read_line(&mut self, alloc: Global, line: &str, room: &mut String) -> Result<(), RowFault> {
         if line.is_empty() || line.starts_with('#') {
             return Ok(());
         }
         match line.strip_prefix('*') {
-            Some(rest) => self.read_often(alloc, rest),
-            None => self.read_one(alloc, written_out(alloc, line)?.as_str()),
+            Some(rest) => self.read_often(alloc, rest, room),
+            None => {
+                add_written_out(room, line)?;
+                self.read_one(alloc, room.as_str())
+            }
         }
     }
 
     /// Reads `N LINE`: the line that often.
-    fn read_often(&mut self, alloc: Global, text: &str) -> Result<(), RowFault> {
-        let (count, line) = text.split_once(' ').ok_or(RowFault::Unread)?;
+    fn read_often(&mut self, alloc: Global, text: &str, room: &mut String) -> Result<(), RowFault> {
+        let (count, line) = word_of(text);
         for place in 1..=number(count)? {
-            self.read_one(alloc, numbered(alloc, line, place)?.as_str())?;
+            room.clear();
+            add_numbered(room, line, place)?;
+            self.read_one(alloc, room.as_str())?;
         }
         Ok(())
     }
 
     fn read_one(&mut self, alloc: Global, line: &str) -> Result<(), RowFault> {
-        if line.starts_with(|c: char| c.is_ascii_digit()) {
-            self.replies.push(reply(alloc, line)?)?;
-        } else if let Some(bytes) = line.strip_prefix("< ") {
-            self.replies.push(unescaped(alloc, bytes)?)?;
-        } else if let Some(bytes) = line.strip_prefix("> ") {
-            self.requests.push(unescaped(alloc, bytes)?)?;
-        } else if let Some(field) = line.strip_prefix("+ ") {
-            self.add_field(alloc, field)?;
-        } else if let Some(directive) = line.strip_prefix('@') {
-            self.direct(alloc, directive)?;
-        } else {
-            let request = request(alloc, self.fields.as_slice(), line)?;
-            self.requests.push(request)?;
-            self.fields.clear();
+        let (word, rest) = word_of(line);
+        match mark_of(word) {
+            Some(mark) => self.read_marked(alloc, mark, rest),
+            None if word.as_bytes().first().is_some_and(u8::is_ascii_digit) => {
+                add_reply(self.replies.bytes(), line)?;
+                self.replies.end()
+            }
+            None => {
+                add_request(self.requests.bytes(), self.fields.as_slice(), line)?;
+                self.fields.clear();
+                self.requests.end()
+            }
         }
-        Ok(())
     }
 
-    fn add_field(&mut self, alloc: Global, field: &str) -> Result<(), RowFault> {
-        let field = unescaped(alloc, field)?;
-        self.fields.extend_from_slice(field.as_slice())?;
+    /// Reads what stands behind a mark.
+    fn read_marked(&mut self, alloc: Global, mark: Mark, text: &str) -> Result<(), RowFault> {
+        match mark {
+            Mark::Request => self.requests.add_unescaped(text),
+            Mark::Reply => self.replies.add_unescaped(text),
+            Mark::Field => self.add_field(text),
+            Mark::Words => put_words(&mut self.words, alloc, text),
+            Mark::Users => self.put_users(text),
+            Mark::Moments => self.put_moments(alloc, text),
+            Mark::BadCalls => put_numbers(&mut self.bad_calls, text),
+            Mark::BadReads => put_numbers(&mut self.bad_reads, text),
+            Mark::BadWrites => put_numbers(&mut self.bad_writes, text),
+            Mark::Status => self.put_status(text),
+            Mark::Each => self.add_sweep(text),
+        }
+    }
+
+    fn add_field(&mut self, text: &str) -> Result<(), RowFault> {
+        add_unescaped(&mut self.fields, text)?;
         self.fields.extend_from_slice(b"\r\n")?;
         Ok(())
     }
 
-    /// Reads a directive: its name, and what stands behind it.
-    fn direct(&mut self, alloc: Global, text: &str) -> Result<(), RowFault> {
-        let (name, rest) = text.split_once(' ').ok_or(RowFault::Unread)?;
-        match name {
-            "words" => self.words = words_of(alloc, rest)?,
-            "users" => self.users = unescaped(alloc, rest)?,
-            "moments" => {
-                self.words = words_of(alloc, WORDS_BY_THE_CLOCK)?;
-                self.moments = numbers_of(alloc, rest)?;
-            }
-            "bad_calls" => self.bad_calls = numbers_of(alloc, rest)?,
-            "bad_reads" => self.bad_reads = numbers_of(alloc, rest)?,
-            "bad_writes" => self.bad_writes = numbers_of(alloc, rest)?,
-            "status" => self.status = rest.parse::<u8>().map_err(|_| RowFault::Unread)?,
-            "each" => self.sweeps.push(sweep_of(rest)?)?,
-            _ => return Err(RowFault::Unread),
-        }
+    fn put_users(&mut self, text: &str) -> Result<(), RowFault> {
+        self.users.clear();
+        add_unescaped(&mut self.users, text)
+    }
+
+    fn put_moments(&mut self, alloc: Global, text: &str) -> Result<(), RowFault> {
+        put_words(&mut self.words, alloc, WORDS_BY_THE_CLOCK)?;
+        put_numbers(&mut self.moments, text)
+    }
+
+    fn put_status(&mut self, text: &str) -> Result<(), RowFault> {
+        self.status = number(text)?;
+        Ok(())
+    }
+
+    fn add_sweep(&mut self, text: &str) -> Result<(), RowFault> {
+        self.sweeps.push(sweep_of(text)?)?;
         Ok(())
     }
 }

@@ -1,7 +1,7 @@
 //! What was played, and how much of it was wrong.
+use crate::plays::Play;
 use crate::rows::Row;
-use crate::sweeps::{Runs, played};
-use row_lines::RowFault;
+use crate::sweeps::{numbers_of, play_of};
 use std::alloc::Global;
 use std::io;
 
@@ -31,33 +31,51 @@ impl Tally {
         self.wrong == 0
     }
 
-    /// Plays a row: its name, and behind a line end its lines.
+    /// Reads a row, its name and behind a line end its lines, and plays it.
     pub fn play<R: Print>(&mut self, rt: &R, alloc: Global, text: &str) -> io::Result<()> {
         let (name, lines) = text.split_once('\n').unwrap_or((text, ""));
+        let mut row = Row::new(alloc);
         self.rows = self.rows.saturating_add(1);
-        match self.runs_of(alloc, lines) {
-            Ok(runs) => self.add(rt, name, &runs),
-            Err(why) => {
+        match row.read(alloc, lines) {
+            Ok(()) => self.play_row(rt, alloc, name, &row),
+            Err(unread) => {
                 self.wrong = self.wrong.saturating_add(1);
-                let line = Row::unread(alloc, lines).unwrap_or("");
-                println!(rt; "wrong: {name}: {why}: {line}")
+                println!(rt; "wrong: {name}: {}: {}", unread.why, unread.line)
             }
         }
     }
 
-    /// Counts what the row asks and wants, and plays it.
-    fn runs_of(&mut self, alloc: Global, lines: &str) -> Result<Runs, RowFault> {
-        let row = Row::of(alloc, lines)?;
+    /// Counts what the row asks and wants, and plays it and its sweeps.
+    fn play_row<R: Print>(
+        &mut self,
+        rt: &R,
+        alloc: Global,
+        name: &str,
+        row: &Row,
+    ) -> io::Result<()> {
         self.requests = self.requests.saturating_add(row.requests.len() as u64);
         self.replies = self.replies.saturating_add(row.replies.len() as u64);
-        played(alloc, &row)
+        self.run(rt, alloc, name, row, &Play::whole(row))?;
+        for sweep in &row.sweeps {
+            let (first, end) = numbers_of(row, *sweep);
+            for number in first..end {
+                self.run(rt, alloc, name, row, &play_of(row, *sweep, number))?;
+            }
+        }
+        Ok(())
     }
 
-    fn add<R: Print>(&mut self, rt: &R, name: &str, runs: &Runs) -> io::Result<()> {
-        self.runs = self.runs.saturating_add(runs.count);
-        for wrong in &runs.wrong {
+    fn run<R: Print>(
+        &mut self,
+        rt: &R,
+        alloc: Global,
+        name: &str,
+        row: &Row,
+        play: &Play<'_>,
+    ) -> io::Result<()> {
+        self.runs = self.runs.saturating_add(1);
+        if !play.run(rt, alloc, name, row)? {
             self.wrong = self.wrong.saturating_add(1);
-            println!(rt; "wrong: {name}: {wrong}")?;
         }
         Ok(())
     }
