@@ -245,9 +245,10 @@ fn lay_next(
 {
     let next = ids_after(ids, operation)?;
     let bed = lay_one(alloc, keys.as_slice(), ids, operation)?;
+    let key = bed.key;
     promise_for(alloc, map, &bed, operation)?;
-    keys.push(bed.key)?;
     beds.push(bed)?;
+    keys.push(key)?;
     Ok(next)
 }
 
