@@ -1,7 +1,8 @@
 //! What the body of a call asks.
 ghost use Rattle.std.specs.Prelude.{◌≡◌, ◌∷◌, [], IfOk, IfErr};
-ghost use Rattle.osm_change.specs.Build.{IsReference};
-ghost use Rattle.api_desk.specs.Bodies.{tags_in, upload_in, change_in, command_of};
+ghost use Rattle.osm_change.specs.Build.{change_of as built, IsRawOp, IsReference};
+ghost use Rattle.api_desk.specs.Bodies.{or_refused, tags_in, upload_in, change_in, command_of};
+ghost use Rattle.api_desk.specs.Faults.{of_change};
 ghost use Rattle.api_desk.specs.Tasks.{HasPathNumber};
 ghost use Rattle.api_desk.specs.Gives.{Gives, HasShownFault};
 
@@ -41,9 +42,20 @@ fn upload_in(alloc: Global, changeset: u64, body: &[u8]) -> Result<Change, Reque
 fn one(alloc: Global, op: RawOp) -> Result<Vec<RawOp>, Memory>
     ensures { IfOk result (λ ops. ops.items ≡ op ∷ []) }
 {
-    let mut ops = Vec::with_capacity(alloc, 1)?;
-    ops.push(op)?;
-    Ok(ops)
+    Ok(vec![in alloc; op]?)
+}
+
+/// One operation as an upload to a changeset.
+fn single(alloc: Global, changeset: u64, op: RawOp) -> Result<OneOp, RequestFault>
+    requires { IsRawOp op }
+    ensures gives { Gives (or_refused of_change (built changeset (op ∷ []))) result }
+    ensures shown { IfErr result HasShownFault }
+{
+    let change = Change::build(alloc, changeset, one(alloc, op)?)?;
+    match OneOp::of(change) {
+        Ok(change) => Ok(change),
+        Err(_) => unreachable!(),
+    }
 }
 
 /// A single change as an upload of one operation.
@@ -60,11 +72,8 @@ fn change_in(
     ensures shown { IfErr result HasShownFault }
 {
     let (changeset, op) = read_single(alloc, body, action, kind, id)?;
-    let change = Change::build(alloc, changeset, one(alloc, op)?)?;
-    match OneOp::of(change) {
-        Ok(change) => Ok(Command::Single { changeset, change }),
-        Err(_) => unreachable!(),
-    }
+    let change = single(alloc, changeset, op)?;
+    Ok(Command::Single { changeset, change })
 }
 
 /// The command that a call and its body ask for (OpenStreetMap wiki, API v0.6).

@@ -1,5 +1,5 @@
 //! A desk for one thread, over the map's book.
-ghost use Rattle.std.specs.Prelude.{◌≡◌, ◌<◌, ◌≤◌, ◌+◌, length, Some, IfOk, OnOk, OnErr};
+ghost use Rattle.std.specs.Prelude.{◌≡◌, ℕ, ◌<◌, ◌≤◌, ◌+◌, List, length, Some, Err, IfOk, OnOk, OnErr};
 ghost use Rattle.osm_change.specs.Moments.{HasShownMoments};
 ghost use Rattle.osm_model.specs.Act.{act};
 ghost use Rattle.osm_model.specs.Ask.{ask};
@@ -7,7 +7,12 @@ ghost use Rattle.osm_model.specs.Journal.{IsLegal, replay, calls_of, journal_aft
 ghost use Rattle.osm_world.specs.World.{state_of};
 ghost use Rattle.http_link.specs.Desk.{counted_reply};
 ghost use Rattle.osm_base.specs.Status.{IsStatus};
+ghost use Rattle.http_wire.specs.declared.message.Message.{Message};
+ghost use Rattle.osm_model.specs.declared.commands.Entry.{Entry};
+ghost use Rattle.user_table.specs.Rows.{Row};
 ghost use Rattle.api_desk.specs.Answers.{reply_of, Answers};
+ghost use Rattle.api_desk.specs.Gives.{shown_request, GivesRequest, HasShownFault};
+ghost use Rattle.api_desk.specs.Request.{request_of};
 
 use crate::answers::reply_from;
 use crate::faults::RequestFault;
@@ -125,10 +130,40 @@ fn answer_on<L: Ledger>(
     let (ledger, share) = blank.open::<L>();
     let mut steps = Steps::of(ledger, share);
     match request_of(alloc, message, routes, users) {
-        Ok(Request::Change(asked)) => change(book, alloc, session, asked, moment, &mut steps),
-        Ok(Request::Read(query)) => read(book, alloc, query, moment, &mut steps),
-        Err(RequestFault::Refused(refusal)) => reply_to(alloc, &Answer::Refused(refusal)),
-        Err(RequestFault::Memory) => Err(Memory),
+        Ok(request) => answer_request(book, alloc, session, request, moment, &mut steps),
+        Err(fault) => refuse(alloc, fault),
+    }
+}
+
+/// Does what is asked.
+fn answer_request<L: Ledger>(
+    book: &mut Book<MapMachine>,
+    alloc: Global,
+    session: u32,
+    request: Request,
+    moment: u64,
+    steps: &mut Steps<L>,
+) -> Result<Reply, Memory>
+    ensures answers { (users : List Row) (message : Message) → request_of users message ≡ shown_request request
+        → Answers users session book.old book.new message moment (counted_reply result) }
+    ensures status { IfOk result (λ reply. IsStatus reply.status) }
+{
+    match request {
+        Request::Change(asked) => change(book, alloc, session, asked, moment, steps),
+        Request::Read(query) => read(book, alloc, query, moment, steps),
+    }
+}
+
+/// Tells why a message is no request.
+fn refuse(alloc: Global, fault: RequestFault) -> Result<Reply, Memory>
+    requires { HasShownFault fault }
+    ensures answers { (users : List Row) (session : ℕ) (es : List Entry) (message : Message) (moment : ℕ) → GivesRequest (request_of users message) (Err fault)
+        → Answers users session es es message moment (counted_reply result) }
+    ensures status { IfOk result (λ reply. IsStatus reply.status) }
+{
+    match fault {
+        RequestFault::Refused(refusal) => reply_to(alloc, &Answer::Refused(refusal)),
+        RequestFault::Memory => Err(Memory),
     }
 }
 

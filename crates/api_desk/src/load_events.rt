@@ -98,6 +98,18 @@ fn room_for(alloc: Global, requests: usize) -> Result<Vec<Event<Asked, Query>>, 
     Ok(Vec::with_capacity(alloc, requests.saturating_mul(EVENTS_EACH))?)
 }
 
+/// The events of what is left of a load, with a table of the routes.
+fn events_of(
+    alloc: Global,
+    load: Load,
+    users: &UserTable,
+) -> Result<Vec<Event<Asked, Query>>, LoadFault>
+    ensures { MatchResult result (λ events. AreEventsOf users.now load events.items) (FailsBy users.now load) }
+{
+    let routes = Routes::new(alloc)?;
+    events_in(alloc, load, &routes, users)
+}
+
 /// The events of the load of a seed, to be interleaved on one book: for each request in order, its
 /// session plans the command that the request asks for and commits it at 1700000000 seconds since
 /// 1970, and the journal is published.
@@ -112,6 +124,5 @@ pub fn events(
     ensures { MatchResult result (λ events. AreEvents seed sessions uploads events.items) (FailsAt seed sessions uploads) }
 {
     let users = users_of_load(alloc, sessions)?;
-    let routes = Routes::new(alloc)?;
-    events_in(alloc, Load::new(seed, sessions, uploads), &routes, &users)
+    events_of(alloc, Load::new(seed, sessions, uploads), &users)
 }

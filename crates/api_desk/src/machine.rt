@@ -1,6 +1,9 @@
 //! The map as a machine: a world that changes by entries.
-ghost use Rattle.std.specs.Prelude.{◌≡◌, IfOk};
-ghost use Rattle.osm_change.specs.Moments.{HasShownMoments};
+ghost use Rattle.std.specs.Prelude.{◌≡◌, None, Some, IfOk, is_ok};
+ghost use Rattle.osm_base.specs.Stamp.{stamp_after};
+ghost use Rattle.osm_change.specs.Moments.{HasShownMoments, RefusalHasShownEnd};
+ghost use Rattle.osm_change.specs.declared.answers.Answer.TheVariants as answers;
+ghost use Rattle.osm_model.specs.Act.{judge};
 ghost use Rattle.osm_model.specs.Journal.{takes};
 ghost use Rattle.osm_world.specs.World.{state_of};
 ghost use Rattle.api_desk.specs.Machine.{act_as, bytes_of};
@@ -11,9 +14,9 @@ use crate::looks::Look;
 use crate::requests::Asked;
 use crate::world_asks::world_ask;
 use machine_law::{Machine, Settled, Tag};
-use osm_base::{Bytes, Memory, Stamp, Steps, TryCopy};
-use osm_change::Answer;
-use osm_model::{Entry, Fault, Query, State};
+use osm_base::{Bytes, Memory, Stamp, Steps, TryCopy, User};
+use osm_change::{Answer, Refusal};
+use osm_model::{Command, Entry, Fault, Query, State};
 use osm_world::World;
 use std::alloc::Global;
 use std::sync::ledger::Ledger;
@@ -163,6 +166,37 @@ fn entry_by(alloc: Global, asked: &Asked, tag: Tag, at: Stamp) -> Result<Entry, 
     })
 }
 
+/// What a user's command comes to that is answered so, as that call, at a stamp.
+fn accepted(
+    alloc: Global,
+    asked: &Asked,
+    tag: Tag,
+    at: Stamp,
+    answer: Answer<'_>,
+) -> Result<Settled<Entry>, Memory>
+    requires { HasShownMoments answer }
+    ensures { IfOk result (λ s. s ≡ record { answer = bytes_of answer.entry; entry = Some (record { session = tag.session; call = tag.call; user = asked.now.user; stamp = at; command = asked.now.command }) }) }
+{
+    let answer = bytes_from(alloc, answer)?;
+    let entry = entry_by(alloc, asked, tag, at)?;
+    Ok(Settled {
+        answer,
+        entry: Some(entry),
+    })
+}
+
+/// What a command comes to that is refused: no entry.
+fn refused(alloc: Global, refusal: Refusal) -> Result<Settled<Entry>, Memory>
+    requires { RefusalHasShownEnd refusal }
+    ensures { IfOk result (λ s. s ≡ record { answer = bytes_of (answers.Refused refusal); entry = None }) }
+{
+    let answer = bytes_from(alloc, Answer::Refused(refusal))?;
+    Ok(Settled {
+        answer,
+        entry: None,
+    })
+}
+
 /// What a user's command comes to on a world, as that call, at a moment.
 fn settle_on(
     alloc: Global,
@@ -175,14 +209,8 @@ fn settle_on(
 {
     let at = Stamp::after(world.last_stamp(), moment);
     match judge_on(alloc, world, &asked.user, at, &asked.command) {
-        Ok(answer) => Ok(Settled {
-            answer: bytes_from(alloc, answer)?,
-            entry: Some(entry_by(alloc, asked, tag, at)?),
-        }),
-        Err(Fault::Refused(refusal)) => Ok(Settled {
-            answer: bytes_from(alloc, Answer::Refused(refusal))?,
-            entry: None,
-        }),
+        Ok(answer) => accepted(alloc, asked, tag, at, answer),
+        Err(Fault::Refused(refusal)) => refused(alloc, refusal),
         Err(Fault::Memory) => Err(Memory),
     }
 }
@@ -195,7 +223,21 @@ fn takes(alloc: Global, world: &World, entry: &Entry) -> Result<bool, Memory>
     if Stamp::after(world.last_stamp(), entry.stamp.seconds()) != entry.stamp {
         return Ok(false);
     }
-    match judge_on(alloc, world, &entry.user, entry.stamp, &entry.command) {
+    is_accepted(alloc, world, &entry.user, entry.stamp, &entry.command)
+}
+
+/// Whether the rules accept a command of a user at a stamp, which may come next.
+fn is_accepted(
+    alloc: Global,
+    world: &World,
+    user: &User,
+    at: Stamp,
+    command: &Command,
+) -> Result<bool, Memory>
+    requires { stamp_after (state_of world.now).last at ≡ at }
+    ensures { IfOk result (λ b. b ≡ is_ok (judge (state_of world.now) user.now at command.now)) }
+{
+    match judge_on(alloc, world, user, at, command) {
         Ok(_) => Ok(true),
         Err(Fault::Refused(_)) => Ok(false),
         Err(Fault::Memory) => Err(Memory),

@@ -1,5 +1,6 @@
 //! What a message asks.
 ghost use Rattle.std.specs.Prelude.{◌≡◌, option_copied, option_map, MatchResult, Ok, Err, IfErr};
+ghost use Rattle.api_desk.specs.declared.tasks.Task.TheVariants as task;
 ghost use Rattle.api_desk.specs.Request.{caller_of, is_moderator, known_user, known_moderator, work_of, asked_by, request_of};
 ghost use Rattle.api_desk.specs.Tasks.{HasPathNumber, HasTaskNumbers};
 ghost use Rattle.api_desk.specs.Gives.{Gives, GivesRequest, GivesAsked, HasShownFault};
@@ -79,6 +80,36 @@ fn work_of(alloc: Global, edit: Edit, body: &[u8], user: &User) -> Result<Reques
     Ok(Request::Change(Asked { user, command }))
 }
 
+/// The work, where the caller is a user.
+fn work_by_user(
+    alloc: Global,
+    caller: Option<&User>,
+    body: &[u8],
+    edit: Edit,
+) -> Result<Request, RequestFault>
+    requires { HasPathNumber edit }
+    ensures gives { GivesAsked (asked_by (option_copied caller.entry) body.now (task.Change edit)) result }
+    ensures shown { IfErr result HasShownFault }
+{
+    let user = known_user(caller)?;
+    work_of(alloc, edit, body, user)
+}
+
+/// The work, where the caller is a moderator.
+fn work_by_moderator(
+    alloc: Global,
+    caller: Option<&User>,
+    body: &[u8],
+    edit: Edit,
+) -> Result<Request, RequestFault>
+    requires { HasPathNumber edit }
+    ensures gives { GivesAsked (asked_by (option_copied caller.entry) body.now (task.Moderate edit)) result }
+    ensures shown { IfErr result HasShownFault }
+{
+    let user = known_moderator(caller)?;
+    work_of(alloc, edit, body, user)
+}
+
 /// What a task asks, where the caller may.
 fn asked_by(
     alloc: Global,
@@ -92,14 +123,8 @@ fn asked_by(
 {
     match task {
         Task::Read(query) => Ok(Request::Read(query)),
-        Task::Change(edit) => {
-            let user = known_user(caller)?;
-            work_of(alloc, edit, body, user)
-        }
-        Task::Moderate(edit) => {
-            let user = known_moderator(caller)?;
-            work_of(alloc, edit, body, user)
-        }
+        Task::Change(edit) => work_by_user(alloc, caller, body, edit),
+        Task::Moderate(edit) => work_by_moderator(alloc, caller, body, edit),
     }
 }
 

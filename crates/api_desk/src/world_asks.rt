@@ -1,9 +1,10 @@
-ghost use Rattle.std.specs.Prelude.{◌≡◌, ◌≢◌, List, Result, IfOk};
+ghost use Rattle.std.specs.Prelude.{◌≡◌, ◌≢◌, List, Ok, Result, IfOk};
 ghost use Rattle.osm_change.specs.Moments.{HasShownMoments};
 ghost use Rattle.osm_change.specs.declared.answers.Answer.TheVariants as answers;
+ghost use Rattle.osm_change.specs.declared.reads.MapFault.{MapFault};
 ghost use Rattle.osm_change.specs.declared.reads.ReadFault.{ReadFault};
 ghost use Rattle.osm_change.specs.declared.reads.Shown.{Shown};
-ghost use Rattle.osm_model.specs.Ask.{ask, ask_at, not_found, read_refusal, elements_answer, one_answer, read_answer, map_answer, changeset_answer, download_answer};
+ghost use Rattle.osm_model.specs.Ask.{ask, ask_at, not_found, read_refusal, elements_answer, one_answer, read_answer, map_refusal, map_answer, changeset_answer, download_answer};
 ghost use Rattle.osm_model.specs.ChangesetReads.{read_changeset, download};
 ghost use Rattle.osm_model.specs.Selection.{map_of};
 ghost use Rattle.osm_world.specs.World.{state_of};
@@ -13,7 +14,7 @@ use crate::world_rows::{element_rows, selected_rows};
 use changeset_calls::{ChangesetFault, download, query, read};
 use map_call::map;
 use osm_base::{AREA_LIMIT, Box7, Items, Key, MAP_NODE_LIMIT, Memory, Stamp, Steps};
-use osm_change::{Answer, MapFault, ReadFault, Refusal, Said, Shown};
+use osm_change::{Answer, MapFault, ReadFault, Refusal, Said, Selection, Shown};
 use osm_model::{Query, answers_have_moments};
 use osm_world::World;
 use read_calls::{full, history, many, one, relations_of, version, ways_of};
@@ -73,13 +74,9 @@ fn ask_at<'a, L: Ledger>(
             read_answer(alloc, world, many(alloc, world, *kind, ids.items()))
         }
         Query::Full { key } => read_answer(alloc, world, full(alloc, world, *key)),
-        Query::WaysOf { id } => {
-            let shown = ways_of(alloc, world, *id)?;
-            elements_answer(alloc, world, &shown)
-        }
+        Query::WaysOf { id } => users_answer(alloc, world, ways_of(alloc, world, *id)),
         Query::RelationsOf { key } => {
-            let shown = relations_of(alloc, world, *key)?;
-            elements_answer(alloc, world, &shown)
+            users_answer(alloc, world, relations_of(alloc, world, *key))
         }
     }
 }
@@ -165,6 +162,20 @@ fn read_answer<'a>(
     }
 }
 
+/// The users of an element, unless memory ran out.
+fn users_answer<'a>(
+    alloc: Global,
+    world: &'a World,
+    users: Result<Items<Shown>, Memory>,
+) -> Result<Answer<'a>, Memory>
+    ensures { (expected : List Shown) → IfOk users (λ shown. shown ≡ expected) → IfOk result (λ answer. answer ≡ elements_answer (state_of world.now) expected) }
+{
+    match users {
+        Ok(shown) => elements_answer(alloc, world, &shown),
+        Err(Memory) => Err(Memory),
+    }
+}
+
 // ---- the map
 
 /// The elements of a box, with the box as their bounds.
@@ -177,22 +188,40 @@ fn ask_map<'a, L: Ledger>(
     ensures { IfOk result (λ answer. answer ≡ map_answer (state_of world.now) within.now (map_of (state_of world.now).elements within.now)) }
 {
     match map(alloc, world, *within, steps) {
-        Ok(selection) => {
-            let rows = selected_rows(alloc, world, &selection)?;
-            Ok(Answer::Elements {
-                bounds: Some(*within),
-                rows,
-            })
-        }
-        Err(MapFault::TooLarge { area }) => Ok(Answer::Refused(Refusal::MapArea {
+        Ok(selection) => selected_answer(alloc, world, within, &selection),
+        Err(fault) => refused_map(fault),
+    }
+}
+
+fn selected_answer<'a>(
+    alloc: Global,
+    world: &'a World,
+    within: &Box7,
+    selection: &Selection,
+) -> Result<Answer<'a>, Memory>
+    ensures { IfOk result (λ answer. answer ≡ map_answer (state_of world.now) within.now (Ok selection.now)) }
+{
+    let rows = selected_rows(alloc, world, selection)?;
+    Ok(Answer::Elements {
+        bounds: Some(*within),
+        rows,
+    })
+}
+
+/// The refusal of a box, unless memory ran out.
+fn refused_map<'a>(fault: MapFault) -> Result<Answer<'a>, Memory>
+    ensures { IfOk result (λ answer. (answer ≡ answers.Refused (map_refusal fault)) × (fault ≢ MapFault.Memory)) }
+{
+    match fault {
+        MapFault::TooLarge { area } => Ok(Answer::Refused(Refusal::MapArea {
             area,
             limit: AREA_LIMIT,
         })),
-        Err(MapFault::TooMany { nodes }) => Ok(Answer::Refused(Refusal::MapNodes {
+        MapFault::TooMany { nodes } => Ok(Answer::Refused(Refusal::MapNodes {
             limit: MAP_NODE_LIMIT,
             nodes,
         })),
-        Err(MapFault::Memory) => Err(Memory),
+        MapFault::Memory => Err(Memory),
     }
 }
 

@@ -80,8 +80,23 @@ fn add_current<'a>(
     Ok(())
 }
 
-/// The rows of a selection's elements, as they are now: nodes, then ways, then relations.
+/// Adds the first rows, those of a selection's elements.
 #[tactic(auto, using(crate::proofs::RowSteps::rows_of_three))]
+fn add_selected<'a>(
+    world: &'a World,
+    selection: &Selection,
+    rows: &mut Vec<ElementRow<'a>>,
+) -> Result<(), Memory>
+    requires { rows.old.items ≡ [] }
+    ensures { IfOk result (λ _. rows.new.items ≡ element_rows (state_of world.now) (selected (state_of world.now).elements selection.now)) }
+{
+    add_current(world, Kind::Node, selection.nodes.items(), rows)?;
+    add_current(world, Kind::Way, selection.ways.items(), rows)?;
+    add_current(world, Kind::Relation, selection.relations.items(), rows)?;
+    Ok(())
+}
+
+/// The rows of a selection's elements, as they are now: nodes, then ways, then relations.
 pub fn selected_rows<'a>(
     alloc: Global,
     world: &'a World,
@@ -89,16 +104,12 @@ pub fn selected_rows<'a>(
 ) -> Result<ElementRows<'a>, Memory>
     ensures { IfOk result (λ rows. rows ≡ element_rows (state_of world.now) (selected (state_of world.now).elements selection.now)) }
 {
-    let nodes = selection.nodes.items();
-    let ways = selection.ways.items();
-    let relations = selection.relations.items();
-    let count = nodes
+    let count = selection
+        .nodes
         .len()
-        .saturating_add(ways.len())
-        .saturating_add(relations.len());
+        .saturating_add(selection.ways.len())
+        .saturating_add(selection.relations.len());
     let mut rows = Vec::with_capacity(alloc, count)?;
-    add_current(world, Kind::Node, nodes, &mut rows)?;
-    add_current(world, Kind::Way, ways, &mut rows)?;
-    add_current(world, Kind::Relation, relations, &mut rows)?;
+    add_selected(world, selection, &mut rows)?;
     Ok(Items::of(rows))
 }

@@ -1,24 +1,27 @@
 //! Sending a load and writing its journal.
-ghost use Rattle.std.specs.Prelude.{◌<◌, ◌≤◌, IfOk};
+ghost use Rattle.std.specs.Prelude.{◌≡◌, ◌<◌, ◌≤◌, [], IfOk};
 ghost use Rattle.osm_base.specs.declared.limits.TheConstants.{SESSION_LIMIT};
 ghost use Rattle.osm_serve.specs.Export.{IsExport};
 ghost use Rattle.osm_serve.specs.Tell.{Tells};
 
 use crate::play::journal_of_load;
 use crate::tell::tell;
+use api_desk::MapMachine;
+use hub_core::Book;
 use osm_outside::{Link, Outside};
 use osm_words::Load;
 use std::alloc::Global;
 
-/// Writes the text of the journal of a run of the load to the link, and answers the status: 0 where
-/// it was written whole, 4 for a fault, and 5 for want of memory, in a reply or elsewhere, with
-/// nothing written.
-pub fn export<L: Link>(alloc: Global, load: Load, link: &mut L) -> u8
+/// Writes the text of the journal of a run of the load, over a book that is empty at first, to the
+/// link, and answers the status: 0 where it was written whole, 4 for a fault, and 5 for want of
+/// memory, in a reply or elsewhere, with nothing written.
+pub fn export<L: Link>(alloc: Global, book: &mut Book<MapMachine>, load: Load, link: &mut L) -> u8
     requires some { 0 < load.sessions }
     requires few { load.sessions ≤ SESSION_LIMIT }
+    requires empty { book.old ≡ [] }
     ensures { Tells (IsExport load.seed load.sessions load.uploads) (L.told link.old) (L.told link.new) result }
 {
-    match journal_of_load(alloc, load.seed, load.sessions, load.uploads) {
+    match journal_of_load(alloc, book, load.seed, load.sessions, load.uploads) {
         Ok(text) => tell(text.as_slice(), link),
         Err(_) => 5,
     }

@@ -1,24 +1,27 @@
 //! Sending a load and telling what came of it.
-ghost use Rattle.std.specs.Prelude.{◌<◌, ◌≤◌, IfOk};
+ghost use Rattle.std.specs.Prelude.{◌≡◌, ◌<◌, ◌≤◌, [], IfOk};
 ghost use Rattle.osm_base.specs.declared.limits.TheConstants.{SESSION_LIMIT};
 ghost use Rattle.osm_serve.specs.Measure.{AreLines};
 ghost use Rattle.osm_serve.specs.Tell.{Tells};
 
 use crate::play::run_load;
 use crate::tell::tell;
+use api_desk::MapMachine;
+use hub_core::Book;
 use load_summary::{Run, summary};
 use osm_base::{Memory, Text};
 use osm_outside::{Link, Outside};
 use osm_words::Load;
 use std::alloc::Global;
 
-/// The lines of a run of the load.
-fn lines_of(alloc: Global, load: Load) -> Result<Text, Memory>
+/// The lines of a run of the load over a book that is empty at first.
+fn lines_of(alloc: Global, book: &mut Book<MapMachine>, load: Load) -> Result<Text, Memory>
     requires some { 0 < load.sessions }
     requires few { load.sessions ≤ SESSION_LIMIT }
+    requires empty { book.old ≡ [] }
     ensures { IfOk result (AreLines load) }
 {
-    let played = run_load(alloc, load.seed, load.sessions, load.uploads)?;
+    let played = run_load(alloc, book, load.seed, load.sessions, load.uploads)?;
     let run = Run {
         seed: load.seed,
         sessions: load.sessions,
@@ -30,13 +33,15 @@ fn lines_of(alloc: Global, load: Load) -> Result<Text, Memory>
 }
 
 /// Writes the lines of a run of the load to the link, and answers the status: 0 where they were
-/// written whole, 4 for a fault, and 5 for want of memory, with nothing written.
-pub fn measure<L: Link>(alloc: Global, load: Load, link: &mut L) -> u8
+/// written whole, 4 for a fault, and 5 for want of memory, with nothing written. The book is empty
+/// at first.
+pub fn measure<L: Link>(alloc: Global, book: &mut Book<MapMachine>, load: Load, link: &mut L) -> u8
     requires some { 0 < load.sessions }
     requires few { load.sessions ≤ SESSION_LIMIT }
+    requires empty { book.old ≡ [] }
     ensures { Tells (AreLines load) (L.told link.old) (L.told link.new) result }
 {
-    match lines_of(alloc, load) {
+    match lines_of(alloc, book, load) {
         Ok(text) => tell(text.as_str().as_bytes(), link),
         Err(_) => 5,
     }

@@ -68,33 +68,23 @@ fn run_over(
     run_at(alloc, Load::new(seed, sessions, uploads), &mut desk)
 }
 
-/// A run of a load by its users.
-fn run_by(
+/// Sends the requests of the load of a seed, one after another, each to a desk of its session over
+/// the book, which is empty at first. A reply that tells of want of memory is a refused one; want of
+/// memory elsewhere is `Memory`.
+pub fn run_load(
     alloc: Global,
-    users: &UserTable,
+    book: &mut Book<MapMachine>,
     seed: u64,
     sessions: u32,
     uploads: u32,
 ) -> Result<Played, Memory>
     requires some { 0 < sessions }
     requires few { sessions ≤ SESSION_LIMIT }
-    requires table { AreUsersOf sessions users.now }
-    ensures { IfOk result (IsPlayed seed sessions uploads) }
-{
-    let mut book = Book::<MapMachine>::new(alloc);
-    run_over(alloc, users, &mut book, seed, sessions, uploads)
-}
-
-/// Sends the requests of the load of a seed, one after another, each to a desk of its session over
-/// one book that is empty at first. A reply that tells of want of memory is a refused one; want of
-/// memory elsewhere is `Memory`.
-pub fn run_load(alloc: Global, seed: u64, sessions: u32, uploads: u32) -> Result<Played, Memory>
-    requires some { 0 < sessions }
-    requires few { sessions ≤ SESSION_LIMIT }
+    requires empty { book.old ≡ [] }
     ensures { IfOk result (IsPlayed seed sessions uploads) }
 {
     let users = users_of_load(alloc, sessions)?;
-    run_by(alloc, &users, seed, sessions, uploads)
+    run_over(alloc, &users, book, seed, sessions, uploads)
 }
 
 /// Sends a load to a desk, and writes the text of the journal.
@@ -129,35 +119,20 @@ fn journal_over(
     journal_at(alloc, Load::new(seed, sessions, uploads), &mut desk)
 }
 
-/// The journal of a run of a load by its users.
-fn journal_by(
-    alloc: Global,
-    users: &UserTable,
-    seed: u64,
-    sessions: u32,
-    uploads: u32,
-) -> Result<Bytes, Memory>
-    requires some { 0 < sessions }
-    requires few { sessions ≤ SESSION_LIMIT }
-    requires table { AreUsersOf sessions users.now }
-    ensures { IfOk result (IsExport seed sessions uploads) }
-{
-    let mut book = Book::<MapMachine>::new(alloc);
-    journal_over(alloc, users, &mut book, seed, sessions, uploads)
-}
-
-/// The text of the journal that a run of the load makes. A reply that tells of want of memory is
-/// `Memory` too.
+/// The text of the journal that a run of the load makes, over a book that is empty at first. A
+/// reply that tells of want of memory is `Memory` too.
 pub fn journal_of_load(
     alloc: Global,
+    book: &mut Book<MapMachine>,
     seed: u64,
     sessions: u32,
     uploads: u32,
 ) -> Result<Bytes, Memory>
     requires some { 0 < sessions }
     requires few { sessions ≤ SESSION_LIMIT }
+    requires empty { book.old ≡ [] }
     ensures { IfOk result (IsExport seed sessions uploads) }
 {
     let users = users_of_load(alloc, sessions)?;
-    journal_by(alloc, &users, seed, sessions, uploads)
+    journal_over(alloc, &users, book, seed, sessions, uploads)
 }

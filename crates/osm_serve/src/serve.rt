@@ -1,4 +1,4 @@
-//! Serving one link by one session, over a book of its own.
+//! Serving one link by one session.
 ghost use Rattle.std.specs.Prelude.{◌≡◌, []};
 ghost use Rattle.osm_serve.specs.Serve.{ServesPipe};
 
@@ -15,7 +15,7 @@ use user_table::UserTable;
 const SESSION: u32 = 0;
 
 /// Answers the requests of the link over a book that is empty at first, until the link ends.
-fn serve_over<L: Link>(
+pub fn serve_pipe<L: Link>(
     alloc: Global,
     users: &UserTable,
     book: &mut Book<MapMachine>,
@@ -33,12 +33,4 @@ fn serve_over<L: Link>(
         return LinkEnd::Memory;
     };
     serve_desk(alloc, &mut desk, link)
-}
-
-/// Answers the requests of the link over a new book, until the link ends.
-pub fn serve_pipe<L: Link>(alloc: Global, users: &UserTable, link: &mut L) -> LinkEnd
-    ensures { ServesPipe users.now (L.told link.old) (L.told link.new) result }
-{
-    let mut book = Book::<MapMachine>::new(alloc);
-    serve_over(alloc, users, &mut book, link)
 }

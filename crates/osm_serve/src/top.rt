@@ -1,5 +1,5 @@
 //! The top call.
-ghost use Rattle.std.specs.Prelude.{◌≡◌, map, string_bytes};
+ghost use Rattle.std.specs.Prelude.{◌≡◌, [], map, string_bytes};
 ghost use Rattle.osm_words.specs.Words.{HaveSessions, reading_of, shown};
 ghost use Rattle.osm_serve.specs.Run.{Runs, ComesTo, RunsPipe, ServesFrom, IsStarted, status_of};
 
@@ -8,7 +8,9 @@ use crate::measure::measure;
 use crate::replay::replay;
 use crate::serve::serve_pipe;
 use crate::users::{NoUsers, read_users};
+use api_desk::MapMachine;
 use http_link::LinkEnd;
+use hub_core::Book;
 use osm_outside::{Clock, Host, Link, Outside};
 use osm_words::{Words, WordsFault, read_words};
 use std::alloc::Global;
@@ -37,32 +39,62 @@ fn start<L: Link>(link: &mut L, at: Option<u64>)
     }
 }
 
-fn serve<L: Link>(alloc: Global, users: &UserTable, at: Option<u64>, standard: &mut L) -> u8
+fn serve<L: Link>(
+    alloc: Global,
+    users: &UserTable,
+    book: &mut Book<MapMachine>,
+    at: Option<u64>,
+    standard: &mut L,
+) -> u8
+    requires { book.old ≡ [] }
     ensures { ServesFrom users.now at (L.told standard.old) (L.told standard.new) result }
 {
     start(standard, at);
-    status_of(serve_pipe(alloc, users, standard))
+    status_of(serve_pipe(alloc, users, book, standard))
 }
 
 fn run_pipe<H: Host, L: Link>(
     alloc: Global,
     users: &str,
+    book: &mut Book<MapMachine>,
     at: Option<u64>,
     host: &mut H,
     standard: &mut L,
 ) -> u8
+    requires { book.old ≡ [] }
     ensures { RunsPipe at (H.told host.old) (H.told host.new)
         (L.told standard.old) (L.told standard.new) result }
 {
     match read_users(alloc, users, host) {
-        Ok(users) => serve(alloc, &users, at, standard),
+        Ok(users) => serve(alloc, &users, book, at, standard),
         Err(NoUsers::Failed) => 3,
         Err(NoUsers::Refused) => 2,
         Err(NoUsers::Memory) => 5,
     }
 }
 
-/// Does what was read of the words.
+/// Does what was read of the words, over a book that is empty at first.
+fn run_words_over<H: Host, L: Link>(
+    alloc: Global,
+    words: Words<'_>,
+    book: &mut Book<MapMachine>,
+    host: &mut H,
+    standard: &mut L,
+) -> u8
+    requires sessions { HaveSessions words }
+    requires empty { book.old ≡ [] }
+    ensures { ComesTo (Some (shown words.entry)) (H.told host.old) (H.told host.new)
+        (L.told standard.old) (L.told standard.new) result }
+{
+    match words {
+        Words::Pipe { users, at } => run_pipe(alloc, users, book, at, host, standard),
+        Words::Measure(load) => measure(alloc, book, load, standard),
+        Words::Export(load) => export(alloc, book, load, standard),
+        Words::Replay => replay(alloc, standard),
+    }
+}
+
+/// The same over the one book of the run.
 fn run_words<H: Host, L: Link>(
     alloc: Global,
     words: Words<'_>,
@@ -73,12 +105,8 @@ fn run_words<H: Host, L: Link>(
     ensures { ComesTo (Some (shown words.entry)) (H.told host.old) (H.told host.new)
         (L.told standard.old) (L.told standard.new) result }
 {
-    match words {
-        Words::Pipe { users, at } => run_pipe(alloc, users, at, host, standard),
-        Words::Measure(load) => measure(alloc, load, standard),
-        Words::Export(load) => export(alloc, load, standard),
-        Words::Replay => replay(alloc, standard),
-    }
+    let mut book = Book::<MapMachine>::new(alloc);
+    run_words_over(alloc, words, &mut book, host, standard)
 }
 
 /// Does what the words ask on the host and the standard link, and answers the program's status: 1

@@ -1,8 +1,7 @@
 -- An accepted upload after some of its operations.
 use Rattle.std.proofs.Common.{◌≡◌, ℕ, ◌+◌, Bool, true, false, List, [], ◌∷◌, ◌++◌, length, length-append, append-nil, append_assoc, Some, None, Ok, refl, sym, ap, ◌∙◌, subst, arith}
-use Rattle.std.specs.Prelude.{Option, Result, if◌then◌else◌}
+use Rattle.std.specs.Prelude.{Option, if◌then◌else◌}
 use Rattle.osm_base.specs.Place.{Area}
-use Rattle.osm_base.specs.declared.keys.Kind.{Kind}
 use Rattle.osm_base.specs.declared.keys.Key.{Key}
 use Rattle.osm_element.specs.Elements.{count, push_version}
 use Rattle.osm_element.specs.declared.elements.Elements.{Elements}
@@ -14,7 +13,7 @@ use Rattle.changeset_core.specs.Changeset.{join_areas, touched_area}
 use Rattle.changeset_core.specs.declared.records.ChangesetRecord.{ChangesetRecord}
 use Rattle.changeset_core.specs.declared.records.Work.{Work}
 use Rattle.osm_model.specs.declared.uploads.Progress.{Progress}
-use Rattle.osm_model.specs.Fold.{start, task, work_of, works}
+use Rattle.osm_model.specs.Fold.{task, work_of, works}
 use Rattle.osm_model.specs.Operation.{applied, skipped, operate, operate_all}
 use Rattle.osm_world.specs.Beds.{first_ids, ids_after, content_of_op, tags_of_op, makes, version_of_op, IsBedOf, AreBedsOf}
 use Rattle.osm_world.specs.World.{Runs, IsDone}

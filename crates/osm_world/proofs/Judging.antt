@@ -21,7 +21,7 @@ use Rattle.osm_model.specs.Act.{Effect, judge, create_changeset, single_number, 
 use Rattle.osm_model.specs.Changeset.{changeset_row, new_changeset, open_record, own_record}
 use Rattle.osm_model.specs.Fold.{applied_count, start, task, upload, upload_own, upload_counted, uploaded}
 use Rattle.osm_model.specs.Operation.{operate_all}
-use Rattle.osm_model.specs.State.{HasChangeset, changeset, own_changeset, with_changeset, with_end, with_mark, with_record, with_redaction, with_tags, with_work}
+use Rattle.osm_model.specs.State.{HasChangeset, changeset, own_changeset, with_changeset, with_end, with_mark, with_record, with_redaction, with_tags}
 use Rattle.osm_model.specs.declared.commands.Command.{Command}
 use Rattle.osm_model.specs.declared.commands.Command.TheVariants as command
 use Rattle.osm_model.specs.declared.states.State.{State}

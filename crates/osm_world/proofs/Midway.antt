@@ -1,5 +1,5 @@
 -- An upload is under way: what was laid by serves what is left of it.
-use Rattle.std.proofs.Common.{◌≡◌, ℕ, ◌+◌, ◌-◌, ◌<◌, ◌≤◌, Bool, true, refl, List, [], ◌∷◌, ◌++◌, length, drop, sym, ap, ◌∙◌, subst, arith, Some, None}
+use Rattle.std.proofs.Common.{◌≡◌, ℕ, ◌+◌, ◌-◌, ◌<◌, ◌≤◌, Bool, true, refl, List, [], ◌∷◌, ◌++◌, length, drop, sym, ap, ◌∙◌, subst, arith, None}
 use Rattle.std.specs.Prelude.{Option, if◌then◌else◌}
 use Rattle.std.specs.Option.{ForSome}
 use Rattle.std.proofs.lemmas.Bool.{eq-eqb, and_from}
@@ -8,7 +8,7 @@ use Rattle.osm_base.specs.Place.{Area, Position}
 use Rattle.osm_base.specs.Row.{Row}
 use Rattle.osm_base.specs.declared.keys.Key.{Key}
 use Rattle.osm_base.proofs.KeyOrder.{key_eq-refl}
-use Rattle.osm_element.specs.Elements.{count, push_version}
+use Rattle.osm_element.specs.Elements.{push_version}
 use Rattle.osm_element.specs.declared.elements.Elements.{Elements}
 use Rattle.osm_change.specs.declared.operations.Op.{Op}
 use Rattle.changeset_core.specs.Changeset.{join_areas, touched_area}

@@ -1,4 +1,4 @@
-ghost use Rattle.std.specs.Prelude.{◌≡◌, ◌+◌, ◌≤◌, [], if◌then◌else◌, length, map, IfOk, OnOk};
+ghost use Rattle.std.specs.Prelude.{◌≡◌, ◌+◌, ◌≤◌, [], ◌∷◌, ◌++◌, if◌then◌else◌, length, map, IfOk, OnOk};
 ghost use Rattle.osm_base.specs.Key.{key_eq, lists_key, IsRising};
 ghost use Rattle.osm_base.specs.Place.{Position};
 ghost use Rattle.osm_base.specs.declared.keys.Key.{Key};
@@ -9,6 +9,7 @@ ghost use Rattle.reverse_refs.specs.Users.{free_in};
 ghost use Rattle.tile_grid.specs.Grid.{free_at};
 ghost use Rattle.indexed_map.specs.Indexed.{times_listed};
 ghost use Rattle.indexed_map.specs.Placed.{enters};
+ghost use Rattle.osm_world.specs.declared.beds.Bed.{Bed};
 ghost use Rattle.osm_world.specs.Beds.{first_ids, id_for, one_more, ids_after, place_in, place_of_op, HasPlaces, IsBedOf, IsLaidFor, AreBedsOf, made, begun, entered};
 
 use crate::beds::{Bed, Laid};
@@ -207,18 +208,48 @@ pub fn lay_all(alloc: Global, map: &mut IndexedMap, operations: &[Op]) -> Result
     let mut keys = Vec::with_capacity(alloc, operations.len())?;
     let mut beds = Vec::with_capacity(alloc, operations.len())?;
     for operation in operations {
-        let bed = lay_one(alloc, keys.as_slice(), ids, operation)?;
-        promise_for(alloc, map, &bed, operation)?;
-        ids = ids_after(ids, operation)?;
-        keys.push(bed.key)?;
-        beds.push(bed)?;
+        ids = lay_next(alloc, map, &mut keys, &mut beds, ids, operation)?;
     }
-    let mut places = Roomy::none(alloc);
-    places.promise(operations.len())?;
     Ok(Laid {
-        keys: places,
+        keys: places_for_keys(alloc, operations.len())?,
         beds: Items::of(beds),
     })
+}
+
+fn places_for_keys(alloc: Global, count: usize) -> Result<Roomy<Key>, Memory>
+    ensures { IfOk result (λ places. (places.items ≡ []) × (count ≤ places.free)) }
+{
+    let mut places = Roomy::none(alloc);
+    places.promise(count)?;
+    Ok(places)
+}
+
+/// Lays by what the next operation needs, promises room for it, and gives the ids that come next
+/// then.
+fn lay_next(
+    alloc: Global,
+    map: &mut IndexedMap,
+    keys: &mut Vec<Key>,
+    beds: &mut Vec<Bed>,
+    ids: FirstIds,
+    operation: &Op,
+) -> Result<FirstIds, Memory>
+    ensures same { map.new.elements ≡ map.old.elements }
+    ensures next { IfOk result (λ next. next ≡ ids_after ids operation.now) }
+    ensures laid { OnOk result ((bed : Bed) × IsBedOf keys.old.items ids operation.now bed
+        × (keys.new.items ≡ keys.old.items ++ bed.key ∷ [])
+        × (beds.new.items ≡ beds.old.items ++ bed ∷ [])
+        × ((k : Key) → free map.new.versions k ≡ free map.old.versions k + (if key_eq k bed.key then 1 else 0))
+        × ((b : Key) → free_in map.new.users b ≡ free_in map.old.users b + times_listed bed.listed b)
+        × ((p : Position) → free_at map.new.cells p ≡ free_at map.old.cells p + (if enters p (place_of_op operation.now) then 1 else 0))) }
+{
+    let next = ids_after(ids, operation)?;
+    let bed = lay_one(alloc, keys.as_slice(), ids, operation)?;
+    let key = bed.key;
+    promise_for(alloc, map, &bed, operation)?;
+    beds.push(bed)?;
+    keys.push(key)?;
+    Ok(next)
 }
 
 /// There is no element with id 0, so the rules accept no operation on it.

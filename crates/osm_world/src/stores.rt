@@ -1,19 +1,20 @@
-ghost use Rattle.std.specs.Prelude.{◌≡◌, length, nat_lt, if◌then◌else◌, Ok, IsOk};
+ghost use Rattle.std.specs.Prelude.{◌≡◌, ℕ, ◌+◌, ◌≤◌, ◌==◌, false, length, slice_index, nat_lt, if◌then◌else◌, Ok, IsOk, OnOk};
 ghost use Rattle.changeset_core.specs.Changeset.{join_areas};
 ghost use Rattle.changeset_core.specs.Timely.{IsTimelyMoment};
 ghost use Rattle.osm_model.specs.Act.{Effect, judge};
 ghost use Rattle.osm_model.specs.Fold.{uploaded};
 ghost use Rattle.osm_model.specs.State.{HasChangeset};
 ghost use Rattle.osm_model.specs.declared.uploads.Progress.{Progress};
-ghost use Rattle.osm_world.specs.Records.{AreNumbered, HasNoMoreRoom};
+ghost use Rattle.osm_world.specs.Records.{ids, rooms, AreNumbered, HasNoMoreRoom};
 ghost use Rattle.osm_world.specs.World.{stored_state, HasRoomFor, HasUploadRoom, Runs};
 
 use crate::beds::Laid;
-use crate::records::{add_changeset, set_end, set_tags, vacant};
+use crate::plans::lay_all;
+use crate::records::{add_changeset, promise_work, set_end, set_tags, vacant};
 use crate::uploads::apply_all;
 use changeset_core::Changeset;
 use indexed_map::IndexedMap;
-use osm_base::{Box7, Items, Roomy, Stamp, User};
+use osm_base::{Box7, Items, Memory, Roomy, Stamp, User};
 use osm_change::Op;
 use osm_model::Command;
 use redaction_core::Redactions;
@@ -30,9 +31,9 @@ pub struct Stores {
 
 impl Stores {
     /// Does an accepted command at a stamp, which is the last one then. It takes no memory.
-    pub fn apply(&mut self, alloc: Global, laid: Laid, user: User, at: Stamp, command: Command)
+    pub fn apply(&mut self, alloc: Global, laid: &mut Laid, user: User, at: Stamp, command: Command)
         requires accepted { IsOk (judge (stored_state self.old) user at command) }
-        requires room { HasRoomFor self.old laid command }
+        requires room { HasRoomFor self.old laid.old command }
         requires numbered { AreNumbered self.old.changesets.items }
         requires timely { IsTimelyMoment at }
         ensures done { (done : Effect) → judge (stored_state self.old) user at command ≡ Ok done → stored_state self.new ≡ record done.state { last = at } }
@@ -44,9 +45,9 @@ impl Stores {
     }
 
     /// The same, the last stamp aside.
-    fn carry_out(&mut self, alloc: Global, laid: Laid, user: User, at: Stamp, command: Command)
+    fn carry_out(&mut self, alloc: Global, laid: &mut Laid, user: User, at: Stamp, command: Command)
         requires accepted { IsOk (judge (stored_state self.old) user at command) }
-        requires room { HasRoomFor self.old laid command }
+        requires room { HasRoomFor self.old laid.old command }
         requires numbered { AreNumbered self.old.changesets.items }
         requires timely { IsTimelyMoment at }
         ensures done { (done : Effect) → judge (stored_state self.old) user at command ≡ Ok done → stored_state self.new ≡ done.state }
@@ -83,11 +84,29 @@ impl Stores {
         }
     }
 
+    /// Promises room for the work of an upload, and lays by what its operations need.
+    pub fn lay_by(
+        &mut self,
+        alloc: Global,
+        laid: &mut Laid,
+        changeset: u64,
+        operations: &[Op],
+    ) -> Result<(), Memory>
+        ensures same { stored_state self.new ≡ stored_state self.old }
+        ensures ok { OnOk result (HasUploadRoom self.new laid.new changeset operations.now) }
+        ensures ids { ids self.new.changesets.items ≡ ids self.old.changesets.items }
+        ensures others { (i : ℕ) → (i + 1 == changeset) ≡ false → slice_index (rooms self.new.changesets.items) i ≤ slice_index (rooms self.old.changesets.items) i }
+    {
+        promise_work(alloc, &mut self.changesets, changeset, operations.len())?;
+        *laid = lay_all(alloc, &mut self.map, operations)?;
+        Ok(())
+    }
+
     /// Does an accepted upload.
-    fn upload(&mut self, alloc: Global, laid: Laid, id: u64, at: Stamp, operations: Items<Op>)
+    fn upload(&mut self, alloc: Global, laid: &mut Laid, id: u64, at: Stamp, operations: Items<Op>)
         requires accepted { (final : Progress) × Runs self.old.map.elements id at operations final }
         requires known { HasChangeset (stored_state self.old) id }
-        requires room { HasUploadRoom self.old laid id operations }
+        requires room { HasUploadRoom self.old laid.old id operations }
         requires numbered { AreNumbered self.old.changesets.items }
         requires timely { IsTimelyMoment at }
         ensures done { (final : Progress) → Runs self.old.map.elements id at operations final → stored_state self.new ≡ uploaded (stored_state self.old) at id final }

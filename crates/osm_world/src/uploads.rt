@@ -11,7 +11,7 @@ ghost use Rattle.reverse_refs.specs.Users.{free_in};
 ghost use Rattle.tile_grid.specs.Grid.{free_at};
 ghost use Rattle.indexed_map.specs.Indexed.{times_listed, IsListOf, HasRoom};
 ghost use Rattle.indexed_map.specs.Placed.{enters};
-ghost use Rattle.osm_world.specs.Beds.{first_ids, content_of_op, place_of_op, makes, version_of, version_of_op, HasPlaces, HasPlacesFor, AreBedsOf, made, begun, entered};
+ghost use Rattle.osm_world.specs.Beds.{first_ids, content_of_op, tags_of_op, place_of_op, makes, version_of, version_of_op, HasPlaces, HasPlacesFor, AreBedsOf, made, begun, entered};
 ghost use Rattle.osm_world.specs.World.{Runs, IsDone};
 
 use crate::beds::{Bed, Laid};
@@ -121,6 +121,37 @@ fn make_version(
     touched
 }
 
+/// Whether an operation makes a version of its element: a delete may be skipped.
+fn makes(map: &IndexedMap, key: Key, operation: &Op) -> bool
+    ensures { result ≡ makes map.now.elements key operation.now }
+{
+    match operation {
+        Op::Create { .. } | Op::Modify { .. } => true,
+        Op::Delete { .. } => map.is_visible(key) && map.is_unused(key),
+    }
+}
+
+/// What the element of an operation holds then, and its tags.
+fn given(
+    alloc: Global,
+    keys: &[Key],
+    operation: Op,
+    ids: Roomy<u64>,
+    members: Roomy<Member<u64>>,
+) -> (Option<Content<u64>>, Tags)
+    requires { HasPlacesFor operation ids members }
+    ensures content { result.0 ≡ content_of_op keys.now operation }
+    ensures tags { result.1 ≡ tags_of_op operation }
+    ensures place { new_position result.0 ≡ place_of_op operation }
+{
+    match operation {
+        Op::Create { content, tags, .. } | Op::Modify { content, tags, .. } => {
+            (Some(with_ids(keys, content, ids, members)), tags)
+        }
+        Op::Delete { .. } => (None, Tags::none(alloc)),
+    }
+}
+
 /// Does one operation of an accepted upload, and gives the box of what it touches: `None` too where
 /// it is skipped.
 fn apply_one(
@@ -148,31 +179,17 @@ fn apply_one(
     ensures work { changeset.old.free ≤ changeset.new.free + 1 }
     ensures no_more { changeset.new.free ≤ changeset.old.free }
 {
+    if !makes(map, bed.key, &operation) {
+        return None;
+    }
     let Bed {
         key,
         listed,
         ids,
         members,
     } = bed;
-    let listed = listed.items();
-    match operation {
-        Op::Create { content, tags, .. } => {
-            let new = Some(with_ids(keys, content, ids, members));
-            make_version(map, changeset, at, key, new, tags, listed)
-        }
-        Op::Modify { content, tags, .. } => {
-            let new = Some(with_ids(keys, content, ids, members));
-            make_version(map, changeset, at, key, new, tags, listed)
-        }
-        Op::Delete { .. } => {
-            if map.is_visible(key) && map.is_unused(key) {
-                let tags = Tags::none(alloc);
-                make_version(map, changeset, at, key, None, tags, listed)
-            } else {
-                None
-            }
-        }
-    }
+    let (content, tags) = given(alloc, keys, operation, ids, members);
+    make_version(map, changeset, at, key, content, tags, listed.items())
 }
 
 /// Takes what was laid by for one operation.
@@ -195,29 +212,28 @@ pub fn apply_all(
     changeset: &mut Changeset,
     at: Stamp,
     operations: Items<Op>,
-    laid: Laid,
+    laid: &mut Laid,
 ) -> Option<Box7>
     requires accepted { (final : Progress) × Runs map.old.elements changeset.old.id at operations final }
-    requires beds { AreBedsOf [] (first_ids map.old.elements) operations laid.beds }
-    requires unused { laid.keys.items ≡ [] }
-    requires keys { length operations ≤ laid.keys.free }
-    requires versions { (k : Key) → made laid.beds k ≤ free map.old.versions k }
-    requires users { (b : Key) → begun laid.beds b ≤ free_in map.old.users b }
+    requires beds { AreBedsOf [] (first_ids map.old.elements) operations laid.old.beds }
+    requires unused { laid.old.keys.items ≡ [] }
+    requires keys { length operations ≤ laid.old.keys.free }
+    requires versions { (k : Key) → made laid.old.beds k ≤ free map.old.versions k }
+    requires users { (b : Key) → begun laid.old.beds b ≤ free_in map.old.users b }
     requires cells { (p : Position) → entered operations p ≤ free_at map.old.cells p }
     requires work { length operations ≤ changeset.old.free }
     ensures done { (final : Progress) → Runs map.old.elements changeset.old.id at operations final → IsDone map.new.elements changeset.old.kept changeset.new.kept result final }
     ensures id { changeset.new.id ≡ changeset.old.id }
     ensures no_more { changeset.new.free ≤ changeset.old.free }
 {
-    let Laid { mut keys, mut beds } = laid;
     let mut area = None;
     for operation in operations.into_vec() {
-        let place = keys.items().len();
-        let bed = take_bed(alloc, &mut beds, place);
+        let place = laid.keys.items().len();
+        let bed = take_bed(alloc, &mut laid.beds, place);
         let key = bed.key;
-        let touched = apply_one(alloc, map, changeset, at, keys.items(), operation, bed);
+        let touched = apply_one(alloc, map, changeset, at, laid.keys.items(), operation, bed);
         area = join_boxes(area, touched);
-        keys.push(key);
+        laid.keys.push(key);
     }
     area
 }

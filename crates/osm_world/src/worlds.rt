@@ -8,8 +8,7 @@ ghost use Rattle.osm_world.specs.Records.{records, AreNumbered};
 ghost use Rattle.osm_world.specs.World.{state_of, HasRoom, HasUploadRoom, HasNothingPromised, IsKept};
 
 use crate::beds::Laid;
-use crate::plans::lay_all;
-use crate::records::{forget_work, promise_work};
+use crate::records::forget_work;
 use crate::stores::Stores;
 use changeset_core::Changeset;
 use history_store::Store;
@@ -23,7 +22,6 @@ use osm_model::{
 use redaction_core::Redactions;
 use std::alloc::Global;
 use std::marker::Model;
-use std::mem;
 use tile_grid::Grid;
 
 /// The map with its indexes, and what was laid by for one entry. The changeset `busy` was promised
@@ -145,8 +143,8 @@ impl World {
             command,
             ..
         } = entry;
-        let laid = mem::replace(&mut self.laid, Laid::none(alloc));
-        self.stores.apply(alloc, laid, user, stamp, command);
+        self.stores
+            .apply(alloc, &mut self.laid, user, stamp, command);
         self.forget(alloc);
     }
 
@@ -180,14 +178,8 @@ impl World {
         ensures ok { OnOk result (HasUploadRoom self.new.stores self.new.laid changeset operations.now) }
     {
         self.busy = changeset;
-        promise_work(
-            alloc,
-            &mut self.stores.changesets,
-            changeset,
-            operations.len(),
-        )?;
-        self.laid = lay_all(alloc, &mut self.stores.map, operations)?;
-        Ok(())
+        self.stores
+            .lay_by(alloc, &mut self.laid, changeset, operations)
     }
 
     /// Drops what was laid by, and takes back what was promised.

@@ -42,8 +42,7 @@ fn lower(world: &World, standings: &mut Standings, used: Key) -> Result<(), Memo
             users: standing.users - 1,
             ..standing
         },
-    )?;
-    Ok(())
+    )
 }
 
 fn raise(world: &World, standings: &mut Standings, used: Key) -> Result<(), Memory>
@@ -52,8 +51,7 @@ fn raise(world: &World, standings: &mut Standings, used: Key) -> Result<(), Memo
 {
     let standing = standing_in(world, standings, used);
     let users = increased(standing.users)?;
-    put(standings, used, Standing { users, ..standing })?;
-    Ok(())
+    put(standings, used, Standing { users, ..standing })
 }
 
 /// A user less of an element, unless it is the user itself.
@@ -66,8 +64,7 @@ fn lower_other(world: &World, standings: &mut Standings, user: Key, used: Key) -
     if user.is(used) {
         return Ok(());
     }
-    lower(world, standings, used)?;
-    Ok(())
+    lower(world, standings, used)
 }
 
 /// A user less of each of some elements, the user itself left out.
@@ -98,8 +95,7 @@ fn raise_other(world: &World, standings: &mut Standings, user: Key, used: Key) -
     if user.is(used) {
         return Ok(());
     }
-    raise(world, standings, used)?;
-    Ok(())
+    raise(world, standings, used)
 }
 
 /// A user more of each of some elements, the user itself left out.
@@ -139,6 +135,5 @@ pub fn revise(
             holds,
             users: standing.users,
         },
-    )?;
-    Ok(())
+    )
 }

@@ -1,6 +1,6 @@
 ghost use Rattle.std.specs.Prelude.{◌≡◌, ℕ, ◌<◌, ◌^◌, [], List, length, IfOk, OnOk};
 ghost use Rattle.osm_element.specs.Elements.{refs_in};
-ghost use Rattle.osm_change.specs.Keys.{one_more, ids_after};
+ghost use Rattle.osm_change.specs.Keys.{next_of, one_more, ids_after};
 ghost use Rattle.osm_change.specs.declared.operations.Op.{Op};
 ghost use Rattle.diff_result.specs.Counted.{HasNumbers};
 ghost use Rattle.osm_model.specs.Fold.{start};
@@ -172,9 +172,9 @@ impl Overlay {
         };
         view.add_listed(key, &mut listed)?;
         let listed = keys_sorted_once(listed);
-        lower_each(world, &mut self.standings, key, listed.as_slice())?;
+        let lowered = lower_each(world, &mut self.standings, key, listed.as_slice());
         self.scratch = listed;
-        Ok(())
+        lowered
     }
 
     /// Each other element that an operation's content lists has a user more.
@@ -194,9 +194,9 @@ impl Overlay {
         listed.clear();
         add_given(self.keys.as_slice(), operation, &mut listed)?;
         let listed = keys_sorted_once(listed);
-        raise_each(world, &mut self.standings, key, listed.as_slice())?;
+        let raised = raise_each(world, &mut self.standings, key, listed.as_slice());
         self.scratch = listed;
-        Ok(())
+        raised
     }
 }
 
@@ -210,23 +210,29 @@ fn holds_of(place: u32, operation: &Op) -> Holds
     }
 }
 
+/// The id that the next element of a kind gets.
+pub fn next_of(next: FirstIds, kind: Kind) -> u64
+    ensures { result ≡ next_of next kind }
+{
+    match kind {
+        Kind::Node => next.node,
+        Kind::Way => next.way,
+        Kind::Relation => next.relation,
+    }
+}
+
 fn one_more(next: FirstIds, kind: Kind) -> Result<FirstIds, Memory>
     ensures { IfOk result (λ after. after ≡ one_more next kind) }
 {
-    match kind {
-        Kind::Node => Ok(FirstIds {
-            node: increased(next.node)?,
+    let id = increased(next_of(next, kind))?;
+    Ok(match kind {
+        Kind::Node => FirstIds { node: id, ..next },
+        Kind::Way => FirstIds { way: id, ..next },
+        Kind::Relation => FirstIds {
+            relation: id,
             ..next
-        }),
-        Kind::Way => Ok(FirstIds {
-            way: increased(next.way)?,
-            ..next
-        }),
-        Kind::Relation => Ok(FirstIds {
-            relation: increased(next.relation)?,
-            ..next
-        }),
-    }
+        },
+    })
 }
 
 /// A create takes the next id of its kind.

@@ -1,22 +1,22 @@
 use Rattle.std.proofs.Common.{refl}
 use Rattle.osm_words.specs.Words.{HasSessions}
-use Rattle.osm_serve.proofs.top.run_words.Goals as goal
+use Rattle.osm_serve.proofs.top.run_words_over.Goals as goal
 
 pub returns-in-Pipe : goal.returns-in-Pipe
 returns-in-Pipe g c = rw c.in-Pipe.is c.run_pipe.ensures
 
 pub measure-requires : goal.measure-requires
 measure-requires g c =
-    let has : HasSessions c.in-Measure.load = rw c.in-Measure.is at c.requires in
-    record { some = has.some; few = has.few }
+    let has : HasSessions c.in-Measure.load = rw c.in-Measure.is at c.requires.sessions in
+    record { some = has.some; few = has.few; empty = c.requires.empty }
 
 pub returns-in-Measure : goal.returns-in-Measure
 returns-in-Measure g c = rw c.in-Measure.is (record { host_stays = refl; tells = c.measure.ensures })
 
 pub export-requires : goal.export-requires
 export-requires g c =
-    let has : HasSessions c.in-Export.load = rw c.in-Export.is at c.requires in
-    record { some = has.some; few = has.few }
+    let has : HasSessions c.in-Export.load = rw c.in-Export.is at c.requires.sessions in
+    record { some = has.some; few = has.few; empty = c.requires.empty }
 
 pub returns-in-Export : goal.returns-in-Export
 returns-in-Export g c = rw c.in-Export.is (record { host_stays = refl; tells = c.export.ensures })

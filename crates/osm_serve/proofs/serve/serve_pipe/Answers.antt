@@ -1,7 +1,7 @@
 use Rattle.std.proofs.Common.{◌∙◌}
 use Rattle.http_link.specs.Turns.{exchanges_of}
 use Rattle.osm_serve.proofs.Serving.{unserved, serves_pipe}
-use Rattle.osm_serve.proofs.serve.serve_over.Goals as goal
+use Rattle.osm_serve.proofs.serve.serve_pipe.Goals as goal
 
 pub returns-in_default : goal.returns-in_default
 returns-in_default g c = unserved c.args.users.now (g.L.Outside.told c.args.link.now) c.some_reading.ensures c.points_are_consistent.ensures
