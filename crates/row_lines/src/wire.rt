@@ -76,8 +76,8 @@ fn add_ending(made: &mut Vec<u8>, field: &str, body: &str) -> Result<(), RowFaul
 /// Adds the bytes of a request line, with these fields before the caller's: `CALLER METHOD PATH`, and
 /// perhaps a body.
 pub fn add_request(made: &mut Vec<u8>, fields: &[u8], line: &str) -> Result<(), RowFault> {
-    let (caller, rest) = word_of(line);
-    let (method, rest) = word_of(rest);
+    let (caller, rest) = line.split_once(' ').ok_or(RowFault::Unread)?;
+    let (method, rest) = rest.split_once(' ').ok_or(RowFault::Unread)?;
     let (path, body) = word_of(rest);
     let token = looked_up(&TOKENS, caller)?;
     add_all(made, &[method, " /api/0.6/", path, " HTTP/1.1\r\n"])?;
@@ -92,7 +92,7 @@ fn add_start(made: &mut Vec<u8>, status: &str, reason: &str) -> Result<(), RowFa
 
 /// Adds the bytes of a reply line: `STATUS BODY`, or `STATUS close BODY` where the link is closed.
 pub fn add_reply(made: &mut Vec<u8>, line: &str) -> Result<(), RowFault> {
-    let (status, rest) = word_of(line);
+    let (status, rest) = line.split_once(' ').ok_or(RowFault::Unread)?;
     let body = rest.strip_prefix("close ").unwrap_or(rest);
     let is_kept = body.len() == rest.len();
     let reason = looked_up(&REASONS, status)?;
