@@ -1,7 +1,7 @@
 //! A row: a session on one link, and what must come of it.
 use crate::pieces::Pieces;
 use row_lines::{
-    RowFault, add_numbered, add_reply, add_request, add_unescaped, add_written_out, number, word_of,
+    RowFault, add_numbered, add_reply, add_request, add_unescaped, add_written_out, number,
 };
 use std::alloc::Global;
 
@@ -186,7 +186,7 @@ impl Row {
 
     /// Reads `N LINE`: the line that often.
     fn read_often(&mut self, alloc: Global, text: &str, room: &mut String) -> Result<(), RowFault> {
-        let (count, line) = word_of(text);
+        let (count, line) = text.split_once(' ').ok_or(RowFault::Unread)?;
         for place in 1..=number(count)? {
             room.clear();
             add_numbered(room, line, place)?;
@@ -196,7 +196,7 @@ impl Row {
     }
 
     fn read_one(&mut self, alloc: Global, line: &str) -> Result<(), RowFault> {
-        let (word, rest) = word_of(line);
+        let (word, rest) = line.split_once(' ').ok_or(RowFault::Unread)?;
         match mark_of(word) {
             Some(mark) => self.read_marked(alloc, mark, rest),
             None if word.as_bytes().first().is_some_and(u8::is_ascii_digit) => {
