@@ -1,8 +1,8 @@
 -- What the map's book keeps is a journal of the map, and a commit does what a command does to it.
-use Rattle.std.proofs.Common.{◌≡◌, ℕ, ◌+◌, ◌≤◌, ◌&&◌, ◌==◌, Bool, length, List, [], ◌∷◌, ◌++◌, Result, Ok, Err, sym, refl, ap, ◌∙◌}
+use Rattle.std.proofs.Common.{◌≡◌, ℕ, ◌+◌, ◌≤◌, ◌&&◌, ◌==◌, Bool, true, length, List, [], ◌∷◌, ◌++◌, Result, Ok, Err, sym, refl, ap, ◌∙◌}
 use Rattle.std.proofs.lemmas.List.Sums.{count_by-le-length}
 use Rattle.hub_core.specs.Journal.{IsJournal, extended, is_numbered as numbered_by}
-use Rattle.machine_law.specs.Rules.{is_legal_from as legal_by}
+use Rattle.machine_law.specs.Rules.{is_legal, is_legal_from as legal_by}
 use Rattle.osm_base.specs.declared.people.User.{User}
 use Rattle.osm_change.specs.declared.refusals.Refusal.{Refusal}
 use Rattle.osm_model.specs.Act.{Effect, judge}
@@ -22,10 +22,14 @@ numbered_same : (before es : List Entry) → numbered_by tag_of before es ≡ is
 numbered_same before [] = refl
 numbered_same before (e ∷ es) = ap (λ (b : Bool). (e.call == calls_of e.session before + 1) && b) (numbered_same (before ++ e ∷ []) es)
 
+-- what is legal by the machine's rules is legal by the map's
+pub legal_front : (es : List Entry) → is_legal map_rules es ≡ true → is_legal_from empty es ≡ true
+legal_front es legal = sym (legal_same empty es) ∙ legal
+
 -- a book's journal is legal
 pub legal_of : (es : List Entry) → IsJournal map_rules es → IsLegal es
 legal_of es kept = record {
-  taken = sym (legal_same empty es) ∙ kept.legal;
+  taken = legal_front es kept.legal;
   numbered = sym (numbered_same [] es) ∙ kept.numbered;
 }
 

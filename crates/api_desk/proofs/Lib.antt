@@ -1,9 +1,15 @@
+pub mod Fronts
 pub mod Journals
 pub mod ReplyBytes
 pub mod Rows
 pub mod Replies
 pub mod Sessions
+pub mod MachineRows
+pub mod HubReplies
+pub mod HubSessions
+pub mod Settled
 pub mod Worked
 pub mod RowSteps
 pub mod Told
 pub mod Loads
+pub mod PlanSteps

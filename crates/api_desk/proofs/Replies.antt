@@ -17,14 +17,31 @@ use Rattle.http_link.specs.declared.desk.Reply.{Reply}
 use Rattle.http_link.specs.Desk.{counted_reply}
 use Rattle.user_table.specs.Rows.{Row}
 use Rattle.api_desk.specs.Request.{request_of}
-use Rattle.api_desk.specs.Answers.{Answers, reply_of}
+use Rattle.api_desk.specs.Answers.{Answers, AnswersAlone, reply_of}
 use Rattle.api_desk.proofs.Rows.{row_of_act, row_of_ask, calls_of-next}
 
 -- want of memory is a row of every request
-lacking : (F : List Entry) (s : ℕ) (p : Place) (q : Request) (m : ℕ) → IsRow F s p q m None p
+pub lacking : (F : List Entry) (s : ℕ) (p : Place) (q : Request) (m : ℕ) → IsRow F s p q m None p
 lacking F s p (refused r) m = inr (record { told = refl; stays = refl })
 lacking F s p (does user c) m = inr (inr (inl (record { told = refl; stays = refl })))
 lacking F s p (reads q) m = inr (record { told = refl; stays = refl })
+
+-- what is refused by itself, and want of memory, leave a session where it stands
+
+pub memory_stays : (users : List Row) (s : ℕ) (F : List Entry) (p : Place) (message : Message) (moment : ℕ) → Answers users s F p message moment (reply_of None) p
+memory_stays users s F p message moment = record { answer = None; row = lacking F s p (request_of users message) moment; text = refl }
+
+pub refusal_stays :
+    (users : List Row) (s : ℕ) (F : List Entry) (p : Place) (message : Message) (moment : ℕ) (r : Refusal) (result : Result Reply Memory)
+    → request_of users message ≡ refused r
+    → IfOk result (λ reply. reply ≡ reply_of (Some (Refused r)))
+    → Answers users s F p message moment (counted_reply result) p
+refusal_stays users s F p message moment r (Ok reply) asks text = record {
+  answer = Some (Refused r);
+  row = subst (λ (q : Request). IsRow F s p q moment (Some (Refused r)) p) (sym asks) (inl (record { told = refl; stays = refl }));
+  text = text;
+}
+refusal_stays users s F p message moment r (Err memory) asks text = memory_stays users s F p message moment
 
 -- a journal keeps what it had, and gets no entry but one of the session
 record Grows (s : ℕ) (old new : List Entry) : Type 0 where
@@ -44,19 +61,28 @@ appended_grows :
 appended_grows es e (Ok done) = record { more = e ∷ []; grown = refl; own = calls_of-next es e }
 appended_grows es e (Err r) = grows_by_nothing e.session es
 
+-- who stays where it stands, on all of a journal that stays
+pub stays_alone :
+    (users : List Row) (s : ℕ) (es : List Entry) (message : Message) (moment : ℕ) (reply : Reply)
+    → Answers users s es (all_of s es) message moment reply (all_of s es)
+    → AnswersAlone users s es es message moment reply
+stays_alone users s es message moment reply answers = record {
+  answers = answers;
+  more = [];
+  grown = sym (append-nil es);
+  own = grows_by_nothing_own s es;
+}
+
 -- want of memory leaves the journal
-pub memory_answers :
+memory_answers :
     (users : List Row) (s : ℕ) (old new : List Entry) (message : Message) (moment : ℕ)
     → new ≡ old
-    → Answers users s old new message moment (reply_of None)
-memory_answers users s old new message moment same = record {
-  answer = None;
-  row = subst (λ (es : List Entry). IsRow es s (all_of s old) (request_of users message) moment None (all_of s es)) (sym same) (lacking old s (all_of s old) (request_of users message) moment);
-  text = refl;
-  more = [];
-  grown = same ∙ sym (append-nil old);
-  own = ap (calls_of s) same ∙ grows_by_nothing_own s old;
-}
+    → AnswersAlone users s old new message moment (reply_of None)
+memory_answers users s old new message moment same =
+    subst
+    (λ (es : List Entry). AnswersAlone users s old es message moment (reply_of None))
+    (sym same)
+    (stays_alone users s old message moment (reply_of None) (memory_stays users s old (all_of s old) message moment))
 
 -- a command
 pub change_answers :
@@ -66,19 +92,21 @@ pub change_answers :
     → IfOk result (λ reply. reply ≡ reply_of (Some (act (replay old) user moment c).1))
     → OnOk result (new ≡ journal_after old s user moment c)
     → OnErr result (new ≡ old)
-    → Answers users s old new message moment (counted_reply result)
+    → AnswersAlone users s old new message moment (counted_reply result)
 change_answers users s old new message moment user c (Ok reply) asks text after same =
     let grows = appended_grows old (next_entry old s user moment c) (judge (replay old) user (stamp_on (replay old) moment) c) in
     record {
-      answer = Some (act (replay old) user moment c).1;
-      row = subst
-          (λ (es : List Entry). IsRow es s (all_of s old) (request_of users message) moment (Some (act (replay old) user moment c).1) (all_of s es))
-          (sym after)
-          (subst
-          (λ (q : Request). IsRow (journal_after old s user moment c) s (all_of s old) q moment (Some (act (replay old) user moment c).1) (all_of s (journal_after old s user moment c)))
-          (sym asks)
-          (row_of_act old s user moment c));
-      text = text;
+      answers = record {
+        answer = Some (act (replay old) user moment c).1;
+        row = subst
+            (λ (es : List Entry). IsRow es s (all_of s old) (request_of users message) moment (Some (act (replay old) user moment c).1) (all_of s es))
+            (sym after)
+            (subst
+            (λ (q : Request). IsRow (journal_after old s user moment c) s (all_of s old) q moment (Some (act (replay old) user moment c).1) (all_of s (journal_after old s user moment c)))
+            (sym asks)
+            (row_of_act old s user moment c));
+        text = text;
+      };
       more = grows.more;
       grown = after ∙ grows.grown;
       own = ap (calls_of s) after ∙ grows.own;
@@ -90,32 +118,13 @@ pub query_answers :
     (users : List Row) (s : ℕ) (es : List Entry) (message : Message) (moment : ℕ) (q : Query) (result : Result Reply Memory)
     → request_of users message ≡ reads q
     → IfOk result (λ reply. reply ≡ reply_of (Some (ask (replay es) moment q)))
-    → Answers users s es es message moment (counted_reply result)
-query_answers users s es message moment q (Ok reply) asks text = record {
+    → AnswersAlone users s es es message moment (counted_reply result)
+query_answers users s es message moment q (Ok reply) asks text = stays_alone users s es message moment reply (record {
   answer = Some (ask (replay es) moment q);
   row = subst
       (λ (r : Request). IsRow es s (all_of s es) r moment (Some (ask (replay es) moment q)) (all_of s es))
       (sym asks)
       (row_of_ask es s moment q);
   text = text;
-  more = [];
-  grown = sym (append-nil es);
-  own = grows_by_nothing_own s es;
-}
+})
 query_answers users s es message moment q (Err memory) asks text = memory_answers users s es es message moment refl
-
--- a request that is refused by itself
-pub refusal_answers :
-    (users : List Row) (s : ℕ) (es : List Entry) (message : Message) (moment : ℕ) (r : Refusal) (result : Result Reply Memory)
-    → request_of users message ≡ refused r
-    → IfOk result (λ reply. reply ≡ reply_of (Some (Refused r)))
-    → Answers users s es es message moment (counted_reply result)
-refusal_answers users s es message moment r (Ok reply) asks text = record {
-  answer = Some (Refused r);
-  row = subst (λ (q : Request). IsRow es s (all_of s es) q moment (Some (Refused r)) (all_of s es)) (sym asks) (inl (record { told = refl; stays = refl }));
-  text = text;
-  more = [];
-  grown = sym (append-nil es);
-  own = grows_by_nothing_own s es;
-}
-refusal_answers users s es message moment r (Err memory) asks text = memory_answers users s es es message moment refl

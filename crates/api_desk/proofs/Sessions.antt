@@ -28,7 +28,8 @@ one_more :
     → HasServed mid es new
     → HasServed old (e ∷ es) new
 one_more old mid new e es allowed rest =
-    let a = allowed.answers in
+    let alone = allowed.answers in
+    let a = alone.answers in
     let s : ℕ = session_of old in
     let grown : entries_of new ≡ entries_of mid ++ rest.more = rest.grown in
     let row : IsRow (entries_of new) s (all_of s (entries_of old)) (request_of (users_of old) e.message) e.moment a.answer (all_of s (entries_of mid)) =
@@ -55,8 +56,8 @@ one_more old mid new e es allowed rest =
     allowed.session
     rest.own
     in
-    let own : calls_of s (entries_of new) ≡ calls_of s (entries_of old) + length (a.more ++ rest.more) =
-    omega (arith, rest_own, a.own, length-append a.more rest.more)
+    let own : calls_of s (entries_of new) ≡ calls_of s (entries_of old) + length (alone.more ++ rest.more) =
+    omega (arith, rest_own, alone.own, length-append alone.more rest.more)
     in
     record {
       answered = record {
@@ -65,8 +66,8 @@ one_more old mid new e es allowed rest =
         answered = (all_of s (entries_of mid), row, then_on.answered);
       };
       legal = λ legal. rest.legal (allowed.legal legal);
-      more = a.more ++ rest.more;
-      grown = grown ∙ ap (λ (es : List Entry). es ++ rest.more) a.grown ∙ append_assoc (entries_of old) a.more rest.more;
+      more = alone.more ++ rest.more;
+      grown = grown ∙ ap (λ (es : List Entry). es ++ rest.more) alone.grown ∙ append_assoc (entries_of old) alone.more rest.more;
       own = own;
     }
 

@@ -1,4 +1,4 @@
--- What requests are answered, against a journal.
+-- What requests are answered, against a list of entries.
 use Rattle.std.specs.Prelude.{◌≡◌, ℕ, ◌+◌, length, List, [], ◌∷◌, ◌++◌, Option, Some, None, ⊤}
 use Rattle.osm_change.specs.declared.answers.Answer.{Answer}
 use Rattle.osm_model.specs.declared.commands.Entry.{Entry}
@@ -17,12 +17,17 @@ abbrev pub reply_of : Option Answer → Reply
 reply_of None = record { status = 503; body = memory_body }
 reply_of (Some answer) = record { status = status_of answer; body = body_of answer }
 
--- One request was answered: a row of "answered" on the journal as it is then, in which nothing of before is
--- lost, and which has no further entries but the session's own.
-pub record Answers (users : List Row) (session : ℕ) (old new : List Entry) (message : Message) (moment : ℕ) (reply : Reply) : Type 0 where
+-- One message was answered, from a place of the session to the next: its request has a row of "answered" on these entries, and the
+-- reply tells the answer of the row.
+pub record Answers (users : List Row) (session : ℕ) (F : List Entry) (before : Place) (message : Message) (moment : ℕ) (reply : Reply) (after : Place) : Type 0 where
   pub answer : Option Answer
-  pub row : IsRow new session (all_of session old) (request_of users message) moment answer (all_of session new)
+  pub row : IsRow F session before (request_of users message) moment answer after
   pub text : reply ≡ reply_of answer
+
+-- The same for a session that sees all of its journal before and after, and is owed nothing. Nothing of before is lost, and there
+-- are no further entries but the session's own.
+pub record AnswersAlone (users : List Row) (session : ℕ) (old new : List Entry) (message : Message) (moment : ℕ) (reply : Reply) : Type 0 where
+  pub answers : Answers users session new (all_of session old) message moment reply (all_of session new)
   pub more : List Entry
   pub grown : new ≡ old ++ more
   pub own : calls_of session new ≡ calls_of session old + length more
@@ -40,8 +45,8 @@ AllTell users [] (asked ∷ more) = ⊥
 AllTell users (exchange ∷ exchanges) [] = ⊥
 AllTell users (exchange ∷ exchanges) (asked ∷ more) = Tells users exchange asked × AllTell users exchanges more
 
--- The messages were answered as the map's rules say, at points of the journal that never go back.
-pub record AreAnswered (users : List Row) (session : ℕ) (journal : List Entry) (start : Place) (exchanges : List Exchange) (last : Place) : Type 0 where
+-- The messages were answered as the map's rules say, at points of the entries that never go back.
+pub record AreAnswered (users : List Row) (session : ℕ) (F : List Entry) (start : Place) (exchanges : List Exchange) (last : Place) : Type 0 where
   pub asked : List Asked
   pub told : AllTell users exchanges asked
-  pub answered : IsAnswered journal session start asked last
+  pub answered : IsAnswered F session start asked last

@@ -8,7 +8,7 @@ use Rattle.http_wire.specs.declared.message.Message.{Message}
 use Rattle.http_link.specs.declared.desk.Reply.{Reply}
 use Rattle.user_table.specs.Rows.{Row}
 use Rattle.api_desk.specs.declared.desk.OneDesk.{OneDesk}
-use Rattle.api_desk.specs.Answers.{Answers, AreAnswered}
+use Rattle.api_desk.specs.Answers.{AnswersAlone, AreAnswered}
 
 -- the entries of the journal that the desk works on
 abbrev pub entries_of : OneDesk → List Entry
@@ -25,7 +25,7 @@ session_of desk = desk.session
 pub record Allows (old : OneDesk) (message : Message) (moment : ℕ) (reply : Reply) (new : OneDesk) : Type 0 where
   pub users : users_of new ≡ users_of old
   pub session : session_of new ≡ session_of old
-  pub answers : Answers (users_of old) (session_of old) (entries_of old) (entries_of new) message moment reply
+  pub answers : AnswersAlone (users_of old) (session_of old) (entries_of old) (entries_of new) message moment reply
   pub legal : IsLegal (entries_of old) → IsLegal (entries_of new)
 
 -- What a desk has done by these exchanges.

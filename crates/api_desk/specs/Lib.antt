@@ -8,5 +8,7 @@ pub mod Judging
 pub mod Machine
 pub mod Laws
 pub mod Answers
+pub mod MachineRows
 pub mod Desk
+pub mod HubDesk
 pub mod Loads

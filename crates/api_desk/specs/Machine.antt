@@ -6,7 +6,7 @@ use Rattle.osm_change.specs.declared.refusals.Refusal.{Refusal}
 use Rattle.osm_json.specs.Answered.{status_of, body_of}
 use Rattle.osm_model.specs.Act.{Effect, judge, act}
 use Rattle.osm_model.specs.Ask.{ask}
-use Rattle.osm_model.specs.Journal.{after, takes, entry_of}
+use Rattle.osm_model.specs.Journal.{Later, after, takes, entry_of}
 use Rattle.osm_model.specs.State.{empty}
 use Rattle.osm_model.specs.declared.commands.Entry.{Entry}
 use Rattle.osm_model.specs.declared.queries.Query.{Query}
@@ -16,7 +16,13 @@ use Rattle.machine_law.specs.declared.tags.Settled.{Settled}
 use Rattle.machine_law.specs.declared.tags.Tag.{Tag}
 use Rattle.machine_law.specs.Rules.{Rules}
 use Rattle.osm_world.specs.World.{Parts}
-use Rattle.api_desk.specs.declared.looks.Look.{Look}
+use Rattle.osm_later.specs.declared.looks.Look.{Look}
+use Rattle.osm_later.specs.Plan.{StandsOn}
+use Rattle.osm_later.specs.Still.{Differs}
+use Rattle.upload_check.specs.Commands.{IsUploadPlan, IsOther}
+use Rattle.upload_check.specs.Planned.{plan_of}
+use Rattle.api_desk.specs.declared.plans.MapPlan.{MapPlan}
+use Rattle.api_desk.specs.declared.plans.MapPlan.TheVariants.{Upload, Other}
 use Rattle.api_desk.specs.declared.machine.MapWorld.{MapWorld}
 use Rattle.api_desk.specs.declared.requests.Asked.{Asked}
 
@@ -45,8 +51,29 @@ act_as P tag moment asked = record {
 abbrev pub tag_of : Entry → Tag
 tag_of e = record { session = e.session; call = e.call }
 
--- A plan is the command alone. It looks at nothing, so it stands on every map.
-abbrev pub map_rules : Rules State Asked Query Asked Entry Look
+-- it is a plan of that command, made on that map
+abbrev pub IsPlannedAs : State → Asked → MapPlan → Type 0
+IsPlannedAs P asked (Upload p) = IsUploadPlan P asked.user asked.command p
+IsPlannedAs P asked (Other other) = (other ≡ asked) × IsOther asked.command
+
+-- the plan was made on some map, and this one is later
+pub record IsForeseenAs (plan : MapPlan) (now : State) : Type 0 where
+  pub begun : State
+  pub asked : Asked
+  pub planned : IsPlannedAs begun asked plan
+  pub later : Later begun now
+
+-- all that it looked at is so on the map
+abbrev pub StandsAs : MapPlan → State → Type 0
+StandsAs (Upload p) P = StandsOn (plan_of p) P.elements
+StandsAs (Other other) P = ⊤
+
+-- it and the map differ there
+abbrev pub DiffersAs : Look → MapPlan → State → Type 0
+DiffersAs look (Upload p) P = Differs look (plan_of p) P.elements
+DiffersAs look (Other other) P = ⊥
+
+abbrev pub map_rules : Rules State Asked Query MapPlan Entry Look
 map_rules = record {
   start = empty;
   act = act_as;
@@ -54,8 +81,8 @@ map_rules = record {
   takes = takes;
   reply = λ P q moment. bytes_of (ask P moment q);
   tag_of = tag_of;
-  planned = λ P asked plan. plan ≡ asked;
-  stands = λ plan P. ⊤;
-  differs = λ look plan P. ⊥;
+  planned = IsPlannedAs;
+  stands = StandsAs;
+  differs = DiffersAs;
   consistent = IsKept;
 }

@@ -1,6 +1,5 @@
 //! A desk for one thread, over the map's book.
-ghost use Rattle.std.specs.Prelude.{◌≡◌, ℕ, ◌<◌, ◌≤◌, ◌+◌, List, length, Some, Err, IfOk, OnOk, OnErr};
-ghost use Rattle.osm_change.specs.Moments.{HasShownMoments};
+ghost use Rattle.std.specs.Prelude.{◌≡◌, ◌<◌, ◌≤◌, ◌+◌, List, length, Some, IfOk, OnOk, OnErr};
 ghost use Rattle.osm_model.specs.Act.{act};
 ghost use Rattle.osm_model.specs.Ask.{ask};
 ghost use Rattle.osm_model.specs.Journal.{IsLegal, replay, calls_of, journal_after};
@@ -10,12 +9,11 @@ ghost use Rattle.osm_base.specs.Status.{IsStatus};
 ghost use Rattle.http_wire.specs.declared.message.Message.{Message};
 ghost use Rattle.osm_model.specs.declared.commands.Entry.{Entry};
 ghost use Rattle.user_table.specs.Rows.{Row};
-ghost use Rattle.api_desk.specs.Answers.{reply_of, Answers};
-ghost use Rattle.api_desk.specs.Gives.{shown_request, GivesRequest, HasShownFault};
+ghost use Rattle.api_desk.specs.Answers.{reply_of, AnswersAlone};
+ghost use Rattle.api_desk.specs.Gives.{shown_request};
 ghost use Rattle.api_desk.specs.Request.{request_of};
 
-use crate::answers::reply_from;
-use crate::faults::RequestFault;
+use crate::answers::{refuse, reply_from};
 use crate::machine::MapMachine;
 use crate::requests::{Asked, Request, request_of};
 use http_link::{Desk, Reply};
@@ -23,8 +21,6 @@ use http_wire::Message;
 use hub_core::{Book, NoOutlet};
 use machine_law::{Machine, Tag};
 use osm_base::{Memory, Steps};
-use osm_change::Answer;
-use osm_json::{answer_body, answer_status};
 use osm_model::{Entry, Query};
 use osm_world::World;
 use route_table::Routes;
@@ -32,18 +28,6 @@ use std::alloc::Global;
 use std::marker::Brand;
 use std::sync::ledger::{Blank, Ledger};
 use user_table::UserTable;
-
-/// The reply that tells an answer.
-fn reply_to(alloc: Global, answer: &Answer<'_>) -> Result<Reply, Memory>
-    requires { HasShownMoments answer.now }
-    ensures reply { IfOk result (λ reply. reply ≡ reply_of (Some answer.now)) }
-    ensures status { IfOk result (λ reply. IsStatus reply.status) }
-{
-    Ok(Reply {
-        status: answer_status(answer),
-        body: answer_body(alloc, answer)?,
-    })
-}
 
 /// Does a command. Its answer is made before it is kept, so that no command is kept whose answer
 /// would be want of memory, and what tells the answer takes none.
@@ -124,7 +108,7 @@ fn answer_on<L: Ledger>(
     requires name { blank.name ≡ L.name }
     requires parts { blank.parts ≡ L.parts }
     requires some { 0 < blank.parts }
-    ensures answers { Answers users.now session book.old book.new message.now moment (counted_reply result) }
+    ensures answers { AnswersAlone users.now session book.old book.new message.now moment (counted_reply result) }
     ensures status { IfOk result (λ reply. IsStatus reply.status) }
 {
     let (ledger, share) = blank.open::<L>();
@@ -145,25 +129,12 @@ fn answer_request<L: Ledger>(
     steps: &mut Steps<L>,
 ) -> Result<Reply, Memory>
     ensures answers { (users : List Row) (message : Message) → request_of users message ≡ shown_request request
-        → Answers users session book.old book.new message moment (counted_reply result) }
+        → AnswersAlone users session book.old book.new message moment (counted_reply result) }
     ensures status { IfOk result (λ reply. IsStatus reply.status) }
 {
     match request {
         Request::Change(asked) => change(book, alloc, session, asked, moment, steps),
         Request::Read(query) => read(book, alloc, query, moment, steps),
-    }
-}
-
-/// Tells why a message is no request.
-fn refuse(alloc: Global, fault: RequestFault) -> Result<Reply, Memory>
-    requires { HasShownFault fault }
-    ensures answers { (users : List Row) (session : ℕ) (es : List Entry) (message : Message) (moment : ℕ) → GivesRequest (request_of users message) (Err fault)
-        → Answers users session es es message moment (counted_reply result) }
-    ensures status { IfOk result (λ reply. IsStatus reply.status) }
-{
-    match fault {
-        RequestFault::Refused(refusal) => reply_to(alloc, &Answer::Refused(refusal)),
-        RequestFault::Memory => Err(Memory),
     }
 }
 

@@ -1,30 +1,23 @@
-//! What a command comes to on a world, before anything of the world is changed.
-ghost use Rattle.std.specs.Prelude.{◌≡◌, ◌<◌, [], true, Ok, Err, length, IfOk, IfErr, MatchResult};
-ghost use Rattle.osm_base.specs.Stamp.{stamp_after};
-ghost use Rattle.osm_change.specs.Keys.{next_of, key_of, keys_of};
+//! What a command that is no upload comes to on a world, before anything of the world is changed.
+ghost use Rattle.std.specs.Prelude.{◌≡◌, true, Ok, Err, IfOk, IfErr, MatchResult};
 ghost use Rattle.osm_change.specs.Moments.{HasShownLife, RefusalHasShownEnd};
 ghost use Rattle.changeset_core.specs.Changeset.{is_open, retagged};
 ghost use Rattle.changeset_core.specs.Timely.{IsTimelyRecord};
-ghost use Rattle.osm_model.specs.Act.{judge, retag, close_changeset, upload_change, number_of, single_number, single_change, known_version, known_redaction, old_version, redact, unredact};
+ghost use Rattle.osm_model.specs.Act.{judge, retag, close_changeset, known_version, known_redaction, old_version, redact, unredact};
 ghost use Rattle.osm_model.specs.Changeset.{changeset_row};
 ghost use Rattle.osm_model.specs.Outcome.{Gives};
 ghost use Rattle.osm_model.specs.State.{own_changeset};
 ghost use Rattle.osm_world.specs.World.{state_of};
-ghost use Rattle.upload_check.specs.Asked.{IsOutcome};
+ghost use Rattle.upload_check.specs.Commands.{IsOther};
 ghost use Rattle.api_desk.specs.Judging.{Judges, IsShown, told};
 
 use changeset_core::Changeset;
-use osm_base::{Key, Kind, Memory, Stamp, Steps, TryCopy, User};
-use osm_change::{
-    Answer, Change, ChangesetRow, FirstIds, OneOp, Op, OpDone, Refusal, Said, kind_of,
-};
+use osm_base::{Key, Memory, Stamp, TryCopy, User};
+use osm_change::{Answer, ChangesetRow, Refusal, Said};
 use osm_element::Tags;
 use osm_model::{Command, Fault};
 use osm_world::World;
 use std::alloc::Global;
-use std::marker::Brand;
-use std::sync::ledger::{Blank, Ledger};
-use upload_check::{Outcome, UploadCmd, judge_upload};
 
 /// A changeset that the user may work on at a stamp: its owner is tested before whether it is open.
 fn own_changeset<'a>(
@@ -109,124 +102,6 @@ fn close_changeset(world: &World, user: &User, at: Stamp, id: u64) -> Result<Ans
     Ok(Answer::Nothing)
 }
 
-/// What an upload comes to. Its steps are counted in the ledger, for nobody.
-fn counted_outcome<L: Ledger>(
-    blank: Blank,
-    alloc: Global,
-    world: &World,
-    cmd: &UploadCmd<'_>,
-    at: Stamp,
-) -> Result<Outcome, Memory>
-    requires stamped { stamp_after (state_of world.now).last at ≡ at }
-    requires name { blank.name ≡ L.name }
-    requires parts { blank.parts ≡ L.parts }
-    requires some { 0 < blank.parts }
-    ensures { IfOk result (IsOutcome (state_of world.now) cmd.now at) }
-{
-    let (book, share) = blank.open::<L>();
-    let mut steps = Steps::of(book, share);
-    judge_upload(alloc, world, cmd, at.seconds(), &mut steps)
-}
-
-/// The same over a ledger of its own.
-fn outcome_of(
-    alloc: Global,
-    world: &World,
-    cmd: &UploadCmd<'_>,
-    at: Stamp,
-) -> Result<Outcome, Memory>
-    requires { stamp_after (state_of world.now).last at ≡ at }
-    ensures { IfOk result (IsOutcome (state_of world.now) cmd.now at) }
-{
-    counted_outcome::<Brand>(Blank::new(1), alloc, world, cmd, at)
-}
-
-fn upload_change(
-    alloc: Global,
-    world: &World,
-    user: &User,
-    at: Stamp,
-    changeset: u64,
-    change: &Change,
-) -> Result<Answer<'static>, Fault>
-    requires { stamp_after (state_of world.now).last at ≡ at }
-    ensures gives { Gives (told (upload_change (state_of world.now) user.now at changeset change.now)) result }
-    ensures shown { IsShown result }
-{
-    let cmd = UploadCmd {
-        user,
-        changeset,
-        change,
-    };
-    match outcome_of(alloc, world, &cmd, at)? {
-        Outcome::Accepted { first, rows } => {
-            let rows = diff_result::rows(alloc, change, &rows, first)?;
-            Ok(Answer::Diff(rows))
-        }
-        Outcome::Refused(refusal) => Err(Fault::Refused(refusal)),
-    }
-}
-
-/// The id that the first create of a kind gets.
-fn first_id(first: FirstIds, kind: Kind) -> u64
-    ensures { result ≡ next_of first kind }
-{
-    match kind {
-        Kind::Node => first.node,
-        Kind::Way => first.way,
-        Kind::Relation => first.relation,
-    }
-}
-
-/// The new id of a create, else the version.
-fn number_of(operation: &Op, first: FirstIds, done: OpDone) -> u64
-    ensures { result ≡ number_of operation.now (key_of [] first operation.now) done }
-{
-    match operation {
-        Op::Create { content, .. } => first_id(first, kind_of(content)),
-        Op::Modify { .. } | Op::Delete { .. } => done.version(),
-    }
-}
-
-/// The number that a change with one operation answers.
-fn single_number(change: &Change, first: FirstIds, done: &[OpDone]) -> u64
-    requires one { length change.now ≡ 1 }
-    requires done { length done.now ≡ length change.now }
-    ensures { result ≡ single_number change.now (keys_of first change.now) done.now }
-{
-    match (change.operations(), done) {
-        ([operation], [done]) => number_of(operation, first, *done),
-        _ => unreachable!(),
-    }
-}
-
-fn single_change(
-    alloc: Global,
-    world: &World,
-    user: &User,
-    at: Stamp,
-    changeset: u64,
-    change: &OneOp,
-) -> Result<Answer<'static>, Fault>
-    requires { stamp_after (state_of world.now).last at ≡ at }
-    ensures gives { Gives (told (single_change (state_of world.now) user.now at changeset change.now)) result }
-    ensures shown { IsShown result }
-{
-    let change = change.change();
-    let cmd = UploadCmd {
-        user,
-        changeset,
-        change,
-    };
-    match outcome_of(alloc, world, &cmd, at)? {
-        Outcome::Accepted { first, rows } => {
-            let number = single_number(change, first, rows.items());
-            Ok(Answer::Number(number))
-        }
-        Outcome::Refused(refusal) => Err(Fault::Refused(refusal)),
-    }
-}
-
 /// The version exists.
 fn known_version(world: &World, key: Key, number: u64) -> Result<(), Refusal>
     ensures value { result ≡ known_version (state_of world.now) key number }
@@ -295,8 +170,8 @@ fn unredact(world: &World, key: Key, number: u64) -> Result<Answer<'static>, Fau
     Ok(Answer::Nothing)
 }
 
-/// What a command of a user is answered at a stamp, which may come next, or why it is refused. Of
-/// the world nothing is copied but what the answer holds.
+/// What a command of a user that is no upload is answered at a stamp, or why it is refused. Of the
+/// world nothing is copied but what the answer holds.
 #[tactic(auto, using(crate::proofs::Told::judges))]
 pub(crate) fn judge_on(
     alloc: Global,
@@ -305,7 +180,7 @@ pub(crate) fn judge_on(
     at: Stamp,
     command: &Command,
 ) -> Result<Answer<'static>, Fault>
-    requires { stamp_after (state_of world.now).last at ≡ at }
+    requires { IsOther command.now }
     ensures judged { Judges (judge (state_of world.now) user.now at command.now) result }
     ensures shown { IsShown result }
 {
@@ -316,12 +191,7 @@ pub(crate) fn judge_on(
         }
         Command::Retag { changeset, tags } => retag(alloc, world, user, at, *changeset, tags),
         Command::CloseChangeset { changeset } => close_changeset(world, user, at, *changeset),
-        Command::Upload { changeset, change } => {
-            upload_change(alloc, world, user, at, *changeset, change)
-        }
-        Command::Single { changeset, change } => {
-            single_change(alloc, world, user, at, *changeset, change)
-        }
+        Command::Upload { .. } | Command::Single { .. } => unreachable!(),
         Command::MakeRedaction { .. } => {
             let id = world.redactions().titles().len() as u64 + 1;
             Ok(Answer::Number(id))

@@ -1,19 +1,23 @@
-//! A message as a request of the map, the map as a machine, a desk that answers requests over the
-//! machine's book, and a generated load as events of the machine.
+//! A message as a request of the map, the map as a machine, desks that answer requests over the
+//! machine's book or over a hub, and a generated load as events of the machine.
 #![tactic(auto)]
 
+mod acceptance;
 mod answers;
 mod bodies;
 mod bytes;
 mod desk;
 mod faults;
+mod hub_desk;
+mod hub_law;
 mod judging;
 mod law;
 mod load_events;
 mod load_faults;
-mod looks;
 mod machine;
 mod media;
+mod planning;
+mod plans;
 mod requests;
 mod tasks;
 mod world_asks;
@@ -21,9 +25,14 @@ mod world_rows;
 
 pub use desk::OneDesk;
 pub use faults::RequestFault;
+pub use hub_desk::{HubDesk, MapHub, MapSession};
+pub use hub_law::{
+    answers_append, exchanges_chain, journals_are_the_maps, links_chain, replies_are_the_maps,
+    rows_are_the_maps, rows_stay, served_stay,
+};
 pub use law::desk_answers;
 pub use load_events::events;
 pub use load_faults::LoadFault;
-pub use looks::Look;
 pub use machine::{MapMachine, MapWorld};
+pub use plans::MapPlan;
 pub use requests::{Asked, Request, request_of};

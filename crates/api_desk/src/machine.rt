@@ -1,25 +1,34 @@
 //! The map as a machine: a world that changes by entries.
-ghost use Rattle.std.specs.Prelude.{◌≡◌, None, Some, IfOk, is_ok};
+ghost use Rattle.std.specs.Prelude.{◌≡◌, None, Some, IfOk};
 ghost use Rattle.osm_base.specs.Stamp.{stamp_after};
 ghost use Rattle.osm_change.specs.Moments.{HasShownMoments, RefusalHasShownEnd};
 ghost use Rattle.osm_change.specs.declared.answers.Answer.TheVariants as answers;
 ghost use Rattle.osm_model.specs.Act.{judge};
-ghost use Rattle.osm_model.specs.Journal.{takes};
 ghost use Rattle.osm_world.specs.World.{state_of};
-ghost use Rattle.api_desk.specs.Machine.{act_as, bytes_of};
+ghost use Rattle.osm_later.specs.Plan.{StandsOn};
+ghost use Rattle.osm_model.specs.Journal.{Later};
+ghost use Rattle.osm_model.specs.declared.states.State.{State};
+ghost use Rattle.upload_check.specs.Commands.{IsUploadPlan, IsForeseen, IsOther, command_of};
+ghost use Rattle.upload_check.specs.Planned.{plan_of};
+ghost use Rattle.api_desk.specs.Machine.{act_as, bytes_of, IsPlannedAs, IsForeseenAs, StandsAs};
+ghost use Rattle.api_desk.specs.declared.requests.Asked.{Asked};
 
+use crate::acceptance::takes;
 use crate::answers::bytes_of;
 use crate::judging::judge_on;
-use crate::looks::Look;
+use crate::planning::{command_still, plan_command, upload_answer, upload_entry};
+use crate::plans::MapPlan;
 use crate::requests::Asked;
 use crate::world_asks::world_ask;
 use machine_law::{Machine, Settled, Tag};
-use osm_base::{Bytes, Memory, Stamp, Steps, TryCopy, User};
+use osm_base::{Bytes, Memory, Stamp, Steps, TryCopy};
 use osm_change::{Answer, Refusal};
-use osm_model::{Command, Entry, Fault, Query, State};
+use osm_later::maps_follow_themselves;
+use osm_model::{Entry, Fault, Query, State};
 use osm_world::World;
 use std::alloc::Global;
 use std::sync::ledger::Ledger;
+use upload_check::{Look, Plan, plan_again};
 
 /// The map with its indexes, and the allocator, since entries are applied without one.
 #[derive(Drop)]
@@ -39,7 +48,8 @@ impl MapWorld {
     }
 }
 
-/// The map: its users' commands are planned as they are and judged when they are settled.
+/// The map: uploads are judged when they are planned, and settled by their plans where these stand;
+/// other commands are planned as they are, and judged when they are settled.
 pub struct MapMachine;
 
 impl Machine for MapMachine {
@@ -53,7 +63,7 @@ impl Machine for MapMachine {
 
     type Query = Query;
 
-    type Plan = Asked;
+    type Plan = MapPlan;
 
     type Entry = Entry;
 
@@ -75,38 +85,38 @@ impl Machine for MapMachine {
     }
 
     fn plan<L: Ledger>(
-        _alloc: Global,
-        _world: &MapWorld,
+        alloc: Global,
+        world: &MapWorld,
         command: Asked,
-        _steps: &mut Steps<L>,
-    ) -> Result<Asked, Memory> {
-        Ok(command)
+        steps: &mut Steps<L>,
+    ) -> Result<MapPlan, Memory> {
+        plan_command(alloc, &world.world, command, steps)
     }
 
-    fn still(_world: &MapWorld, _plan: &Asked) -> Result<(), Look> {
-        Ok(())
+    fn still(world: &MapWorld, plan: &MapPlan) -> Result<(), Look> {
+        command_still(&world.world, plan)
     }
 
     fn settle<L: Ledger>(
         alloc: Global,
         world: &MapWorld,
-        plan: &Asked,
+        plan: &MapPlan,
         tag: Tag,
         moment: u64,
         _steps: &mut Steps<L>,
     ) -> Result<Settled<Entry>, Memory> {
-        settle_on(alloc, &world.world, plan, tag, moment)
+        settle_plan(alloc, &world.world, plan, tag, moment)
     }
 
     fn again<L: Ledger>(
         alloc: Global,
         world: &MapWorld,
-        plan: &Asked,
+        plan: &MapPlan,
         tag: Tag,
         moment: u64,
-        _steps: &mut Steps<L>,
+        steps: &mut Steps<L>,
     ) -> Result<Settled<Entry>, Memory> {
-        settle_on(alloc, &world.world, plan, tag, moment)
+        settle_again(alloc, &world.world, plan, tag, moment, steps)
     }
 
     fn copy(alloc: Global, entry: &Entry) -> Result<Entry, Memory> {
@@ -185,6 +195,25 @@ fn accepted(
     })
 }
 
+/// What the upload of a plan comes to that is answered so, as that call, at a stamp.
+fn accepted_upload(
+    alloc: Global,
+    plan: &Plan,
+    tag: Tag,
+    at: Stamp,
+    answer: Answer<'_>,
+) -> Result<Settled<Entry>, Memory>
+    requires { HasShownMoments answer }
+    ensures { IfOk result (λ s. s ≡ record { answer = bytes_of answer.entry; entry = Some (record { session = tag.session; call = tag.call; user = plan.now.asked.user; stamp = at; command = command_of plan.now.asked }) }) }
+{
+    let answer = bytes_from(alloc, answer)?;
+    let entry = upload_entry(alloc, plan, tag, at)?;
+    Ok(Settled {
+        answer,
+        entry: Some(entry),
+    })
+}
+
 /// What a command comes to that is refused: no entry.
 fn refused(alloc: Global, refusal: Refusal) -> Result<Settled<Entry>, Memory>
     requires { RefusalHasShownEnd refusal }
@@ -197,7 +226,7 @@ fn refused(alloc: Global, refusal: Refusal) -> Result<Settled<Entry>, Memory>
     })
 }
 
-/// What a user's command comes to on a world, as that call, at a moment.
+/// What a user's command that is no upload comes to on a world, as that call, at a moment.
 fn settle_on(
     alloc: Global,
     world: &World,
@@ -205,6 +234,7 @@ fn settle_on(
     tag: Tag,
     moment: u64,
 ) -> Result<Settled<Entry>, Memory>
+    requires { IsOther asked.now.command }
     ensures { IfOk result (λ s. s ≡ act_as (state_of world.now) tag moment asked.now) }
 {
     let at = Stamp::after(world.last_stamp(), moment);
@@ -215,31 +245,73 @@ fn settle_on(
     }
 }
 
-/// Whether an entry may come next: its command is accepted at its stamp, and that is no earlier
-/// than the last one.
-fn takes(alloc: Global, world: &World, entry: &Entry) -> Result<bool, Memory>
-    ensures { IfOk result (λ b. b ≡ takes (state_of world.now) entry.now) }
-{
-    if Stamp::after(world.last_stamp(), entry.stamp.seconds()) != entry.stamp {
-        return Ok(false);
-    }
-    is_accepted(alloc, world, &entry.user, entry.stamp, &entry.command)
-}
-
-/// Whether the rules accept a command of a user at a stamp, which may come next.
-fn is_accepted(
+/// What the command of a plan that stands comes to on a world, as that call, at a moment.
+fn settle_plan(
     alloc: Global,
     world: &World,
-    user: &User,
-    at: Stamp,
-    command: &Command,
-) -> Result<bool, Memory>
-    requires { stamp_after (state_of world.now).last at ≡ at }
-    ensures { IfOk result (λ b. b ≡ is_ok (judge (state_of world.now) user.now at command.now)) }
+    plan: &MapPlan,
+    tag: Tag,
+    moment: u64,
+) -> Result<Settled<Entry>, Memory>
+    requires stands { StandsAs plan.now (state_of world.now) }
+    requires foreseen { IsForeseenAs plan.now (state_of world.now) }
+    ensures { (begun : State) (asked : Asked) → IsPlannedAs begun asked plan.now → Later begun (state_of world.now) → IfOk result (λ s. s ≡ act_as (state_of world.now) tag moment asked) }
 {
-    match judge_on(alloc, world, user, at, command) {
-        Ok(_) => Ok(true),
-        Err(Fault::Refused(_)) => Ok(false),
+    match plan {
+        MapPlan::Upload(plan) => settle_upload(alloc, world, plan, tag, moment),
+        MapPlan::Other(asked) => settle_on(alloc, world, asked, tag, moment),
+    }
+}
+
+/// What the upload of a plan that stands comes to on a world, as that call, at a moment.
+fn settle_upload(
+    alloc: Global,
+    world: &World,
+    plan: &Plan,
+    tag: Tag,
+    moment: u64,
+) -> Result<Settled<Entry>, Memory>
+    requires stands { StandsOn (plan_of plan.now) (state_of world.now).elements }
+    requires foreseen { IsForeseen plan.now (state_of world.now) }
+    ensures { (begun : State) (asked : Asked) → IsUploadPlan begun asked.user asked.command plan.now → Later begun (state_of world.now) → IfOk result (λ s. s ≡ act_as (state_of world.now) tag moment asked) }
+{
+    let at = Stamp::after(world.last_stamp(), moment);
+    match upload_answer(alloc, world, plan, moment) {
+        Ok(answer) => accepted_upload(alloc, plan, tag, at, answer),
+        Err(Fault::Refused(cause)) => refused(alloc, cause),
         Err(Fault::Memory) => Err(Memory),
     }
+}
+
+/// What a plan's command comes to on a world, whether it stands or not: it is planned once more.
+fn settle_again<L: Ledger>(
+    alloc: Global,
+    world: &World,
+    plan: &MapPlan,
+    tag: Tag,
+    moment: u64,
+    steps: &mut Steps<L>,
+) -> Result<Settled<Entry>, Memory>
+    requires { IsForeseenAs plan.now (state_of world.now) }
+    ensures { (begun : State) (asked : Asked) → IsPlannedAs begun asked plan.now → IfOk result (λ s. s ≡ act_as (state_of world.now) tag moment asked) }
+{
+    match plan {
+        MapPlan::Upload(plan) => upload_again(alloc, world, plan, tag, moment, steps),
+        MapPlan::Other(asked) => settle_on(alloc, world, asked, tag, moment),
+    }
+}
+
+fn upload_again<L: Ledger>(
+    alloc: Global,
+    world: &World,
+    plan: &Plan,
+    tag: Tag,
+    moment: u64,
+    steps: &mut Steps<L>,
+) -> Result<Settled<Entry>, Memory>
+    ensures { (begun : State) (asked : Asked) → IsUploadPlan begun asked.user asked.command plan.now → IfOk result (λ s. s ≡ act_as (state_of world.now) tag moment asked) }
+{
+    maps_follow_themselves();
+    let plan = plan_again(alloc, world, plan, steps)?;
+    settle_upload(alloc, world, &plan, tag, moment)
 }

@@ -33,7 +33,7 @@ impl Replies {
 }
 
 /// The message that the bytes are read as.
-fn message_of(alloc: Global, bytes: &[u8]) -> Result<Message, Fault> {
+pub fn message_of(alloc: Global, bytes: &[u8]) -> Result<Message, Fault> {
     let bytes = Bytes::of(alloc, bytes)?;
     match whole_message(alloc, bytes)? {
         Some(message) => Ok(message),

@@ -1,7 +1,7 @@
 //! A generated load as events of the map on one thread.
 ghost use Rattle.std.specs.Prelude.{◌≡◌, ◌<◌, ◌≤◌};
 
-use api_desk::{LoadFault, Look, MapMachine, events};
+use api_desk::{LoadFault, MapMachine, events};
 use hub_core::{Done, Path, Run, Seen, interleave};
 use osm_base::{Coord, SESSION_LIMIT, Steps};
 use osm_change::Op;
@@ -11,6 +11,7 @@ use std::alloc::Global;
 use std::io;
 use std::marker::Brand;
 use std::sync::ledger::{Blank, Ledger};
+use upload_check::Look;
 
 const SEED: u64 = 1;
 

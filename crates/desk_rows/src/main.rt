@@ -7,6 +7,7 @@ mod counts;
 mod desks;
 mod faults;
 mod interleaves;
+mod meetings;
 mod plain;
 mod plays;
 mod rows;

@@ -1,6 +1,7 @@
 //! A play: who sends the next request and when, and how much of the row was played.
 use crate::counts::Counts;
 use crate::desks::{Replies, Sender};
+use crate::meetings::Meeting;
 use osm_model::Journal;
 use std::alloc::Global;
 use std::{io, mem};
@@ -26,6 +27,8 @@ pub struct Play {
     /// The plain desk's entries of the row, and those of the row above.
     pub journal: Journal,
     pub above: Journal,
+    /// What the row's sessions do by turns.
+    pub meeting: Meeting,
 }
 
 impl Play {
@@ -39,6 +42,7 @@ impl Play {
             counts: Counts::none(alloc),
             journal: Journal::new(alloc),
             above: Journal::new(alloc),
+            meeting: Meeting::new(alloc),
         }
     }
 
@@ -50,6 +54,7 @@ impl Play {
         self.wrong_before = self.wrong.saturating_add(self.wrong_before);
         self.wrong = 0;
         self.above = mem::replace(&mut self.journal, Journal::new(alloc));
+        self.meeting = Meeting::new(alloc);
     }
 
     pub fn is_right(&self) -> bool {
@@ -114,6 +119,6 @@ impl Play {
     }
 }
 
-fn show<R: Print>(rt: &R, desk: &str, status: u16, body: &[u8]) -> io::Result<()> {
+pub fn show<R: Print>(rt: &R, desk: &str, status: u16, body: &[u8]) -> io::Result<()> {
     println!(rt; "    {desk}: {status} {}", body.escape_ascii())
 }

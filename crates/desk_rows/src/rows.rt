@@ -1,7 +1,8 @@
 //! A row, played on empty maps.
-use crate::desks::{Replies, journals_differ, replies_of};
+use crate::desks::{Replies, Sender, journals_differ, replies_of};
 use crate::faults::Fault;
 use crate::interleaves::tell_interleaved;
+use crate::meetings::{Meeting, meet};
 use crate::plain::PlainDesk;
 use crate::plays::Play;
 use crate::steps::Step;
@@ -10,6 +11,7 @@ use hub_core::Book;
 use osm_base::SESSION_LIMIT;
 use row_lines::{RowFault, add_request, add_unescaped, add_written_out};
 use same_maps::{difference, difference_anew};
+use std::mem;
 use workload::{Sent, requests};
 
 /// The seed of a load.
@@ -121,6 +123,38 @@ fn send_load<R: Print>(
     }
 }
 
+/// A session plans the command of a line.
+fn plan(plain: &PlainDesk<'_>, play: &mut Play, session: u32, line: &str) -> Result<(), Fault> {
+    let mut whole = String::new(plain.alloc);
+    add_written_out(&mut whole, line)?;
+    plan_whole(plain, play, session, whole.as_str())
+}
+
+fn plan_whole(
+    plain: &PlainDesk<'_>,
+    play: &mut Play,
+    session: u32,
+    line: &str,
+) -> Result<(), Fault> {
+    let mut bytes = Vec::new(plain.alloc);
+    add_bytes(&mut bytes, line)?;
+    play.meeting.plan(plain, session, bytes)
+}
+
+/// Plays what sessions did by turns, tells what came of it, and notes what the plain program gave
+/// otherwise.
+fn play_meeting<R: Print>(
+    rt: &R,
+    plain: &PlainDesk<'_>,
+    play: &mut Play,
+    is_told: bool,
+) -> Result<(), Fault> {
+    let meeting = mem::replace(&mut play.meeting, Meeting::new(plain.alloc));
+    let part = meet(rt, plain.alloc, meeting, is_told)?;
+    play.note(rt, part)?;
+    Ok(())
+}
+
 /// An empty map takes all entries, on room for those of the row above.
 fn take_anew<R: Print>(rt: &R, plain: &PlainDesk<'_>, play: &mut Play) -> Result<(), Fault> {
     let part = difference_anew(plain.alloc, &play.journal, play.above.entries())?;
@@ -145,6 +179,13 @@ fn play_line<R: Print>(
         Step::Anew => take_anew(rt, plain, play),
         Step::Load(load) => send_load(rt, fast, plain, play, load),
         Step::Interleave(load) => Ok(tell_interleaved(rt, plain.alloc, load)?),
+        Step::Plan(session, line) => plan(plain, play, session, line),
+        Step::Commit(session) => {
+            let moment = play.sender.moment;
+            play.meeting.commit(plain, Sender { session, moment })
+        }
+        Step::Publish => play.meeting.publish(),
+        Step::Meet { is_told } => play_meeting(rt, plain, play, is_told),
         Step::Timed(sender, line) => {
             play.sender = sender;
             ask(rt, fast, plain, play, line)

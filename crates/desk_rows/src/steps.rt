@@ -17,6 +17,15 @@ pub enum Step<'a> {
     Load((u32, u32)),
     /// It is played as events.
     Interleave((u32, u32)),
+    /// A session plans the command of a request.
+    Plan(u32, &'a str),
+    /// A session commits its plan.
+    Commit(u32),
+    /// The journal is published.
+    Publish,
+    /// What the sessions planned, committed and published is played, and each commit told, or else
+    /// their paths counted.
+    Meet { is_told: bool },
     /// A request at that session and moment.
     Timed(Sender, &'a str),
     /// A request.
@@ -31,14 +40,24 @@ enum Verb {
     Anew,
     Load,
     Interleave,
+    Plan,
+    Commit,
+    Publish,
+    Meet,
+    Tally,
 }
 
-const VERBS: [(&str, Verb); 5] = [
+const VERBS: [(&str, Verb); 10] = [
     ("wait", Verb::Wait),
     ("=", Verb::Entries),
     ("anew", Verb::Anew),
     ("load", Verb::Load),
     ("interleave", Verb::Interleave),
+    ("plan", Verb::Plan),
+    ("commit", Verb::Commit),
+    ("publish", Verb::Publish),
+    ("meet", Verb::Meet),
+    ("tally", Verb::Tally),
 ];
 
 fn verb_of(word: &str) -> Option<Verb> {
@@ -58,6 +77,12 @@ fn small(text: &str) -> Result<u32, Fault> {
 fn load_of(text: &str) -> Result<(u32, u32), Fault> {
     let (sessions, uploads) = word_of(text);
     Ok((small(sessions)?, small(uploads)?))
+}
+
+/// `SESSION REQUEST`.
+fn plan_of(text: &str) -> Result<Step<'_>, Fault> {
+    let (session, request) = word_of(text);
+    Ok(Step::Plan(small(session)?, request))
 }
 
 /// `SESSION MOMENT REQUEST`, or a request alone.
@@ -83,6 +108,11 @@ impl Step<'_> {
             Some(Verb::Anew) => Ok(Step::Anew),
             Some(Verb::Load) => Ok(Step::Load(load_of(rest)?)),
             Some(Verb::Interleave) => Ok(Step::Interleave(load_of(rest)?)),
+            Some(Verb::Plan) => plan_of(rest),
+            Some(Verb::Commit) => Ok(Step::Commit(small(rest)?)),
+            Some(Verb::Publish) => Ok(Step::Publish),
+            Some(Verb::Meet) => Ok(Step::Meet { is_told: true }),
+            Some(Verb::Tally) => Ok(Step::Meet { is_told: false }),
             None => request_of(line),
         }
     }

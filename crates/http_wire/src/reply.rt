@@ -4,15 +4,18 @@ ghost use Rattle.arrayvec.specs.ArrayVec.{array_vec_len};
 ghost use Rattle.http_wire.specs.Reply.{status_text, reply_head, reply};
 ghost use Rattle.osm_base.specs.Status.{IsStatus};
 ghost use Rattle.http_wire.specs.Written.{Writes};
-ghost use Rattle.http_wire.specs.declared.reply.TheConstants.{PIECE_ROOM};
+ghost use Rattle.http_wire.specs.declared.reply.TheConstants.{LONG_PIECE_ROOM, PIECE_ROOM};
 ghost use Rattle.osm_outside.specs.Told.{Rose};
 
 use arrayvec::ArrayVec;
 use itoa::Buffer;
 use osm_outside::{Failed, Outside, Sink};
 
-/// A reply of at most so many bytes is written in one piece. The head of any reply has fewer.
+/// The head of any reply has at most so many bytes, and the body of a short one fits behind it.
 const PIECE_ROOM: usize = 1_024;
+
+/// A reply of at most so many bytes is written in one piece: to copy them costs less than a second write.
+const LONG_PIECE_ROOM: usize = 16_384;
 
 /// A status and its reason.
 fn status_text(status: u16) -> &'static [u8]
@@ -85,8 +88,20 @@ pub fn write_all<S: Sink>(sink: &mut S, bytes: &[u8]) -> Result<(), Failed>
     Ok(())
 }
 
-/// Writes a reply with a JSON body (RFC 9112, section 4), in one write where it fits `PIECE_ROOM` bytes and the sink takes
-/// all. `close` says in a Connection field that the link ends after it. At a fault a beginning of it was written.
+/// Writes the two as one piece. Only a reply that needs so much room pays for it.
+fn write_joined<S: Sink>(sink: &mut S, head: &[u8], body: &[u8]) -> Result<(), Failed>
+    requires { length head.now + length body.now ≤ LONG_PIECE_ROOM }
+    ensures writes { Writes (S.told sink.old) (S.told sink.new) (head.now ++ body.now) result }
+    ensures failed { IsErr result → Rose (S.told sink.old).write_faults (S.told sink.new).write_faults }
+{
+    let mut piece = ArrayVec::<u8, LONG_PIECE_ROOM>::new();
+    let _ = piece.try_extend_from_slice(head);
+    let _ = piece.try_extend_from_slice(body);
+    write_all(sink, piece.as_slice())
+}
+
+/// Writes a reply with a JSON body (RFC 9112, section 4), in one write where it has at most `LONG_PIECE_ROOM` bytes and the
+/// sink takes all. `close` says in a Connection field that the link ends after it. At a fault a beginning of it was written.
 pub fn write_reply<S: Sink>(
     sink: &mut S,
     status: u16,
@@ -102,6 +117,9 @@ pub fn write_reply<S: Sink>(
     if body.len() <= PIECE_ROOM - head.len() {
         append(&mut head, body);
         return write_all(sink, head.as_slice());
+    }
+    if body.len() <= LONG_PIECE_ROOM - head.len() {
+        return write_joined(sink, head.as_slice(), body);
     }
     write_all(sink, head.as_slice())?;
     write_all(sink, body)

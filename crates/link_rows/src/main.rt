@@ -4,6 +4,8 @@
 
 mod clock;
 mod desks;
+mod faults;
+mod files;
 mod held;
 mod outside;
 mod stream;
@@ -49,6 +51,7 @@ fn main(rt: HostRuntime) -> io::Result<ExitCode> {
     outside::play(&rt, alloc, &mut tally);
     wire::play(&rt, alloc, &mut tally);
     whole::play(&rt, alloc, &mut tally);
+    faults::play(&rt, alloc, &mut tally);
     tally.note(
         &rt,
         "the clock is read after the last byte",
@@ -60,6 +63,7 @@ fn main(rt: HostRuntime) -> io::Result<ExitCode> {
         held::each_reply_comes_before_the_next_request(alloc),
     );
     stream::play(rt, &mut tally);
+    files::play(rt, &mut tally);
     tally.tell(&rt)?;
     if tally.is_right() {
         Ok(ExitCode::SUCCESS)

@@ -29,7 +29,8 @@ fn gives_its_text(alloc: Global, host: &mut MemHost) -> Result<bool, Memory> {
 }
 
 fn a_host_gives_its_text(alloc: Global) -> Result<bool, Memory> {
-    let mut host = MemHost::new(Bytes::of(alloc, b"abc")?, Vec::new(alloc));
+    let text = Bytes::of(alloc, b"abc")?;
+    let mut host = MemHost::new(alloc, text, Vec::new(alloc), Vec::new(alloc))?;
     gives_its_text(alloc, &mut host)
 }
 

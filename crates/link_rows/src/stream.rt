@@ -2,11 +2,15 @@
 ghost use Rattle.std.specs.Prelude.{◌≡◌, ◌∷◌, ◌++◌, [], IfOk};
 ghost use Rattle.osm_outside.specs.Event.{Gave, Took};
 
+use crate::desks::LengthDesk;
+use http_link::{LinkEnd, serve_desk};
 use osm_base::Memory;
 use osm_outside::{Clock, Outside, Sink, Source};
 use osm_real::StreamLink;
 use row_tally::Tally;
 use std::alloc::Global;
+use std::io;
+use std::io::{ErrorKind, Read, Write};
 
 /// Why nothing was observed.
 #[derive(Drop)]
@@ -80,7 +84,51 @@ fn the_trace_tells_what_was_read_and_written(rt: HostRuntime) -> Result<bool, Un
     tells(rt.alloc(), &mut link)
 }
 
+/// A stream whose calls fail.
+#[derive(Drop)]
+struct Broken;
+
+impl Read for Broken {
+    fn read(&mut self, _buf: &mut [u8]) -> io::Result<usize> {
+        Err(io::Error::from(ErrorKind::ConnectionReset))
+    }
+}
+
+impl Write for Broken {
+    fn write(&mut self, _buf: &[u8]) -> io::Result<usize> {
+        Err(io::Error::from(ErrorKind::BrokenPipe))
+    }
+
+    fn flush(&mut self) -> io::Result<()> {
+        Ok(())
+    }
+}
+
+const REQUEST: &[u8] = b"GET /a HTTP/1.1\r\n\r\n";
+
+/// A request, and then a reader that fails: the reply was written, and the link doesn't end as if its input had.
+fn a_failing_reader_ends_the_link(rt: HostRuntime) -> bool {
+    let reader = REQUEST.chain(Broken);
+    let mut link = StreamLink::new(reader, Vec::new(rt.alloc()), rt);
+    serve_desk(rt.alloc(), &mut LengthDesk, &mut link) == LinkEnd::ReadFault
+}
+
+fn a_failing_writer_ends_the_link(rt: HostRuntime) -> bool {
+    let mut link = StreamLink::new(REQUEST, Broken, rt);
+    serve_desk(rt.alloc(), &mut LengthDesk, &mut link) == LinkEnd::WriteFault
+}
+
 pub fn play(rt: HostRuntime, tally: &mut Tally) {
+    tally.note(
+        &rt,
+        "a failing reader ends the link",
+        Ok(a_failing_reader_ends_the_link(rt)),
+    );
+    tally.note(
+        &rt,
+        "a failing writer ends the link",
+        Ok(a_failing_writer_ends_the_link(rt)),
+    );
     tally.note(
         &rt,
         "a link passes bytes and tells the time",

@@ -1,8 +1,11 @@
 //! One map with its journal, on which orders are followed.
+ghost use Rattle.api_desk.specs.Machine.{map_rules};
+ghost use Rattle.hub_core.specs.Journal.{IsMadeBefore};
+
 use crate::orders::{Order, Reading, Work};
 use crate::reads::{query_of, rows_of};
 use crate::replays::replay;
-use api_desk::{Asked, Look, MapMachine};
+use api_desk::{Asked, MapMachine};
 use hub_core::{Book, Done, NoOutlet};
 use machine_law::{Machine, Tag};
 use osm_base::{CHANGE_LIMIT, Kind, Memory, Steps, Text, TryCopy, User};
@@ -13,7 +16,7 @@ use osm_model::{Command, Query};
 use osm_world::World;
 use std::alloc::Global;
 use std::sync::ledger::Ledger;
-use upload_check::{Outcome, UploadCmd, judge_upload};
+use upload_check::{Look, Outcome, Plan, UploadCmd, plan_upload, settle, still};
 use workload::Load;
 
 /// The moment of all calls, in seconds since 1970.
@@ -32,8 +35,9 @@ pub struct Bench {
     user: User,
     book: Book<MapMachine>,
     load: Load,
-    /// The change of the last body.
+    /// The change of the last body, and its last plan.
     change: Option<Change>,
+    plan: Option<Plan>,
     /// The open changeset, 0 where there is none yet, and how many operations it still takes.
     changeset: u64,
     left: u64,
@@ -54,6 +58,7 @@ impl Bench {
             book: Book::<MapMachine>::new(alloc),
             load,
             change: None,
+            plan: None,
             changeset: 0,
             left: 0,
         })
@@ -87,7 +92,9 @@ impl Bench {
         &mut self,
         plan: <MapMachine as Machine>::Plan,
         steps: &mut Steps<L>,
-    ) -> Option<usize> {
+    ) -> Option<usize>
+        requires made { IsMadeBefore map_rules plan self.old.book }
+    {
         let tag = Tag {
             session: SESSION,
             call: self.book.calls(SESSION).checked_add(1)?,
@@ -141,17 +148,47 @@ impl Bench {
         Some(self.copied()?.len() as usize)
     }
 
-    /// Judges the change of the last body, and gives how many operations it has.
-    fn judge<L: Ledger>(&self, steps: &mut Steps<L>) -> Option<usize> {
-        let cmd = UploadCmd {
-            user: &self.user,
+    /// The upload of the change of the last body.
+    fn cmd(&self) -> Option<UploadCmd> {
+        let user = self.user.copy(self.alloc).ok()?;
+        let change = self.copied()?;
+        Some(UploadCmd {
+            user,
             changeset: self.changeset,
-            change: self.change.as_ref()?,
-        };
-        match judge_upload(self.alloc, self.world(), &cmd, MOMENT, steps) {
-            Ok(outcome) => accepted(&outcome),
-            Err(_) => None,
-        }
+            change,
+            single: false,
+        })
+    }
+
+    fn planned<L: Ledger>(&self, steps: &mut Steps<L>) -> Option<Plan> {
+        plan_upload(self.alloc, self.world(), self.cmd()?, steps).ok()
+    }
+
+    /// Plans the change of the last body and settles it, and gives how many operations it has.
+    fn judge<L: Ledger>(&self, steps: &mut Steps<L>) -> Option<usize> {
+        let plan = self.planned(steps)?;
+        self.settled(&plan)
+    }
+
+    fn settled(&self, plan: &Plan) -> Option<usize> {
+        settled_on(self.alloc, self.world(), plan)
+    }
+
+    /// Plans the change of the last body, keeps the plan, and gives how many operations it has.
+    fn keep_plan<L: Ledger>(&mut self, steps: &mut Steps<L>) -> Option<usize> {
+        let plan = self.planned(steps)?;
+        let operations = plan.cmd().change.len() as usize;
+        self.plan = Some(plan);
+        Some(operations)
+    }
+
+    fn stands(&self) -> Option<usize> {
+        let plan = self.plan.as_ref()?;
+        Some(usize::from(still(self.world(), plan).is_ok()))
+    }
+
+    fn settle_kept(&self) -> Option<usize> {
+        self.settled(self.plan.as_ref()?)
     }
 
     /// Applies all entries to a second map, and gives how many they are.
@@ -191,6 +228,9 @@ impl Bench {
             Work::Load => self.commit_next(steps),
             Work::Commit => self.commit_copy(steps),
             Work::Judge => self.judge(steps),
+            Work::Plan => self.keep_plan(steps),
+            Work::Still => self.stands(),
+            Work::Settle => self.settle_kept(),
             Work::Copy => self.copy(),
             Work::Replay => self.replay(),
             Work::Rows(reading) => self.rows(reading, turn, steps),
@@ -227,6 +267,17 @@ impl Bench {
 fn bytes_of(done: &Done<Look>) -> Option<usize> {
     let _ = done.place?;
     Some(done.answer.as_slice().len())
+}
+
+/// What a plan settles to on a world, if it stands: how many operations it has.
+fn settled_on(alloc: Global, world: &World, plan: &Plan) -> Option<usize> {
+    match still(world, plan) {
+        Ok(()) => match settle(alloc, world, plan, MOMENT) {
+            Ok(outcome) => accepted(&outcome),
+            Err(Memory) => None,
+        },
+        Err(_) => None,
+    }
 }
 
 /// How many operations an upload has that is accepted.

@@ -14,8 +14,14 @@ pub enum Work {
     Load,
     /// Commits the change of the last body.
     Commit,
-    /// Judges it.
+    /// Plans it and settles it at once.
     Judge,
+    /// Plans it, and keeps the plan.
+    Plan,
+    /// Looks whether that plan stands.
+    Still,
+    /// Looks whether it stands, and settles it.
+    Settle,
     /// Copies it.
     Copy,
     /// Applies all entries to a second map.
@@ -31,10 +37,13 @@ pub enum Order<'a> {
     Repeat { work: Work, times: u32 },
 }
 
-const WORDS: [(&str, Work); 11] = [
+const WORDS: [(&str, Work); 14] = [
     ("load", Work::Load),
     ("commit", Work::Commit),
     ("judge", Work::Judge),
+    ("plan", Work::Plan),
+    ("still", Work::Still),
+    ("settle", Work::Settle),
     ("copy", Work::Copy),
     ("replay", Work::Replay),
     ("node", Work::Rows(Reading::Node)),

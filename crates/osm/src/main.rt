@@ -11,6 +11,7 @@ use std::process::ExitCode;
 
 fn main(rt: HostRuntime) -> ExitCode {
     program(
+        &rt,
         rt.alloc(),
         env::args(&rt),
         &mut FileHost::new(rt),

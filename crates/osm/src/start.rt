@@ -13,6 +13,7 @@ use std::alloc::{AllocError, Global};
 use std::env::Args;
 use std::io;
 use std::process::ExitCode;
+use std::sync::Wait;
 
 /// The words, in their order.
 fn words_of(alloc: Global, args: Args) -> Result<Vec<String>, AllocError>
@@ -32,19 +33,26 @@ fn lacking_status(why: &io::Error) -> u8
 }
 
 /// The status of `run` on the words, or 5 where there is no memory for their list.
-fn status_on<H: Host, L: Link>(alloc: Global, args: Args, host: &mut H, standard: &mut L) -> u8
+fn status_on<H: Host, R: Wait, L: Link>(
+    rt: &R,
+    alloc: Global,
+    args: Args,
+    host: &mut H,
+    standard: &mut L,
+) -> u8
     ensures { Runs (reading_of (map string_bytes (into_iter_items args))) (H.told host.old) (H.told host.new)
         (L.told standard.old) (L.told standard.new) result }
 {
     match words_of(alloc, args) {
-        Ok(words) => run(alloc, words.as_slice(), host, standard),
+        Ok(words) => run(rt, alloc, words.as_slice(), host, standard),
         Err(_) => 5,
     }
 }
 
-/// Serves the standard link as the words that the system gave ask, and ends with the status of
+/// Does what the words that the system gave ask, and ends with the status of
 /// `run`. Where the system gave no words, nothing is read or written.
-pub fn program<H: Host, L: Link>(
+pub fn program<H: Host, R: Wait, L: Link>(
+    rt: &R,
     alloc: Global,
     args: io::Result<Args>,
     host: &mut H,
@@ -57,7 +65,7 @@ pub fn program<H: Host, L: Link>(
         (L.told standard.old) (L.told standard.new) (exit_status result)) }
 {
     let status = match args {
-        Ok(args) => status_on(alloc, args, host, standard),
+        Ok(args) => status_on(rt, alloc, args, host, standard),
         Err(why) => lacking_status(&why),
     };
     ExitCode::from(status)

@@ -1,8 +1,8 @@
--- A link and a host in memory: what they were made of, and what each call does.
-use Rattle.std.specs.Prelude.{ℕ, ◌+◌, ◌-◌, ◌^◌, min, max, List, length, Option, Some, unwrap_or, slice_get, ◌==◌, ◌&&◌, not, if◌then◌else◌}
+-- A link in memory: what it was made of, and what each call does.
+use Rattle.std.specs.Prelude.{◌≡◌, ℕ, ◌+◌, ◌-◌, ◌^◌, min, max, List, [], ◌∷◌, ◌++◌, length, take, Option, Some, unwrap_or, slice_get, ◌==◌, ◌&&◌, not, if◌then◌else◌}
 use Rattle.std.specs.List.{Contains}
-use Rattle.osm_outside.specs.Event.{Event}
-use Rattle.osm_outside.specs.Told.{Told, HostTold}
+use Rattle.osm_outside.specs.Event.{Event, Took}
+use Rattle.osm_outside.specs.Told.{Told}
 
 -- a count of 64 bits after one more, which stands still at the greatest
 abbrev pub next_count : ℕ → ℕ
@@ -87,12 +87,23 @@ taken_count link bytes = min bytes (link.room - length link.written)
 abbrev pub after_write : Counted → ℕ → ℕ → Counted
 after_write calls bytes n = if (n == 0) && not (bytes == 0) then faulted (called calls) else called calls
 
--- a host in memory
-pub record HostState : Type 0 where
-  -- its users text
-  pub text : List ℕ
-  pub calls : Counted
+-- the link after a write of a piece that took n bytes
+abbrev pub after_taking : LinkState → List ℕ → ℕ → LinkState
+after_taking link piece n = record link {
+  written = link.written ++ take n piece;
+  writes = after_write link.writes (length piece) n;
+  trace = link.trace ++ Took (take n piece) ∷ [];
+}
 
--- what the host tells
-abbrev pub host_told_of : HostState → HostTold
-host_told_of host = record { users = Some host.text; faults = host.calls.faults }
+-- a link in memory, and the number of the write that takes nothing
+pub record SinkState : Type 0 where
+  pub link : LinkState
+  pub empty_at : ℕ
+
+-- what such a link tells
+abbrev pub sink_told_of : SinkState → Told
+sink_told_of sink = told_of sink.link
+
+-- The next write takes nothing.
+abbrev pub TakesNone : SinkState → Type 0
+TakesNone sink = sink.link.writes.made ≡ sink.empty_at

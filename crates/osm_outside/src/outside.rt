@@ -1,10 +1,13 @@
 //! The traits of the outside. Each counts its faults, and a call fails only where its count rose.
 //! A link keeps for contracts, in one list, what its calls gave, took and told.
-ghost use Rattle.std.specs.Prelude.{◌≡◌, ◌+◌, ◌<◌, ◌≤◌, ◌∷◌, ◌++◌, [], length, take, IfOk, IfSome, IsErr, Some, Err};
+ghost use Rattle.std.specs.Prelude.{◌≡◌, ◌+◌, ◌<◌, ◌≤◌, ◌∷◌, ◌++◌, [], length, map, take, vec_len, IfOk, IfSome, IsErr, OnErr, Some, Err};
 ghost use Rattle.std.specs.Io.KnownBytes.{ReadConsumes};
 ghost use Rattle.osm_base.specs.declared.limits.TheConstants.{USERS_LIMIT};
 ghost use Rattle.osm_outside.specs.Event.{Answered};
-ghost use Rattle.osm_outside.specs.Told.{Told, HostTold, Rose, AddsRead, AddsWrite, OnlyReads, OnlyWrites, OnlyFaults};
+ghost use Rattle.osm_outside.specs.Told.{Told, Rose, AddsRead, AddsWrite, OnlyReads, OnlyWrites};
+ghost use Rattle.osm_outside.specs.Lent.{IsOut, hand_out, take_back};
+ghost use Rattle.osm_outside.specs.Port.{PortTold, Accepts};
+ghost use Rattle.osm_outside.specs.Host.{HostTold, OnlyAsked, OnlyPorts};
 
 use osm_base::{Bytes, Memory};
 use std::alloc::Global;
@@ -60,6 +63,29 @@ pub trait Clock: Outside {
 /// A connection to one client.
 pub trait Link: Source + Sink + Clock {}
 
+/// What a port tells contracts of itself.
+pub trait PortOutside {
+    ghost told: { Self → PortTold };
+}
+
+/// Where links come from, one after another. A worker may take a port and its links to a thread of its own.
+pub trait Port: PortOutside {
+    type Link: Link + Drop + Send;
+
+    /// The next link, or `None` where none is to come.
+    fn accept(&mut self) -> Result<Option<Self::Link>, Failed>
+        ensures accepts { Accepts Self.Link.told (Self.told self.old) (Self.told self.new) result }
+        ensures failed { IsErr result → Rose (Self.told self.old).faults (Self.told self.new).faults }
+        ensures faults { (Self.told self.old).faults ≤ (Self.told self.new).faults };
+
+    /// Takes back a link that it handed out, once it was served.
+    fn done(&mut self, link: Self::Link)
+        requires { IsOut (Self.told self.old).lent }
+        ensures { Self.told self.new ≡ record (Self.told self.old) {
+          lent = take_back (Self.told self.old).lent (Self.Link.told link);
+        } };
+}
+
 /// Why a call of a host has no result.
 #[derive(Clone, Copy, PartialEq, Eq)]
 pub enum HostFault {
@@ -82,11 +108,31 @@ impl From<Memory> for HostFault {
 pub trait Host {
     ghost use Rattle.osm_outside.specs.declared.outside.HostFault.TheVariants as fault;
 
+    type Port: Port + Drop + Send;
+
     ghost told: { Self → HostTold };
 
-    /// The users text at that path: its first 1,048,577 bytes, or all of a shorter one.
+    /// The users text at that path: its first 1,048,577 bytes, or all of a shorter one. However it ends, the path was asked for.
     fn users(&mut self, alloc: Global, path: &str) -> Result<Bytes, HostFault>
         ensures text { IfOk result (λ bytes. IfSome (told self.old).users (λ text. bytes ≡ take (USERS_LIMIT + 1) text)) }
         ensures failed { result ≡ Err fault.Failed → Rose (told self.old).faults (told self.new).faults }
-        ensures keeps { OnlyFaults (told self.old) (told self.new) };
+        ensures keeps { OnlyAsked path.now (told self.old) (told self.new) };
+
+    /// As many ports at that address as there are workers. However it ends, the address was asked for.
+    fn listen(
+        &mut self,
+        alloc: Global,
+        address: &str,
+        workers: u32,
+    ) -> Result<Vec<Self::Port>, HostFault>
+        ensures count { IfOk result (λ ports. vec_len ports ≡ workers) }
+        ensures ports { IfOk result (λ ports. (told self.new).lent ≡ hand_out (told self.old).lent (map Self.Port.told ports.items)) }
+        ensures failed { result ≡ Err fault.Failed → Rose (told self.old).faults (told self.new).faults }
+        ensures err { OnErr result ((told self.new).lent ≡ (told self.old).lent) }
+        ensures keeps { OnlyPorts address.now (told self.old) (told self.new) };
+
+    /// Takes back a port that it handed out. It takes no memory.
+    fn back(&mut self, port: Self::Port)
+        requires { IsOut (told self.old).lent }
+        ensures { told self.new ≡ record (told self.old) { lent = take_back (told self.old).lent (Self.Port.told port) } };
 }

@@ -97,7 +97,8 @@ one_done : (users : List Row) (sent : Sent) (old new : List Entry) (status : Opt
     → IsDone users sent old new ⊎ IsUnread sent old new
 one_done users sent old new (Some status) is fine =
     let told = is.answered in
-    let answers = told.answers in
+    let alone = told.answers in
+    let answers = alone.answers in
     let memory : answers.answer ≡ None → ⊥ = λ none.
     let lacks : (status == 503) ≡ true = tested status (told.status_is ∙ lacking_of answers.answer told.reply answers.text none) in
     let clash : true ≡ false = sym lacks ∙ fine in absurd (cc) in
@@ -105,7 +106,7 @@ one_done users sent old new (Some status) is fine =
       message = is.message;
       rest = is.rest;
       begins = is.begins;
-      done = row_done sent.session old new answers.more (request_of users is.message) answers.answer answers.row answers.grown answers.own memory;
+      done = row_done sent.session old new alone.more (request_of users is.message) answers.answer answers.row alone.grown alone.own memory;
     })
 one_done users sent old new None is fine = inr is
 

@@ -1,239 +1,62 @@
--- Serving a link by a desk over a new journal.
-use Rattle.std.proofs.Common.{◌≡◌, ℕ, ◌+◌, ◌++◌, ◌∙◌, ap, arith, length, map, List, [], ◌∷◌, Option, Some, None, refl, sym, subst, inl, append_assoc, append-nil}
-use Rattle.std.specs.Prelude.{IfSome}
-use Rattle.std.specs.List.{AllByRecursion, concat}
-use Rattle.std.specs.Io.KnownBytes.{Consumes}
-use Rattle.std.proofs.lemmas.List.{length-map}
-use Rattle.osm_outside.specs.Event.{Event, Gave, Took, Answered, given, answered}
+-- Serving a link by a desk of a hub.
+use Rattle.std.proofs.Common.{◌≡◌, ℕ, ◌≤◌, inl, inr, List, [], ◌++◌, length, refl, ◌∙◌, subst, arith, append-nil}
 use Rattle.osm_outside.specs.Told.{Told}
 use Rattle.osm_model.specs.declared.commands.Entry.{Entry}
-use Rattle.osm_model.specs.Journal.{IsLegal, calls_of}
-use Rattle.osm_element.specs.Elements.{IsConsistent}
-use Rattle.osm_model.specs.Answered.{all_of, map_at}
-use Rattle.http_wire.specs.declared.message.Message.{Message}
-use Rattle.http_wire.specs.declared.end.WireEnd.{WireEnd}
-use Rattle.http_wire.specs.End.{IsTold}
-use Rattle.http_wire.specs.Message.{AreMessages}
 use Rattle.http_link.specs.declared.end.LinkEnd.{LinkEnd}
 use Rattle.http_link.specs.declared.end.LinkEnd.TheVariants.{Memory}
-use Rattle.http_link.specs.Input.{IsByInput, EndsByInput}
-use Rattle.http_link.specs.Exchange.{Exchange, moments_of}
-use Rattle.http_link.specs.Turns.{Turn, Ending, no_ending, events_of, events_of_turn, exchanges_of, bytes_of}
+use Rattle.http_link.specs.Exchange.{Exchange, Chain}
+use Rattle.http_link.specs.Turns.{exchanges_of}
 use Rattle.http_link.specs.Link.{Serves}
 use Rattle.user_table.specs.Rows.{Row}
-use Rattle.api_desk.specs.declared.desk.OneDesk.{OneDesk}
-use Rattle.api_desk.specs.Answers.{AreAnswered}
-use Rattle.api_desk.specs.Desk.{Allows, HasServed, entries_of, users_of, session_of}
-use Rattle.osm_serve.specs.Serve.{OnLink, ServesPipe, beginning}
+use Rattle.snapshot_hub.specs.Known.{Known}
+use Rattle.api_desk.specs.HubDesk.{AtDesk, Allows, IsFresh, HasServed}
+use Rattle.osm_serve.specs.Serve.{ServesLink, IsSound}
+use Rattle.osm_serve.proofs.OnLink.{on_link, HaveReadings, unserved_link}
 
--- ---- what the events of turns give and tell
+-- what a desk's relation over a whole link comes to
+abbrev pub Chains : Type 0
+Chains = (old new : AtDesk) (exchanges : List Exchange) (point : ℕ) → point ≤ length old.known.front
+    → Chain Allows old exchanges new → (new.users ≡ old.users) × HasServed old.users old.known point exchanges new.known
 
-given-append : (xs ys : List Event) → given (xs ++ ys) ≡ given xs ++ given ys
-given-append [] ys = refl
-given-append (Gave bytes ∷ xs) ys =
-    ap (λ l. bytes ++ l) (given-append xs ys) ∙ sym (append_assoc bytes (given xs) (given ys))
-given-append (Took bytes ∷ xs) ys = given-append xs ys
-given-append (Answered moment ∷ xs) ys = given-append xs ys
-
-answered-append : (xs ys : List Event) → answered (xs ++ ys) ≡ answered xs ++ answered ys
-answered-append [] ys = refl
-answered-append (Gave bytes ∷ xs) ys = answered-append xs ys
-answered-append (Took bytes ∷ xs) ys = answered-append xs ys
-answered-append (Answered moment ∷ xs) ys = ap (λ l. moment ∷ l) (answered-append xs ys)
-
-given-reads : (reads : List (List ℕ)) → given (map Gave reads) ≡ concat reads
-given-reads [] = refl
-given-reads (r ∷ reads) = ap (λ l. r ++ l) (given-reads reads)
-
-given-writes : (writes : List (List ℕ)) → given (map Took writes) ≡ []
-given-writes [] = refl
-given-writes (w ∷ writes) = given-writes writes
-
-answered-reads : (reads : List (List ℕ)) → answered (map Gave reads) ≡ []
-answered-reads [] = refl
-answered-reads (r ∷ reads) = answered-reads reads
-
-answered-writes : (writes : List (List ℕ)) → answered (map Took writes) ≡ []
-answered-writes [] = refl
-answered-writes (w ∷ writes) = answered-writes writes
-
-given-parts : (reads writes : List (List ℕ)) → given (map Gave reads ++ map Took writes) ≡ concat reads
-given-parts reads writes =
-    given-append (map Gave reads) (map Took writes)
-    ∙ (λ i. given-reads reads i ++ given-writes writes i) ∙ append-nil (concat reads)
-
-answered-parts : (reads writes : List (List ℕ)) → answered (map Gave reads ++ map Took writes) ≡ []
-answered-parts reads writes =
-    answered-append (map Gave reads) (map Took writes) ∙ (λ i. answered-reads reads i ++ answered-writes writes i)
-
-given-turn : (turn : Turn) → given (events_of_turn turn) ≡ concat turn.reads
-given-turn turn =
-    given-append (map Gave turn.reads) (Answered turn.exchange.moment ∷ map Took turn.writes)
-    ∙ (λ i. given-reads turn.reads i ++ given-writes turn.writes i) ∙ append-nil (concat turn.reads)
-
-answered-turn : (turn : Turn) → answered (events_of_turn turn) ≡ turn.exchange.moment ∷ []
-answered-turn turn =
-    answered-append (map Gave turn.reads) (Answered turn.exchange.moment ∷ map Took turn.writes)
-    ∙ (λ i. answered-reads turn.reads i ++ (turn.exchange.moment ∷ answered-writes turn.writes i))
-
-given-turns : (turns : List Turn) (ending : Ending) → given (events_of turns ending) ≡ bytes_of turns ending
-given-turns [] ending = given-parts ending.reads ending.writes
-given-turns (turn ∷ turns) ending =
-    given-append (events_of_turn turn) (events_of turns ending) ∙ (λ i. given-turn turn i ++ given-turns turns ending i)
-
-answered-turns : (turns : List Turn) (ending : Ending) → answered (events_of turns ending) ≡ moments_of (exchanges_of turns)
-answered-turns [] ending = answered-parts ending.reads ending.writes
-answered-turns (turn ∷ turns) ending =
-    answered-append (events_of_turn turn) (events_of turns ending)
-    ∙ (λ i. answered-turn turn i ++ answered-turns turns ending i)
-
--- ---- the link
-
-on_link : (old new : OneDesk) (before after : Told) (end : LinkEnd) (s : Serves Allows old new before after end)
-    → OnLink before after (exchanges_of s.turns) end
-on_link old new before after end s = record {
-  turns = s.turns;
-  ending = s.ending;
-  trace = s.served.trace;
-  exchanges_are = refl;
-  few = omega (arith, s.few, length-map s.turns (λ t. t.exchange));
-  bytes = bytes_of s.turns s.ending;
-  rest = s.left ++ concat s.ending.reads;
-  input = sym (given-turns s.turns s.ending);
-  messages = s.agrees.messages;
-  taken = s.agrees.taken;
-  limit = s.agrees.limit;
-  consumed = s.served.input;
-  moments = answered-turns s.turns s.ending;
-  fixed = s.served.fixed;
-  left = s.left;
-  read = s.served.read;
-  ends = s.ends;
-  by_bytes = s.agrees.by_bytes;
-  by_input = s.agrees.by_input;
-  read_faults = s.served.read_faults;
-  write_faults = s.served.write_faults;
-}
-
--- ---- the journal
-
--- a journal without entries is legal
-nothing_legal : IsLegal []
-nothing_legal = record { taken = refl; numbered = refl }
-
--- a journal that was empty has the entries of the session alone
-own_entries : (es more : List Entry) → es ≡ [] ++ more → calls_of 0 es ≡ calls_of 0 [] + length more → calls_of 0 es ≡ length es
-own_entries es more grown own =
-    let same : length es ≡ length more = ap length grown in
-    let none : calls_of 0 [] ≡ 0 = refl in
-    omega (arith, own, same, none)
-
--- what a desk of session 0 over a new journal has answered
-from_nothing :
-    (users : List Row) (old new : OneDesk) (exchanges : List Exchange)
-    → users_of old ≡ users → session_of old ≡ 0 → entries_of old ≡ []
-    → HasServed old exchanges new
-    → AreAnswered users 0 (entries_of new) beginning exchanges (all_of 0 (entries_of new))
-    × IsLegal (entries_of new)
-    × (calls_of 0 (entries_of new) ≡ length (entries_of new))
-from_nothing users old new exchanges same zero none served = (
-  subst
-      (λ (u : List Row). AreAnswered u 0 (entries_of new) beginning exchanges (all_of 0 (entries_of new)))
-      same
-      (subst
-      (λ (es : List Entry). AreAnswered (users_of old) 0 (entries_of new) (all_of 0 es) exchanges (all_of 0 (entries_of new)))
-      none
-      (subst
-      (λ (s : ℕ). AreAnswered (users_of old) s (entries_of new) (all_of s (entries_of old)) exchanges (all_of s (entries_of new)))
-      zero
-      served.answered)),
-  served.legal (subst (λ (es : List Entry). IsLegal es) (sym none) nothing_legal),
-  own_entries
-      (entries_of new)
-      served.more
-      (served.grown ∙ ap (λ (es : List Entry). es ++ served.more) none)
-      (subst
-      (λ (es : List Entry). calls_of 0 (entries_of new) ≡ calls_of 0 es + length served.more)
-      none
-      (subst (λ (s : ℕ). calls_of s (entries_of new) ≡ calls_of s (entries_of old) + length served.more) zero served.own)),
-)
-
-pub serves_pipe :
-    (users : List Row) (old new : OneDesk) (before after : Told) (end : LinkEnd)
-    → users_of old ≡ users → session_of old ≡ 0 → entries_of old ≡ []
-    → (s : Serves Allows old new before after end)
-    → HasServed old (exchanges_of s.turns) new
-    → ((entries : List Entry) → IsLegal entries → (point : ℕ) → IsConsistent (map_at entries point).elements)
-    → ServesPipe users before after end
-serves_pipe users old new before after end same zero none s served consistent =
-    let told = from_nothing users old new (exchanges_of s.turns) same zero none served in
+pub serves_link : (old fresh new : AtDesk) (before after : Told) (end : LinkEnd) → Chains
+    → fresh.users ≡ old.users → IsFresh old.known fresh.known → Serves Allows fresh new before after end → IsSound new.known.front
+    → ServesLink old new before after end
+serves_link old fresh new before after end chains users is_fresh s sound =
+    let at : (point : ℕ) → point ≤ length fresh.known.front
+    → (new.users ≡ fresh.users) × HasServed fresh.users fresh.known point (exchanges_of s.turns) new.known =
+    λ point le. chains fresh new (exchanges_of s.turns) point le s.served.answered in
     record {
       exchanges = exchanges_of s.turns;
-      link = on_link old new before after end s;
-      journal = entries_of new;
-      legal = told.1;
-      answered = told.0;
-      own = told.2;
-      consistent = consistent (entries_of new) told.1;
+      link = on_link Allows fresh new before after end s;
+      users = (at 0 (omega arith)).0 ∙ users;
+      start = fresh.known;
+      started = inl is_fresh;
+      served = λ point le. subst (λ (u : List Row). HasServed u fresh.known point (exchanges_of s.turns) new.known) users (at point le).1;
+      front = sound;
     }
 
--- ---- a link that was left alone
-
--- every byte string has messages and an end behind them
-abbrev HaveReadings : Type 0
-HaveReadings = (bytes : List ℕ) → (messages : List Message) × (why : WireEnd) × IsTold why × AreMessages bytes messages why
-
--- want of memory is told by no bytes
-by_no_bytes : HaveReadings → (input : List ℕ) → EndsByInput input [] Memory
-by_no_bytes readings input =
-    let found = readings input in
-    (found.0, found.1, found.2, found.3, λ (never : IsByInput Memory). absurd never)
-
-unserved_input : HaveReadings → (left : Option (List ℕ)) → IfSome left (λ input. EndsByInput input [] Memory)
-unserved_input readings None = tt
-unserved_input readings (Some input) = by_no_bytes readings input
-
-unserved_left : (left : Option (List ℕ)) → Consumes left left []
-unserved_left None = tt
-unserved_left (Some input) = refl
-
-unserved_moments : (fixed : Option ℕ) → IfSome fixed (λ at. AllByRecursion (λ (e : Exchange). e.moment ≡ at) [])
-unserved_moments None = tt
-unserved_moments (Some at) = tt
-
-pub unserved :
-    (users : List Row) (before : Told)
-    → HaveReadings
-    → ((entries : List Entry) → IsLegal entries → (point : ℕ) → IsConsistent (map_at entries point).elements)
-    → ServesPipe users before before Memory
-unserved users before readings consistent = record {
-  exchanges = [];
-  link = record {
-    turns = [];
-    ending = no_ending;
-    trace = sym (append-nil before.trace);
-    exchanges_are = refl;
-    few = omega arith;
-    bytes = [];
-    rest = [];
-    input = refl;
-    messages = refl;
-    taken = omega arith;
-    limit = omega arith;
-    consumed = unserved_left before.left;
-    moments = refl;
-    fixed = unserved_moments before.fixed;
-    left = [];
-    read = refl;
-    ends = inl (record { untouched = refl; no_turn = refl; nothing_else = refl });
-    by_bytes = by_no_bytes readings [];
-    by_input = unserved_input readings before.left;
-    read_faults = omega arith;
-    write_faults = omega arith;
-  };
-  journal = [];
-  legal = nothing_legal;
-  answered = record { asked = []; told = tt; answered = (refl, omega arith) };
-  own = refl;
-  consistent = consistent [] nothing_legal;
+-- no message was answered
+pub nothing_served : (users : List Row) (it : Known Entry) (point : ℕ) → point ≤ length it.front → HasServed users it point [] it
+nothing_served users it point le = record {
+  number = refl;
+  begins = ([], append-nil it.front);
+  last = point;
+  within = le;
+  answered = record { asked = []; told = tt; answered = (refl, le) };
 }
+
+left_alone : (old : AtDesk) (told : Told) → HaveReadings → IsSound old.known.front → ServesLink old old told told Memory
+left_alone old told readings sound = record {
+  exchanges = [];
+  link = unserved_link told readings;
+  users = refl;
+  start = old.known;
+  started = inr (record { stays = refl; nothing = refl; untouched = refl; ended = refl });
+  served = λ point le. nothing_served old.users old.known point le;
+  front = sound;
+}
+
+-- there was no memory to freshen the session
+pub unstarted : (old new : AtDesk) (told : Told) → HaveReadings → new ≡ old → IsSound new.known.front → ServesLink old new told told Memory
+unstarted old new told readings same sound =
+    subst (λ (o : AtDesk). ServesLink o new told told Memory) same (left_alone new told readings sound)

@@ -1,6 +1,7 @@
 -- What a run of the program does, and which status it ends with.
 use Rattle.std.specs.Prelude.{◌≡◌, ℕ, ◌⊎◌, List, Option, Some, None, Ok}
-use Rattle.osm_outside.specs.Told.{Told, HostTold, OnlyFaults, Rose}
+use Rattle.osm_outside.specs.Told.{Told, Rose}
+use Rattle.osm_outside.specs.Host.{HostTold, OnlyAsked}
 use Rattle.http_link.specs.declared.end.LinkEnd.{LinkEnd}
 use Rattle.http_link.specs.declared.end.LinkEnd.TheVariants.{Ended, Closed, Budget, Refused, ReadFault, WriteFault, Memory}
 use Rattle.user_table.specs.Rows.{Row}
@@ -59,9 +60,9 @@ pub record LacksUsers (host host' : HostTold) (before after : Told) (status : �
   pub unserved : after ≡ before
   pub status_is : status ≡ 3
 
--- what `pipe` comes to, with the clock fixed at that moment where one is given
-pub record RunsPipe (at : Option ℕ) (host host' : HostTold) (before after : Told) (status : ℕ) : Type 0 where
-  pub keeps : OnlyFaults host host'
+-- what `pipe` comes to, with the users of the text at that path, and with the clock fixed at that moment where one is given
+pub record RunsPipe (path : List ℕ) (at : Option ℕ) (host host' : HostTold) (before after : Told) (status : ℕ) : Type 0 where
+  pub keeps : OnlyAsked path host host'
   pub comes_to :
       Serves at host before after status
       ⊎ RefusesUsers host before after status
@@ -92,7 +93,7 @@ pub record IsUnserved (wanted : ℕ) (host host' : HostTold) (before after : Tol
 -- what words come to: those without a reading are status 1
 abbrev pub ComesTo : Option Reading → HostTold → HostTold → Told → Told → ℕ → Type 0
 ComesTo None = IsUnserved 1
-ComesTo (Some (pipe users at)) = RunsPipe at
+ComesTo (Some (pipe users at)) = RunsPipe users at
 ComesTo (Some (measure load)) = RunsMeasure load
 ComesTo (Some (export load)) = RunsExport load
 ComesTo (Some replay) = RunsReplay

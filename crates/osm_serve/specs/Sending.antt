@@ -5,7 +5,7 @@ use Rattle.http_wire.specs.declared.message.Message.{Message}
 use Rattle.http_wire.specs.Message.{BeginsWith}
 use Rattle.http_link.specs.declared.desk.Reply.{Reply}
 use Rattle.user_table.specs.Rows.{Row}
-use Rattle.api_desk.specs.Answers.{Answers}
+use Rattle.api_desk.specs.Answers.{AnswersAlone}
 use Rattle.workload.specs.declared.sent.Sent.{Sent}
 use Rattle.whole_messages.specs.Messages.{HasNoMessage}
 
@@ -18,7 +18,7 @@ moment_of_load = 1700000000
 -- A message of a session was answered as the rules of the map say, from a journal to the next.
 pub record IsAnswered (users : List Row) (session : ℕ) (message : Message) (old new : List Entry) (status : ℕ) : Type 0 where
   pub reply : Reply
-  pub answers : Answers users session old new message moment_of_load reply
+  pub answers : AnswersAlone users session old new message moment_of_load reply
   pub status_is : status ≡ reply.status
 
 -- A request was sent: the message that its bytes begin with was answered.

@@ -1,7 +1,8 @@
 -- What reading the users comes to.
 use Rattle.std.specs.Prelude.{◌≡◌, ℕ, ◌+◌, List, take, IfSome, Result, Ok, Err, ⊤}
 use Rattle.osm_base.specs.declared.limits.TheConstants.{USERS_LIMIT}
-use Rattle.osm_outside.specs.Told.{HostTold, OnlyFaults, Rose}
+use Rattle.osm_outside.specs.Told.{Rose}
+use Rattle.osm_outside.specs.Host.{HostTold, OnlyAsked}
 use Rattle.user_table.specs.Rows.{Row}
 use Rattle.user_table.specs.Users.{table_of}
 use Rattle.user_table.specs.declared.faults.UsersFault.{UsersFault}
@@ -30,7 +31,7 @@ Found before after (Err Failed) = Rose before.faults after.faults
 Found before after (Err Refused) = (text : List ℕ) × IsTextOf before text × IsRefused text
 Found before after (Err Memory) = ⊤
 
--- the same, and nothing of the host changed but its count of faults
-pub record ReadsUsers (before after : HostTold) (result : Result (List Row) NoUsers) : Type 0 where
+-- the same, at that path and no other, and nothing else of the host changed but its count of faults
+pub record ReadsUsers (path : List ℕ) (before after : HostTold) (result : Result (List Row) NoUsers) : Type 0 where
   pub found : Found before after result
-  pub keeps : OnlyFaults before after
+  pub keeps : OnlyAsked path before after

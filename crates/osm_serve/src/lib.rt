@@ -2,15 +2,18 @@
 //! the link, or sends itself a generated load and writes its numbers or its journal.
 #![tactic(auto)]
 
+mod close;
 mod export;
 mod keeper;
+mod link;
 mod measure;
+mod pipe;
 mod play;
 mod replay;
 mod sending;
-mod serve;
 mod tell;
 mod top;
 mod users;
 
+pub use link::serve_link;
 pub use top::run;

@@ -17,7 +17,7 @@ pub enum NoUsers {
 
 /// The users of the text at that path.
 pub fn read_users<H: Host>(alloc: Global, path: &str, host: &mut H) -> Result<UserTable, NoUsers>
-    ensures { ReadsUsers (H.told host.old) (H.told host.new) result }
+    ensures { ReadsUsers path.now (H.told host.old) (H.told host.new) result }
 {
     match host.users(alloc, path) {
         Ok(text) => table_of(alloc, text.as_slice()),

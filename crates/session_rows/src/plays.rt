@@ -6,6 +6,7 @@ use osm_serve::run;
 use row_lines::RowFault;
 use std::alloc::Global;
 use std::io;
+use std::sync::Wait;
 
 /// The room for what is written, in bytes, where a row's sweeps don't take less.
 const ROOM: usize = 1_000_000;
@@ -52,14 +53,20 @@ impl<'a> Play<'a> {
     }
 
     /// Runs the server, and answers whether what came is what must come. Tells what was wrong.
-    pub fn run<R: Print>(&self, rt: &R, alloc: Global, name: &str, row: &Row) -> io::Result<bool> {
+    pub fn run<R: Print + Wait>(
+        &self,
+        rt: &R,
+        alloc: Global,
+        name: &str,
+        row: &Row,
+    ) -> io::Result<bool> {
         match link_of(alloc, row, self) {
             Ok(mut link) => self.run_on(rt, alloc, name, row, &mut link),
             Err(why) => self.tell_fault(rt, name, why),
         }
     }
 
-    fn run_on<R: Print>(
+    fn run_on<R: Print + Wait>(
         &self,
         rt: &R,
         alloc: Global,
@@ -67,7 +74,7 @@ impl<'a> Play<'a> {
         row: &Row,
         link: &mut MemLink,
     ) -> io::Result<bool> {
-        match served(alloc, row, link) {
+        match served(rt, alloc, row, link) {
             Ok(status) => self.judge(rt, name, u64::from(status), link.written()),
             Err(why) => self.tell_fault(rt, name, why),
         }
@@ -127,11 +134,11 @@ fn link_of(alloc: Global, row: &Row, play: &Play<'_>) -> Result<MemLink, RowFaul
 }
 
 /// Runs the server on the link, with the row's words and host, and gives the program's status.
-fn served(alloc: Global, row: &Row, link: &mut MemLink) -> Result<u8, RowFault> {
+fn served<R: Wait>(rt: &R, alloc: Global, row: &Row, link: &mut MemLink) -> Result<u8, RowFault> {
     let users = Bytes::of(alloc, row.users.as_slice())?;
     let bad_calls = row.bad_calls.as_slice().to_vec(alloc)?;
-    let mut host = MemHost::new(users, bad_calls);
-    Ok(run(alloc, row.words.as_slice(), &mut host, link))
+    let mut host = MemHost::new(alloc, users, Vec::new(alloc), bad_calls)?;
+    Ok(run(rt, alloc, row.words.as_slice(), &mut host, link))
 }
 
 /// How many bytes are the same at the front of both.

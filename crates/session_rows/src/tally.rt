@@ -4,6 +4,7 @@ use crate::rows::Row;
 use crate::sweeps::{numbers_of, play_of};
 use std::alloc::Global;
 use std::io;
+use std::sync::Wait;
 
 #[derive(Clone, Copy)]
 pub struct Tally {
@@ -32,7 +33,7 @@ impl Tally {
     }
 
     /// Reads a row, its name and behind a line end its lines, and plays it.
-    pub fn play<R: Print>(&mut self, rt: &R, alloc: Global, text: &str) -> io::Result<()> {
+    pub fn play<R: Print + Wait>(&mut self, rt: &R, alloc: Global, text: &str) -> io::Result<()> {
         let (name, lines) = text.split_once('\n').unwrap_or((text, ""));
         let mut row = Row::new(alloc);
         self.rows = self.rows.saturating_add(1);
@@ -46,7 +47,7 @@ impl Tally {
     }
 
     /// Counts what the row asks and wants, and plays it and its sweeps.
-    fn play_row<R: Print>(
+    fn play_row<R: Print + Wait>(
         &mut self,
         rt: &R,
         alloc: Global,
@@ -65,7 +66,7 @@ impl Tally {
         Ok(())
     }
 
-    fn run<R: Print>(
+    fn run<R: Print + Wait>(
         &mut self,
         rt: &R,
         alloc: Global,

@@ -6,5 +6,7 @@ mod Changed
 mod Agrees
 mod Given
 mod Entered
-mod Running
+mod SoFar
+mod Made
 mod Settled
+mod Told

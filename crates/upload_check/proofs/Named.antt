@@ -1,11 +1,12 @@
 -- What a content of an upload lists, by the elements that its names stand for.
-use Rattle.std.proofs.Common.{◌≡◌, Bool, true, false, ◌||◌, List, [], ◌∷◌, Ok, Err, refl, sym, ap, ◌∙◌}
+use Rattle.std.proofs.Common.{◌≡◌, Bool, true, false, ◌||◌, List, [], ◌∷◌, ◌++◌, Ok, Err, refl, sym, ap, ◌∙◌}
 use Rattle.std.specs.Prelude.{Result, OnOk}
 use Rattle.std.specs.List.{list_any}
 use Rattle.osm_base.specs.Key.{key_eq, lists_key}
 use Rattle.osm_base.specs.declared.keys.Kind.TheVariants as kind
 use Rattle.osm_base.specs.declared.keys.Key.{Key}
 use Rattle.osm_base.specs.declared.memory.Memory.{Memory}
+use Rattle.osm_base.proofs.KeyLists.{lists-append}
 use Rattle.osm_element.specs.Elements.{key, refs}
 use Rattle.osm_element.specs.declared.contents.Content.{Content}
 use Rattle.osm_element.specs.declared.contents.Content.TheVariants as content
@@ -39,3 +40,11 @@ nodes_added (Ok u) ks names more c old new same is added = λ b.
     ∙ ap (λ (p : Bool). lists_key old b || p) (sym (nodes_listed ks names b))
     ∙ ap (λ (x : Content Name). lists_key old b || lists_key (refs (with_ids ks x)) b) (sym is)
 nodes_added (Err e) ks names more c old new same is added = added
+
+-- keys were added to a list
+pub keys_added :
+    (r : Result (Unit {0}) Memory) (old more new : List Key)
+    → OnOk r (new ≡ old ++ more)
+    → OnOk r ((b : Key) → lists_key new b ≡ lists_key old b || lists_key more b)
+keys_added (Ok u) old more new added = λ b. ap (λ (ks : List Key). lists_key ks b) added ∙ lists-append old more b
+keys_added (Err e) old more new added = added

@@ -4,3 +4,5 @@ pub mod Checks
 pub mod Effects
 pub mod Judged
 pub mod Asked
+pub mod Planned
+pub mod Commands

@@ -1,3 +1,4 @@
+//! The tests of one operation, on what those before it left.
 ghost use Rattle.std.specs.Prelude.{◌≡◌, ◌+◌, ◌<◌, ◌^◌, length, map, find, IfOk};
 ghost use Rattle.osm_change.specs.Change.{named, named_member, names_listed};
 ghost use Rattle.upload_check.specs.Effects.{done_of};

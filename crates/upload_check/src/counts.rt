@@ -1,3 +1,4 @@
+//! How many users elements have, as an operation raises and lowers them.
 ghost use Rattle.std.specs.Prelude.{◌≡◌, ◌+◌, ◌-◌, ◌<◌, ◌∷◌, [], true, false, if◌then◌else◌, IfOk, OnOk};
 ghost use Rattle.osm_base.specs.Key.{key_eq, lists_key, IsRising};
 ghost use Rattle.osm_base.specs.declared.keys.Key.{Key};

@@ -1,3 +1,4 @@
+//! One operation judged.
 ghost use Rattle.std.specs.Prelude.{◌≡◌, ℕ, ◌+◌, ◌<◌, ◌^◌, length, slice_get, Some, IfOk, OnOk};
 ghost use Rattle.osm_change.specs.declared.operations.Op.{Op};
 ghost use Rattle.osm_world.specs.World.{state_of};

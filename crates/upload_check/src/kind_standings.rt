@@ -1,3 +1,4 @@
+//! Where the elements of one kind stand.
 ghost use Rattle.std.specs.Prelude.{◌≡◌, ℕ, ◌≤◌, ◌==◌, [], Option, None, Some, if◌then◌else◌, length, slice_get, OnOk};
 ghost use Rattle.std.specs.Map.{lookup};
 ghost use Rattle.std.specs.Ordering.{nat_cmp};

@@ -1,18 +1,33 @@
-//! Judging an upload on the map with its indexes, without a copy or a change of it (OpenStreetMap
-//! wiki, API v0.6, "Diff upload").
+//! Uploads on the map with its indexes, without a copy or a change of it (OpenStreetMap wiki, API
+//! v0.6, "Diff upload"): judged once, when they are planned, and settled on a later map as long as
+//! nothing that they looked at has changed.
 #![tactic(auto)]
 
+mod acceptance;
 mod checks;
+mod copies;
 mod counts;
 mod judged;
 mod kind_standings;
+mod law;
+mod look_keys;
+mod looks;
 mod names;
 mod overlays;
+mod planning;
+mod plans;
 mod references;
+mod settles;
 mod sights;
 mod standings;
-mod uploads;
+mod stills;
 
+pub use acceptance::accepts_upload;
 pub use judged::{Judged, check_op};
+pub use law::stills_tell_what_changed;
+pub use osm_later::Look;
 pub use overlays::Overlay;
-pub use uploads::{Outcome, UploadCmd, judge_upload};
+pub use planning::{plan_again, plan_upload};
+pub use plans::{Plan, UploadCmd};
+pub use settles::{Outcome, settle};
+pub use stills::still;

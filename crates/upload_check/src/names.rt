@@ -1,3 +1,4 @@
+//! Elements as an upload names them.
 ghost use Rattle.std.specs.Prelude.{◌≡◌, position, option_copied};
 ghost use Rattle.osm_base.specs.Key.{key_eq};
 ghost use Rattle.osm_change.specs.Said.{placeholder_in};

@@ -1,3 +1,4 @@
+//! What an upload has come to so far, beside the map of before.
 ghost use Rattle.std.specs.Prelude.{◌≡◌, ℕ, ◌<◌, ◌^◌, [], List, length, IfOk, OnOk};
 ghost use Rattle.osm_element.specs.Elements.{refs_in};
 ghost use Rattle.osm_change.specs.Keys.{next_of, one_more, ids_after};
@@ -51,12 +52,7 @@ impl Overlay {
         ensures few { IfOk result (λ over. (n : ℕ) → n < 2 ^ 32 → HasNumbers over.next n) }
     {
         let keys = Vec::with_capacity(alloc, operations)?;
-        let store = world.store();
-        let next = FirstIds {
-            node: store.next_id(Kind::Node),
-            way: store.next_id(Kind::Way),
-            relation: store.next_id(Kind::Relation),
-        };
+        let next = first_ids(world);
         Ok(Overlay {
             keys,
             next,
@@ -207,6 +203,19 @@ fn holds_of(place: u32, operation: &Op) -> Holds
     match operation {
         Op::Create { .. } | Op::Modify { .. } => Holds::FromOperation(place),
         Op::Delete { .. } => Holds::Nothing,
+    }
+}
+
+/// The ids that the next elements of each kind get on a world.
+pub fn first_ids(world: &World) -> FirstIds
+    ensures value { result ≡ first_ids (state_of world.now).elements }
+    ensures few { (n : ℕ) → n < 2 ^ 32 → HasNumbers result n }
+{
+    let store = world.store();
+    FirstIds {
+        node: store.next_id(Kind::Node),
+        way: store.next_id(Kind::Way),
+        relation: store.next_id(Kind::Relation),
     }
 }
 

@@ -1,4 +1,5 @@
-ghost use Rattle.std.specs.Prelude.{◌≡◌, ◌&&◌, ◌||◌, not, OnOk};
+//! What contents list.
+ghost use Rattle.std.specs.Prelude.{◌≡◌, ◌++◌, ◌&&◌, ◌||◌, not, map, OnOk};
 ghost use Rattle.std.specs.List.{list_any};
 ghost use Rattle.osm_base.specs.Key.{key_eq, lists_key};
 ghost use Rattle.osm_base.specs.declared.keys.Key.{Key};
@@ -133,7 +134,7 @@ pub fn add_given(keys: &[Key], operation: &Op, listed: &mut Vec<Key>) -> Result<
 }
 
 fn add_node_ids(nodes: &[u64], listed: &mut Vec<Key>) -> Result<(), Memory>
-    ensures { OnOk result ((b : Key) → lists_key listed.new.items b ≡ lists_key listed.old.items b || list_any (λ id. key_eq (key Kind.Node id) b) nodes.now) }
+    ensures { OnOk result (listed.new.items ≡ listed.old.items ++ map (key Kind.Node) nodes.now) }
 {
     for id in nodes {
         let node = Key {
@@ -146,7 +147,7 @@ fn add_node_ids(nodes: &[u64], listed: &mut Vec<Key>) -> Result<(), Memory>
 }
 
 fn add_member_ids(members: &[Member<u64>], listed: &mut Vec<Key>) -> Result<(), Memory>
-    ensures { OnOk result ((b : Key) → lists_key listed.new.items b ≡ lists_key listed.old.items b || list_any (λ m. key_eq (key_of_member m) b) members.now) }
+    ensures { OnOk result (listed.new.items ≡ listed.old.items ++ map key_of_member members.now) }
 {
     for member in members {
         listed.push(member.key())?;
@@ -154,14 +155,20 @@ fn add_member_ids(members: &[Member<u64>], listed: &mut Vec<Key>) -> Result<(), 
     Ok(())
 }
 
-/// Adds what a stored content lists.
-#[tactic(auto, using(osm_element::proofs::Listed::lists_node_mapped, osm_element::proofs::Listed::lists_member_mapped, crate::proofs::Named::none_listed))]
-pub fn add_stored(content: &Content<u64>, listed: &mut Vec<Key>) -> Result<(), Memory>
-    ensures { OnOk result ((b : Key) → lists_key listed.new.items b ≡ lists_key listed.old.items b || lists_key (refs content.now) b) }
+/// Adds what a stored content lists, in list order.
+pub fn add_refs(content: &Content<u64>, listed: &mut Vec<Key>) -> Result<(), Memory>
+    ensures { OnOk result (listed.new.items ≡ listed.old.items ++ refs content.now) }
 {
     match content {
         Content::Node(_) => Ok(()),
         Content::Way(nodes) => add_node_ids(nodes.items(), listed),
         Content::Relation(members) => add_member_ids(members.items(), listed),
     }
+}
+
+/// The same, whatever the order.
+pub fn add_stored(content: &Content<u64>, listed: &mut Vec<Key>) -> Result<(), Memory>
+    ensures { OnOk result ((b : Key) → lists_key listed.new.items b ≡ lists_key listed.old.items b || lists_key (refs content.now) b) }
+{
+    add_refs(content, listed)
 }

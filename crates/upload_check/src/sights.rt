@@ -1,3 +1,4 @@
+//! The map as some operations left it.
 ghost use Rattle.std.specs.Prelude.{◌≡◌, ◌||◌, [], take, filter, slice_get, option_copied, is_some, OnOk};
 ghost use Rattle.osm_base.specs.Key.{lists_key};
 ghost use Rattle.osm_base.specs.declared.keys.Key.{Key};
@@ -36,7 +37,7 @@ impl<'a> Model for View<'a> {
 }
 
 /// What an element held before the upload.
-fn stored(world: &World, key: Key) -> Option<&Content<u64>>
+pub fn stored(world: &World, key: Key) -> Option<&Content<u64>>
     ensures { option_copied result ≡ content_of (state_of world.now).elements key }
 {
     match world.store().current(key) {

@@ -1,10 +1,7 @@
-use Rattle.std.proofs.Common.{◌≡◌, ◌||◌, take}
-use Rattle.std.specs.List.{list_any}
-use Rattle.osm_base.specs.Key.{key_eq, lists_key}
+use Rattle.std.proofs.Common.{◌≡◌, ◌++◌, map, drop}
 use Rattle.osm_base.specs.declared.keys.Kind.TheVariants as kind
-use Rattle.osm_base.specs.declared.keys.Key.{Key}
 use Rattle.osm_element.specs.Elements.{key}
 use Rattle.upload_check.proofs.references.add_node_ids.Given as goal
 
 abbrev pub invariant-loop-id : goal.invariant-loop-id
-invariant-loop-id l = (b : Key) → lists_key l.listed.items b ≡ lists_key l.fn.listed.items b || list_any (λ x. key_eq (key kind.Node x) b) (take l.id-index l.nodes)
+invariant-loop-id l = l.fn.listed.items ++ map (key kind.Node) l.nodes ≡ l.listed.items ++ map (key kind.Node) (drop l.id-index l.nodes)

@@ -1,0 +1,258 @@
+//! A desk of the map for one session of a hub.
+ghost use Rattle.std.specs.Prelude.{◌≡◌, ◌<◌, ℕ, false, true, List, IfOk, OnOk, OnErr};
+ghost use Rattle.osm_base.specs.Status.{IsStatus};
+ghost use Rattle.osm_element.specs.Elements.{IsConsistent};
+ghost use Rattle.osm_model.specs.Answered.{map_at};
+ghost use Rattle.osm_model.specs.Journal.{is_legal_from};
+ghost use Rattle.osm_model.specs.State.{empty};
+ghost use Rattle.http_wire.specs.declared.message.Message.{Message};
+ghost use Rattle.http_link.specs.Desk.{counted_reply};
+ghost use Rattle.user_table.specs.Rows.{Row};
+ghost use Rattle.hub_answers.specs.Steps.{told, Answers};
+ghost use Rattle.api_desk.specs.Gives.{shown_request};
+ghost use Rattle.api_desk.specs.Machine.{map_rules};
+ghost use Rattle.api_desk.specs.MachineRows.{asked_of};
+ghost use Rattle.api_desk.specs.Request.{request_of};
+ghost use Rattle.api_desk.specs.HubDesk.{Replies, IsSettled, IsFresh};
+
+use crate::answers::{refuse, reply_from};
+use crate::machine::MapMachine;
+use crate::requests::{Request, request_of};
+use http_link::{Desk, Reply};
+use http_wire::Message;
+use hub_answers::{answer_command, answer_query};
+use osm_base::{Bytes, Memory, Steps};
+use osm_outside::{Gate, Point};
+use route_table::Routes;
+use shared_front::HubName;
+use snapshot_hub::{Hub, Session, Shown, Snapshot};
+use std::alloc::Global;
+use std::marker::{Brand, Model};
+use std::sync::Wait;
+use std::sync::ledger::{Blank, Ledger};
+use user_table::UserTable;
+
+/// A hub of the map.
+pub type MapHub<N, G, R> = Hub<N, MapMachine, Shown<N, MapMachine>, G, R>;
+
+/// A session of it.
+pub type MapSession<N> = Session<N, MapMachine, Shown<N, MapMachine>>;
+
+/// Publishes what the session owes, if it owes a commit.
+#[tactic(auto, using(crate::proofs::Settled::settled_of, crate::proofs::Settled::rested))]
+fn settle_first<N: HubName, G: Gate + Drop, R: Wait + Drop, W: Wait>(
+    rt: &W,
+    hub: &MapHub<N, G, R>,
+    session: &mut MapSession<N>,
+) -> Result<(), Memory>
+    ensures ok { OnOk result (IsSettled session.old session.new) }
+    ensures err { OnErr result (session.new ≡ session.old) }
+{
+    if session.owes() {
+        hub.settle(rt, session)
+    } else {
+        Ok(())
+    }
+}
+
+/// Does what is asked, by a session that owes nothing.
+fn answer_settled<N: HubName, G: Gate + Drop, R: Wait + Drop, W: Wait, L: Ledger>(
+    rt: &W,
+    hub: &MapHub<N, G, R>,
+    session: &mut MapSession<N>,
+    request: Request,
+    moment: u64,
+    steps: &mut Steps<L>,
+) -> Result<Bytes, Memory>
+    requires { session.old.owes ≡ false }
+    ensures { Answers map_rules session.old (asked_of (shown_request request)) moment (told result) session.new }
+{
+    match request {
+        Request::Change(asked) => answer_command(rt, hub, session, asked, moment, steps),
+        Request::Read(query) => answer_query(session, &query, moment, steps),
+    }
+}
+
+/// Does what is asked, once the session owes nothing.
+fn answer_bytes<N: HubName, G: Gate + Drop, R: Wait + Drop, W: Wait, L: Ledger>(
+    rt: &W,
+    hub: &MapHub<N, G, R>,
+    session: &mut MapSession<N>,
+    request: Request,
+    moment: u64,
+    steps: &mut Steps<L>,
+) -> Result<Bytes, Memory>
+    ensures { Answers map_rules session.old (asked_of (shown_request request)) moment (told result) session.new }
+{
+    match settle_first(rt, hub, session) {
+        Ok(()) => answer_settled(rt, hub, session, request, moment, steps),
+        Err(memory) => Err(memory),
+    }
+}
+
+/// The reply to a request. What tells the answer takes no memory, so a command that stands and is
+/// published isn't told as want of memory.
+fn answer_request<N: HubName, G: Gate + Drop, R: Wait + Drop, W: Wait, L: Ledger>(
+    rt: &W,
+    hub: &MapHub<N, G, R>,
+    session: &mut MapSession<N>,
+    request: Request,
+    moment: u64,
+    steps: &mut Steps<L>,
+) -> Result<Reply, Memory>
+    ensures answers { (users : List Row) (message : Message) → request_of users message ≡ shown_request request
+        → Replies users session.old message moment (counted_reply result) session.new }
+    ensures status { IfOk result (λ reply. IsStatus reply.status) }
+{
+    match answer_bytes(rt, hub, session, request, moment, steps) {
+        Ok(bytes) => Ok(reply_from(bytes)),
+        Err(memory) => Err(memory),
+    }
+}
+
+/// Answers one message, on a ledger of its own. The gate is told of the reply to a command or a query.
+fn answer_on<N: HubName, G: Gate + Drop, R: Wait + Drop, W: Wait, L: Ledger>(
+    rt: &W,
+    hub: &MapHub<N, G, R>,
+    session: &mut MapSession<N>,
+    alloc: Global,
+    routes: &Routes,
+    users: &UserTable,
+    message: &Message,
+    moment: u64,
+    blank: Blank,
+) -> Result<Reply, Memory>
+    requires name { blank.name ≡ L.name }
+    requires parts { blank.parts ≡ L.parts }
+    requires some { 0 < blank.parts }
+    ensures answers { Replies users.now session.old message.now moment (counted_reply result) session.new }
+    ensures status { IfOk result (λ reply. IsStatus reply.status) }
+{
+    let (ledger, share) = blank.open::<L>();
+    let mut steps = Steps::of(ledger, share);
+    match request_of(alloc, message, routes, users) {
+        Ok(request) => {
+            let reply = answer_request(rt, hub, session, request, moment, &mut steps);
+            hub.gate().at(Point::Answered {
+                session: session.number(),
+            });
+            reply
+        }
+        Err(fault) => refuse(alloc, fault),
+    }
+}
+
+/// Lets the session see the journal that is found under the lock.
+#[tactic(auto, using(crate::proofs::Settled::fresh_of))]
+fn freshen<N: HubName, G: Gate + Drop, R: Wait + Drop, W: Wait>(
+    rt: &W,
+    hub: &MapHub<N, G, R>,
+    session: &mut MapSession<N>,
+) -> Result<(), Memory>
+    ensures ok { OnOk result (IsFresh session.old session.new) }
+    ensures err { OnErr result (session.new ≡ session.old) }
+{
+    hub.freshen(rt, session)
+}
+
+/// A law: the front of a session is legal, and every beginning of it leaves a consistent map.
+fn map_law<N: HubName, S: Snapshot<N, MapMachine>>(session: &Session<N, MapMachine, S>)
+    ensures legal { is_legal_from empty session.now.front ≡ true }
+    ensures consistent { (point : ℕ) → IsConsistent (map_at session.now.front point).elements }
+{
+    session.law();
+}
+
+/// Answers the messages of one session of a hub, which it keeps. Contracts see it as the users and
+/// what the session knows.
+///
+/// A session that owes a commit publishes it before it plans or asks anything.
+#[derive(Drop)]
+pub struct HubDesk<'a, N: HubName, G: Gate + Drop, R: Wait + Drop, W: Wait> {
+    rt: &'a W,
+    hub: &'a MapHub<N, G, R>,
+    session: MapSession<N>,
+    users: &'a UserTable,
+    routes: Routes,
+}
+
+impl<'a, N: HubName, G: Gate + Drop, R: Wait + Drop, W: Wait> Model for HubDesk<'a, N, G, R, W> {
+    ghost use Rattle.api_desk.specs.HubDesk.{AtDesk};
+
+    ghost Value = { AtDesk };
+
+    ghost view = { λ d. record { users = d.users.now; known = d.session } };
+}
+
+impl<'a, N: HubName, G: Gate + Drop, R: Wait + Drop, W: Wait> HubDesk<'a, N, G, R, W> {
+    /// A desk of that session, with a table of the routes.
+    pub fn new(
+        alloc: Global,
+        rt: &'a W,
+        hub: &'a MapHub<N, G, R>,
+        session: MapSession<N>,
+        users: &'a UserTable,
+    ) -> Result<HubDesk<'a, N, G, R, W>, Memory>
+        ensures { IfOk result (λ desk. desk ≡ record { users = users.now; known = session }) }
+    {
+        let routes = Routes::new(alloc)?;
+        Ok(HubDesk {
+            rt,
+            hub,
+            session,
+            users,
+            routes,
+        })
+    }
+
+    /// Publishes the journal that is found under the lock, and lets the session see it.
+    pub fn freshen(&mut self) -> Result<(), Memory>
+        ensures users { self.new.users ≡ self.old.users }
+        ensures ok { OnOk result (IsFresh self.old.known self.new.known) }
+        ensures err { OnErr result (self.new ≡ self.old) }
+    {
+        freshen(self.rt, self.hub, &mut self.session)
+    }
+
+    /// A law: the front of its session is legal, and every beginning of it leaves a consistent map.
+    pub fn law(&self)
+        ensures legal { is_legal_from empty self.now.known.front ≡ true }
+        ensures consistent { (point : ℕ) → IsConsistent (map_at self.now.known.front point).elements }
+    {
+        map_law(&self.session);
+    }
+
+    /// Its session.
+    pub fn session(&self) -> &MapSession<N>
+        ensures { result.now ≡ self.now.known }
+    {
+        &self.session
+    }
+
+    /// The session, when the desk is done. It takes no memory.
+    pub fn into_session(self) -> MapSession<N>
+        ensures { result ≡ self.entry.known }
+    {
+        self.session
+    }
+}
+
+impl<'a, N: HubName, G: Gate + Drop, R: Wait + Drop, W: Wait> Desk for HubDesk<'a, N, G, R, W> {
+    ghost use Rattle.api_desk.specs.HubDesk.{Allows};
+
+    ghost allows = { λ old message moment reply new. Allows old message moment reply new };
+
+    fn answer(&mut self, alloc: Global, message: Message, moment: u64) -> Result<Reply, Memory> {
+        answer_on::<N, G, R, W, Brand>(
+            self.rt,
+            self.hub,
+            &mut self.session,
+            alloc,
+            &self.routes,
+            self.users,
+            &message,
+            moment,
+            Blank::new(1),
+        )
+    }
+}

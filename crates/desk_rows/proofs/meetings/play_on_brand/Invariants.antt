@@ -1,0 +1,4 @@
+use Rattle.desk_rows.proofs.meetings.play_on_brand.Given as goal
+
+abbrev pub ghosts-play : goal.ghosts-play
+ghosts-play a = record { name = a.blank.name; parts = a.blank.parts }

@@ -1,0 +1,17 @@
+//! Many workers on ports: each serves the links of its port one after another, in a thread of its own.
+#![tactic(auto)]
+
+mod back;
+mod close;
+mod law;
+mod port;
+mod seat;
+mod service;
+mod worker;
+
+pub use back::give_back;
+pub use close::{Closer, end_sessions};
+pub use law::links_are_joined;
+pub use seat::{seat_all, unseat_all};
+pub use service::{DeskService, Service};
+pub use worker::{Worker, any_failed, serve_all};

@@ -1,0 +1,66 @@
+-- What a session was answered on a link, from what it knew before to what it has seen at last.
+use Rattle.std.proofs.Common.{◌≡◌, ℕ, ◌≤◌, ⊎_elim, List, ◌++◌, length, sym, ap, ◌∙◌, subst, arith, append_assoc, length-append}
+use mathlib.Core.List.{IsPrefix}
+use Rattle.osm_outside.specs.Told.{Told}
+use Rattle.osm_model.specs.Answered.{Place}
+use Rattle.osm_model.specs.declared.commands.Entry.{Entry}
+use Rattle.http_link.specs.declared.end.LinkEnd.{LinkEnd}
+use Rattle.http_link.specs.Exchange.{Exchange}
+use Rattle.user_table.specs.Rows.{Row}
+use Rattle.snapshot_hub.specs.Known.{Known, seeing}
+use Rattle.api_desk.specs.Answers.{AreAnswered}
+use Rattle.api_desk.specs.HubDesk.{AtDesk, IsFresh, HasServed, stands_at}
+use Rattle.osm_serve.specs.Serve.{ServesLink}
+
+prefix_trans : (xs ys zs : List Entry) → IsPrefix xs ys → IsPrefix ys zs → IsPrefix xs zs
+prefix_trans xs ys zs p q = (p.0 ++ q.0, sym (append_assoc xs p.0 q.0) ∙ (ap (λ w. w ++ q.0) p.1 ∙ q.1))
+
+no_shorter : (xs ys : List Entry) → IsPrefix xs ys → length xs ≤ length ys
+no_shorter xs ys p = omega (arith, sym (ap length p.1) ∙ length-append xs p.0)
+
+-- what a session was answered that was freshened first, it was answered from what it knew before
+from_fresh : (users : List Row) (old start new : Known Entry) (point : ℕ) (exchanges : List Exchange)
+    → IsFresh old start → HasServed users start point exchanges new → HasServed users old point exchanges new
+from_fresh users old start new point exchanges fresh served =
+    let number : start.number ≡ old.number = ap (λ (k : Known Entry). k.number) fresh.comes_to in
+    let calls : start.calls ≡ old.calls = ap (λ (k : Known Entry). k.calls) fresh.comes_to in
+    let debts : start.debts ≡ old.debts = ap (λ (k : Known Entry). k.debts) fresh.comes_to in
+    let same : stands_at start point ≡ stands_at old point = λ i. record { point = point; calls = calls i; debts = debts i } in
+    record {
+      number = served.number ∙ number;
+      begins = prefix_trans old.front start.front new.front fresh.begins served.begins;
+      last = served.last;
+      within = served.within;
+      answered =
+          subst (λ (n : ℕ). AreAnswered users n new.front (stands_at old point) exchanges (stands_at new served.last)) number
+          (subst (λ (p : Place). AreAnswered users start.number new.front p exchanges (stands_at new served.last)) same served.answered);
+    }
+
+-- a whole link, from any point of the front that the session had before
+pub link_served : (old new : AtDesk) (before after : Told) (end : LinkEnd) (s : ServesLink old new before after end) (point : ℕ) → point ≤ length old.known.front
+    → HasServed old.users old.known point s.exchanges new.known
+link_served old new before after end s point le =
+    ⊎_elim
+    (λ fresh. from_fresh old.users old.known s.start new.known point s.exchanges fresh
+    (s.served point (omega (arith, le, no_shorter old.known.front s.start.front fresh.begins))))
+    (λ lacks. subst (λ (k : Known Entry). HasServed old.users k point s.exchanges new.known) lacks.stays
+    (s.served point (omega (arith, le, ap (λ (k : Known Entry). length k.front) lacks.stays))))
+    s.started
+
+-- what was served on a front stands on each longer one
+abbrev pub ServedStay : Type 0
+ServedStay = (users : List Row) (old new : Known Entry) (point : ℕ) (exchanges : List Exchange) (front : List Entry)
+    → (served : HasServed users old point exchanges new) → IsPrefix new.front front
+    → AreAnswered users old.number front (stands_at old point) exchanges (stands_at new served.last)
+
+-- the same of a session that has seen more at last
+pub seen_at_last : (users : List Row) (old stopped known : Known Entry) (point : ℕ) (exchanges : List Exchange) → ServedStay
+    → known ≡ seeing stopped known.front → IsPrefix stopped.front known.front
+    → HasServed users old point exchanges stopped → HasServed users old point exchanges known
+seen_at_last users old stopped known point exchanges stay is longer served = subst (λ (k : Known Entry). HasServed users old point exchanges k) (sym is) (record {
+  number = served.number;
+  begins = prefix_trans old.front stopped.front known.front served.begins longer;
+  last = served.last;
+  within = omega (arith, served.within, no_shorter stopped.front known.front longer);
+  answered = stay users old stopped point exchanges known.front served longer;
+})

@@ -1,0 +1,186 @@
+//! The held value under its lock.
+ghost use Rattle.std.specs.Prelude.{◌≡◌, ℕ, ◌⊎◌, ◌+◌, ◌≤◌, ◌<◌, [], Some, false, true, length, List, IfOk, OnOk, OnErr, IfSome, slice_get};
+ghost use Rattle.std.specs.Sync.Mutex.{mutex_guard_value};
+ghost use mathlib.Core.List.{IsPrefix};
+ghost use Rattle.hub_core.specs.Journal.{calls_of, IsMadeBefore};
+ghost use Rattle.hub_core.specs.Paths.{MatchPath};
+ghost use Rattle.snapshot_hub.specs.Known.{newcomer, caught_up};
+ghost use Rattle.snapshot_hub.specs.Ends.{Ends};
+ghost use Rattle.snapshot_hub.specs.Commits.{count_of, IsCommitted, IsOwing};
+
+use crate::closing::Closer;
+use crate::ends::EndList;
+use crate::held;
+use crate::held::Held;
+use crate::seats::Seats;
+use crate::session::Session;
+use crate::snapshot::Snapshot;
+use hub_core::Done;
+use machine_law::Machine;
+use osm_base::{Memory, Steps};
+use osm_outside::{Gate, Point};
+use shared_front::HubName;
+use std::alloc::Global;
+use std::marker::Model;
+use std::sync::ledger::Ledger;
+use std::sync::{Mutex, MutexGuard, Wait};
+
+/// A journal that several sessions commit to, under one lock. Contracts see the list for how its
+/// sessions will end, until it is closed: what lies under a lock is known by its type alone.
+#[derive(Drop)]
+pub struct Hub<N: HubName, M: Machine, S: Snapshot<N, M>, G: Gate + Drop, R: Wait + Drop> {
+    held: Mutex<Held<N, M, S, R>>,
+    gate: G,
+    ends: Option<EndList>,
+}
+
+impl<N: HubName, M: Machine, S: Snapshot<N, M>, G: Gate + Drop, R: Wait + Drop> Model
+    for Hub<N, M, S, G, R> {
+    ghost use Rattle.std.specs.Prelude.{Option};
+    ghost use Rattle.snapshot_hub.specs.Ends.{Ends};
+
+    ghost Value = { Option Ends };
+
+    ghost view = { λ h. h.ends };
+}
+
+impl<N: HubName, M: Machine, S: Snapshot<N, M>, G: Gate + Drop, R: Wait + Drop> Hub<N, M, S, G, R> {
+    /// A hub with an empty journal under the name of these seats, and its sessions in the order of their numbers.
+    pub fn new(
+        alloc: Global,
+        rt: R,
+        seats: Seats<M::Entry>,
+        gate: G,
+    ) -> Result<(Hub<N, M, S, G, R>, Vec<Session<N, M, S>>), Memory>
+        requires named { seats.opened ≡ N.book }
+        requires seated { seats.sessions ≡ N.sessions }
+        ensures hub { IfOk result (λ r. r.0 ≡ Some (record { told = []; sessions = seats.sessions })) }
+        ensures count { IfOk result (λ r. length r.1.items ≡ seats.sessions) }
+        ensures fresh { IfOk result (λ r. (number : ℕ) → IfSome (slice_get r.1.items number) (λ s. s ≡ newcomer number)) }
+    {
+        let ends = EndList::new(alloc, seats.sessions)?;
+        let (held, sessions) = held::start(alloc, rt, seats)?;
+        let hub = Hub {
+            held: Mutex::new(held),
+            gate,
+            ends: Some(ends),
+        };
+        Ok((hub, sessions))
+    }
+
+    /// What is told of the points of its sessions.
+    pub fn gate(&self) -> &G {
+        &self.gate
+    }
+
+    // The value under the lock, once it has all that the session saw and did. Where it hasn't, the
+    // lock is let go and taken again, which no run has shown.
+    fn lock_for<W: Wait>(
+        &self,
+        rt: &W,
+        session: &Session<N, M, S>,
+    ) -> MutexGuard<'_, Held<N, M, S, R>>
+        ensures seen { length session.now.front ≤ length (mutex_guard_value result).journal }
+        ensures calls { session.now.calls ≡ calls_of M.rules.tag_of session.now.number (mutex_guard_value result).journal }
+    {
+        for _ in rt.forever() {
+            let held = self.held.lock(rt);
+            if held.serves(session) {
+                return held;
+            }
+        }
+        unreachable!()
+    }
+
+    /// Commits the plan to the journal that is found under the lock, publishes that, and lets the
+    /// session see it. Where only the publishing finds no memory the commit stands, the answer is
+    /// `Memory`, and the session owes.
+    pub fn commit<W: Wait, L: Ledger>(
+        &self,
+        rt: &W,
+        session: &mut Session<N, M, S>,
+        plan: M::Plan,
+        moment: u64,
+        steps: &mut Steps<L>,
+    ) -> Result<Done<M::Look>, Memory>
+        requires made { IsMadeBefore M.rules plan session.old.front }
+        requires settled { session.old.owes ≡ false }
+        ensures begins { IsPrefix session.old.front session.new.front }
+        ensures done { IfOk result (λ done. (found : List M.Entry) × IsCommitted M.rules session.old plan moment done found session.new.front) }
+        ensures known { IfOk result (λ done. session.new ≡ caught_up session.old session.new.front (session.old.calls + count_of done.place)) }
+        ensures fast { IfOk result (λ done. MatchPath done.path (steps.new ≡ steps.old) (λ look. Unit {0})) }
+        ensures err { OnErr result ((session.new ≡ session.old) ⊎ IsOwing session.old session.new) }
+    {
+        let done = self.commit_locked(rt, session, plan, moment, steps)?;
+        self.gate.at(Point::Committed {
+            session: session.number(),
+        });
+        Ok(done)
+    }
+
+    // The same, with the lock held.
+    fn commit_locked<W: Wait, L: Ledger>(
+        &self,
+        rt: &W,
+        session: &mut Session<N, M, S>,
+        plan: M::Plan,
+        moment: u64,
+        steps: &mut Steps<L>,
+    ) -> Result<Done<M::Look>, Memory>
+        requires made { IsMadeBefore M.rules plan session.old.front }
+        requires settled { session.old.owes ≡ false }
+        ensures begins { IsPrefix session.old.front session.new.front }
+        ensures done { IfOk result (λ done. (found : List M.Entry) × IsCommitted M.rules session.old plan moment done found session.new.front) }
+        ensures known { IfOk result (λ done. session.new ≡ caught_up session.old session.new.front (session.old.calls + count_of done.place)) }
+        ensures fast { IfOk result (λ done. MatchPath done.path (steps.new ≡ steps.old) (λ look. Unit {0})) }
+        ensures err { OnErr result ((session.new ≡ session.old) ⊎ IsOwing session.old session.new) }
+    {
+        let mut held = self.lock_for(rt, session);
+        let done = held::commit(&mut held, session, plan, moment, steps)?;
+        if session.owes() {
+            return Err(Memory);
+        }
+        Ok(done)
+    }
+
+    /// Publishes the journal that is found under the lock, and lets the session see it. The session
+    /// owes nothing then, and its front has all its calls.
+    pub fn freshen<W: Wait>(&self, rt: &W, session: &mut Session<N, M, S>) -> Result<(), Memory>
+        ensures begins { IsPrefix session.old.front session.new.front }
+        ensures ok { OnOk result (session.new ≡ caught_up session.old session.new.front session.old.calls) }
+        ensures calls { OnOk result (session.old.calls ≡ calls_of M.rules.tag_of session.old.number session.new.front) }
+        ensures err { OnErr result (session.new ≡ session.old) }
+    {
+        let mut held = self.lock_for(rt, session);
+        held::freshen(&mut held, session)
+    }
+
+    /// Publishes what a session owes. It owes nothing then, and has seen the journal.
+    pub fn settle<W: Wait>(&self, rt: &W, session: &mut Session<N, M, S>) -> Result<(), Memory>
+        ensures begins { IsPrefix session.old.front session.new.front }
+        ensures ok { OnOk result (session.new ≡ caught_up session.old session.new.front session.old.calls) }
+        ensures calls { OnOk result (session.old.calls ≡ calls_of M.rules.tag_of session.old.number session.new.front) }
+        ensures err { OnErr result (session.new ≡ session.old) }
+    {
+        self.freshen(rt, session)
+    }
+
+    /// Ends the commits of the hub, once no thread shares it. It takes no memory.
+    pub fn close(&mut self) -> Closer<'_, N, M, S, R>
+        requires { (ends : Ends) × (self.old ≡ Some ends) }
+        ensures { self.old ≡ Some result.ends }
+    {
+        let Hub {
+            held,
+            gate: _,
+            ends,
+        } = self;
+        let Some(ends) = ends.take() else {
+            unreachable!()
+        };
+        Closer {
+            held: held.get_mut(),
+            ends,
+        }
+    }
+}

@@ -1,0 +1,26 @@
+//! Sessions that read published copies of a machine's world, and commit to one journal under a lock.
+#![tactic(auto)]
+
+mod closing;
+mod ends;
+pub mod held;
+mod hub;
+mod press;
+mod seats;
+mod session;
+mod shown;
+mod snapshot;
+mod standing;
+mod step;
+
+pub use closing::{Closer, Closing};
+pub use ends::{End, EndList};
+pub use held::Held;
+pub use hub::Hub;
+pub use press::Press;
+pub use seats::Seats;
+pub use session::Session;
+pub use shown::Shown;
+pub use snapshot::Snapshot;
+pub use standing::Standing;
+pub use step::Step;

@@ -1,0 +1,172 @@
+//! A session of a hub, and what it does without the lock.
+ghost use Rattle.std.specs.Prelude.{◌≡◌, ◌<◌, ◌+◌, ◌≤◌, [], false, length, IfOk, IsTrue, ◌↔◌, List};
+ghost use mathlib.Core.List.{IsPrefix};
+ghost use Rattle.machine_law.specs.Rules.{replay};
+ghost use Rattle.snapshot_hub.specs.Known.{newcomer, seeing, IsKnown};
+
+use crate::snapshot::Snapshot;
+use crate::standing::Standing;
+use left_right::ReadHandle;
+use machine_law::Machine;
+use osm_base::{Bytes, Memory, Steps};
+use osm_outside::{Gate, Point};
+use shared_front::{Front, HubName};
+use std::alloc::Global;
+use std::marker::Model;
+use std::sync::ledger::Ledger;
+
+/// One caller of a hub, with its own place among the readers. Contracts see it as what it knows.
+///
+/// It asks and plans on the copy that is published, and waits for nobody.
+#[derive(Drop)]
+pub struct Session<N: HubName, M: Machine, S: Snapshot<N, M>> {
+    alloc: Global,
+    reader: ReadHandle<S>,
+    pub(crate) standing: Standing<N, M>,
+}
+
+impl<N: HubName, M: Machine, S: Snapshot<N, M>> Model for Session<N, M, S> {
+    ghost use Rattle.snapshot_hub.specs.Known.{Known};
+
+    ghost Value = { Known M.Entry };
+
+    ghost view = { λ s. s.standing };
+}
+
+impl<N: HubName, M: Machine, S: Snapshot<N, M>> Session<N, M, S> {
+    // The session of that number, which has seen nothing.
+    pub(crate) fn new(
+        alloc: Global,
+        number: u32,
+        reader: ReadHandle<S>,
+        front: Front<N, M::Entry>,
+    ) -> Session<N, M, S>
+        requires seat { number < N.sessions }
+        requires empty { front ≡ [] }
+        ensures { result ≡ newcomer number }
+    {
+        Session {
+            alloc,
+            reader,
+            standing: Standing::new(number, front),
+        }
+    }
+
+    /// Its number, from 0.
+    pub fn number(&self) -> u32
+        ensures { result ≡ self.now.number }
+    {
+        self.standing.number()
+    }
+
+    /// How many entries of the journal it has seen.
+    pub fn seen(&self) -> u64
+        ensures { result ≡ length self.now.front }
+    {
+        self.standing.front().len()
+    }
+
+    /// How many call numbers it has used.
+    pub fn calls(&self) -> u64
+        ensures { result ≡ self.now.calls }
+    {
+        self.standing.calls()
+    }
+
+    /// Whether its last commit stands in the journal and isn't published.
+    pub fn owes(&self) -> bool
+        ensures { result ≡ self.now.owes }
+    {
+        self.standing.owes()
+    }
+
+    /// How often it owed.
+    pub fn debts(&self) -> u64
+        ensures { result ≡ self.now.debts }
+    {
+        self.standing.debts()
+    }
+
+    /// Whether another session of the hub has seen all that this one has. It has exactly where its
+    /// front is no shorter: the fronts of all sessions begin one list.
+    pub fn begins(&self, other: &Session<N, M, S>) -> bool
+        ensures shorter { IsTrue result ↔ (length self.now.front ≤ length other.now.front) }
+        ensures begins { IsTrue result → IsPrefix self.now.front other.now.front }
+    {
+        self.standing.front().begins(other.standing.front())
+    }
+
+    /// A law: what holds of each session.
+    pub fn law(&self)
+        ensures known { IsKnown M.rules self.now }
+        ensures seat { self.now.number < N.sessions }
+        ensures consistent { (point : List M.Entry) → IsPrefix point self.now.front → M.rules.consistent (replay M.rules point) }
+    {
+        self.standing.law();
+    }
+
+    /// The reply after the entries that are then published. They begin with all that was seen before,
+    /// and are seen then.
+    pub fn ask<L: Ledger>(
+        &mut self,
+        query: &M::Query,
+        moment: u64,
+        steps: &mut Steps<L>,
+    ) -> Result<Bytes, Memory>
+        requires settled { self.old.owes ≡ false }
+        ensures begins { IsPrefix self.old.front self.new.front }
+        ensures reply { IfOk result (λ bytes. bytes ≡ M.rules.reply (replay M.rules self.new.front) query.now moment) }
+        ensures same { self.new ≡ seeing self.old self.new.front }
+    {
+        let Some(reading) = self.reader.enter() else {
+            return Err(Memory);
+        };
+        let shown: &S = &reading;
+        if !self.standing.front().begins(shown.front()) {
+            return Err(Memory);
+        }
+        self.standing.see(shown.front().again());
+        M::ask(self.alloc, shown.world(), query, moment, steps)
+    }
+
+    /// A plan made after the entries that are then published. They begin with all that was seen
+    /// before, and are seen then.
+    pub fn plan<G: Gate, L: Ledger>(
+        &mut self,
+        gate: &G,
+        command: M::Command,
+        steps: &mut Steps<L>,
+    ) -> Result<M::Plan, Memory>
+        requires settled { self.old.owes ≡ false }
+        ensures begins { IsPrefix self.old.front self.new.front }
+        ensures planned { IfOk result (λ plan. M.rules.planned (replay M.rules self.new.front) command plan) }
+        ensures same { self.new ≡ seeing self.old self.new.front }
+    {
+        let plan = self.plan_published(command, steps)?;
+        gate.at(Point::Planned {
+            session: self.standing.number(),
+        });
+        Ok(plan)
+    }
+
+    // The same, while the reader's guard is held.
+    fn plan_published<L: Ledger>(
+        &mut self,
+        command: M::Command,
+        steps: &mut Steps<L>,
+    ) -> Result<M::Plan, Memory>
+        ensures begins { IsPrefix self.old.front self.new.front }
+        ensures planned { IfOk result (λ plan. M.rules.planned (replay M.rules self.new.front) command plan) }
+        ensures same { self.new ≡ seeing self.old self.new.front }
+    {
+        let Some(reading) = self.reader.enter() else {
+            return Err(Memory);
+        };
+        let base: &S = &reading;
+        if !self.standing.front().begins(base.front()) {
+            return Err(Memory);
+        }
+        self.standing.see(base.front().again());
+        M::plan(self.alloc, base.world(), command, steps)
+    }
+}

@@ -1,0 +1,61 @@
+-- An upload that was planned on a map, and where its plan stands.
+use Rattle.std.specs.Prelude.{◌≡◌, ℕ, List, slice_get, Some, Result, Ok, Err, MatchResult}
+use Rattle.osm_base.specs.Key.{IsRising}
+use Rattle.osm_base.specs.Outcome.{◌>>=◌}
+use Rattle.osm_change.specs.Moments.{RefusalHasShownEnd}
+use Rattle.osm_change.specs.declared.operations.OpDone.{OpDone}
+use Rattle.osm_change.specs.declared.refusals.Refusal.{Refusal}
+use Rattle.changeset_core.specs.declared.records.ChangesetRecord.{ChangesetRecord}
+use Rattle.osm_element.specs.declared.elements.Elements.{Elements}
+use Rattle.osm_later.specs.declared.looks.CountLook.{CountLook}
+use Rattle.osm_later.specs.declared.looks.UsersLook.{UsersLook}
+use Rattle.osm_later.specs.declared.looks.Look.{Look}
+use Rattle.osm_later.specs.Settle.{counted_done}
+use Rattle.osm_later.specs.Plan.{Plan, StandsOn, IsPlannedOn}
+use Rattle.osm_later.specs.Still.{Differs}
+use Rattle.upload_check.specs.Asked.{Asked}
+use Rattle.upload_check.specs.declared.plans.Found.{Found}
+use Rattle.upload_check.specs.declared.plans.Found.TheVariants.{Done, Refused}
+
+-- what is asked for, the looks, and what the operations did
+pub record Planned : Type 0 where
+  pub asked : Asked
+  pub counts : List CountLook
+  pub users : List UsersLook
+  pub outcome : Result (List OpDone) Refusal
+
+abbrev pub outcome_of : Found → Result (List OpDone) Refusal
+outcome_of (Done ds) = Ok ds
+outcome_of (Refused r) = Err r
+
+-- as the rules of plans see it
+abbrev pub plan_of : Planned → Plan
+plan_of p = record {
+  changeset = p.asked.changeset;
+  operations = p.asked.change;
+  counts = p.counts;
+  users = p.users;
+  outcome = p.outcome;
+}
+
+-- it is the plan of what is asked, made on these elements
+pub record IsPlanOf (E : Elements) (a : Asked) (p : Planned) : Type 0 where
+  pub asked : p.asked ≡ a
+  pub planned : IsPlannedOn E (plan_of p)
+
+-- the plan stands, or else this is where it and the map differ
+abbrev pub IsStill : Result (Unit {0}) Look → Planned → Elements → Type 0
+IsStill told p E = MatchResult told (λ _. StandsOn (plan_of p) E) (λ look. ¬ StandsOn (plan_of p) E × Differs look (plan_of p) E)
+
+-- what was found out, where the changeset takes it
+abbrev pub taken_by : ℕ → ChangesetRecord → Result (List OpDone) Refusal → Result (List OpDone) Refusal
+taken_by c r outcome = outcome >>= counted_done c r
+
+abbrev pub IsShown : Result (List OpDone) Refusal → Type 0
+IsShown (Ok ds) = Unit {0}
+IsShown (Err r) = RefusalHasShownEnd r
+
+-- what every plan has: its lists of users are in order, and each moment of its refusal has a text
+pub record IsKept (p : Planned) : Type 0 where
+  pub rising : (i : ℕ) (look : UsersLook) → slice_get p.users i ≡ Some look → IsRising look.users
+  pub shown : IsShown p.outcome

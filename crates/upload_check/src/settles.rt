@@ -1,0 +1,136 @@
+//! What an upload comes to: a plan that stands is settled without judging an operation.
+ghost use Rattle.std.specs.Prelude.{◌≡◌, ◌+◌, nat_lt, length, count_by, Ok, Err, IfOk, IfErr, MatchResult};
+ghost use Rattle.osm_base.specs.Outcome.{refuse_if};
+ghost use Rattle.osm_base.specs.Stamp.{stamp_after};
+ghost use Rattle.osm_change.specs.Done.{is_applied};
+ghost use Rattle.osm_change.specs.Moments.{RefusalHasShownEnd};
+ghost use Rattle.osm_change.specs.declared.refusals.Refusal.TheVariants.{Full};
+ghost use Rattle.changeset_core.specs.Changeset.{limit_of};
+ghost use Rattle.osm_later.specs.Settle.{settle_done};
+ghost use Rattle.osm_later.specs.Plan.{StandsOn, IsPlannedOn};
+ghost use Rattle.osm_model.specs.Journal.{Later};
+ghost use Rattle.osm_model.specs.Outcome.{Gives};
+ghost use Rattle.osm_model.specs.State.{own_changeset};
+ghost use Rattle.osm_model.specs.declared.states.State.{State};
+ghost use Rattle.osm_world.specs.World.{state_of};
+ghost use Rattle.upload_check.specs.Asked.{IsOutcome, OnRefused};
+ghost use Rattle.upload_check.specs.Planned.{plan_of, outcome_of, taken_by, IsShown};
+
+use crate::copies::{copy_refusal, copy_rows};
+use crate::overlays::first_ids;
+use crate::plans::{Found, Plan};
+use changeset_core::Changeset;
+use osm_base::{CHANGE_LIMIT, Memory, Stamp, User};
+use osm_change::{FirstIds, OpDone, OpDones, Refusal};
+use osm_later::plans_settle;
+use osm_model::Fault;
+use osm_world::World;
+use std::alloc::Global;
+
+/// What an upload comes to. The creates of each kind are numbered from `first` on.
+#[derive(Drop)]
+pub enum Outcome {
+    Accepted { first: FirstIds, rows: OpDones },
+    Refused(Refusal),
+}
+
+/// What the upload of a plan that stands comes to on a world at a moment, in seconds since 1970. The
+/// changeset is tested on this world, and new ids are those that come next here; no operation is
+/// judged.
+pub fn settle(alloc: Global, world: &World, plan: &Plan, moment: u64) -> Result<Outcome, Memory>
+    requires stands { StandsOn (plan_of plan.now) (state_of world.now).elements }
+    ensures { (begun : State) → IsPlannedOn begun.elements (plan_of plan.now) → Later begun (state_of world.now) → IfOk result (IsOutcome (state_of world.now) plan.now.asked (stamp_after (state_of world.now).last moment)) }
+{
+    plans_settle();
+    plan.laws();
+    let at = Stamp::after(world.last_stamp(), moment);
+    let first = first_ids(world);
+    match settled(alloc, world, plan, at) {
+        Ok(rows) => Ok(Outcome::Accepted { first, rows }),
+        Err(Fault::Refused(refusal)) => Ok(Outcome::Refused(refusal)),
+        Err(Fault::Memory) => Err(Memory),
+    }
+}
+
+/// What the operations did, if the changeset takes it.
+fn settled(alloc: Global, world: &World, plan: &Plan, at: Stamp) -> Result<OpDones, Fault>
+    ensures gives { Gives (settle_done (state_of world.now) plan.now.asked.user at plan.now.asked.changeset plan.now.outcome) result }
+    ensures shown { OnRefused result RefusalHasShownEnd }
+{
+    plan.laws();
+    let kept = own_changeset(world, &plan.cmd.user, at, plan.cmd.changeset)?;
+    taken(alloc, kept, plan.cmd.changeset, &plan.found)
+}
+
+/// What was found out, if the changeset takes it.
+fn taken(alloc: Global, kept: &Changeset, id: u64, found: &Found) -> Result<OpDones, Fault>
+    requires { IsShown (outcome_of found.now) }
+    ensures gives { Gives (taken_by id kept.now.kept (outcome_of found.now)) result }
+    ensures shown { OnRefused result RefusalHasShownEnd }
+{
+    match found {
+        Found::Done(rows) => {
+            has_room(kept, id, rows.items())?;
+            Ok(copy_rows(alloc, rows.items())?)
+        }
+        Found::Refused(refusal) => Err(Fault::Refused(copy_refusal(alloc, refusal)?)),
+    }
+}
+
+/// The changeset, if the user may work on it: its owner is tested before whether it is open.
+pub fn own_changeset<'a>(
+    world: &'a World,
+    user: &User,
+    at: Stamp,
+    id: u64,
+) -> Result<&'a Changeset, Refusal>
+    ensures value { MatchResult result (λ kept. own_changeset (state_of world.now) user.now at id ≡ Ok kept.now.kept)
+        (λ refusal. own_changeset (state_of world.now) user.now at id ≡ Err refusal) }
+    ensures shown { IfErr result RefusalHasShownEnd }
+{
+    let Some(kept) = world.changeset(id) else {
+        return Err(Refusal::NoChangeset { id });
+    };
+    if kept.owner().id != user.id {
+        return Err(Refusal::NotOwner {
+            changeset: id,
+            owner: kept.owner().id,
+        });
+    }
+    if kept.open_at(at) {
+        Ok(kept)
+    } else {
+        Err(Refusal::Closed {
+            changeset: id,
+            closed_at: kept.closes(),
+        })
+    }
+}
+
+/// The changeset takes as many changes more.
+pub fn has_room(kept: &Changeset, id: u64, rows: &[OpDone]) -> Result<(), Refusal>
+    ensures value { result ≡ refuse_if (nat_lt (limit_of kept.now.kept) (length kept.now.kept.did + count_by is_applied rows.now)) (Full (count_by is_applied rows.now) id (length kept.now.kept.did) (limit_of kept.now.kept)) }
+    ensures shown { IfErr result RefusalHasShownEnd }
+{
+    let applied = applied_among(rows) as u64;
+    let count = kept.did().len() as u64;
+    if count + applied > CHANGE_LIMIT {
+        Err(Refusal::Full {
+            applied,
+            changeset: id,
+            count,
+            limit: CHANGE_LIMIT,
+        })
+    } else {
+        Ok(())
+    }
+}
+
+fn applied_among(rows: &[OpDone]) -> usize
+    ensures { result ≡ count_by is_applied rows.now }
+{
+    rows.iter()
+        .copied()
+        .filter(|done| done.is_applied())
+        .count()
+}
