@@ -100,7 +100,12 @@ fn outcome_of<R: Threads + Wait + Sync>(
     };
     let mut answered = host.returned().len() == WORKERS as usize;
     for (k, port) in host.returned().iter().enumerate() {
-        answered = answered && is_answered(port, if bad.is_empty() { links.saturating_add(k) } else { links });
+        let wanted = if bad.is_empty() {
+            links.saturating_add(k)
+        } else {
+            links
+        };
+        answered = answered && is_answered(port, wanted);
     }
     Ok(Outcome { answered, failed })
 }
