@@ -13,3 +13,4 @@ pub mod RowSteps
 pub mod Told
 pub mod Loads
 pub mod PlanSteps
+pub mod Sendable

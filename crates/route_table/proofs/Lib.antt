@@ -6,3 +6,4 @@ mod EachRoute
 mod RequestLines
 mod Seeking
 mod Nowhere
+pub mod Sendable

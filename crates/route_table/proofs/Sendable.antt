@@ -1,0 +1,16 @@
+-- The table of routes may go to another thread: so may each node of the router's tree.
+use Rattle.std.proofs.Common.{tests, of_calls}
+use denote.Param.Send.{sendable, IsSend}
+use Rattle.route_table.specs.contracts.routes.Routes as Routes
+use Rattle.matchit.proofs.route.Route.TheSendSync as Route
+use Rattle.matchit.proofs.tree.Node.TheLaws.TheKnot as Knot
+use Rattle.route_table.proofs.resources.Resource.TheSendSync as Resource
+use Rattle.matchit.below.slab.proofs.Slab.TheSendSync as Slab
+use Rattle.std.proofs.option.Option.TheSendSync as Option
+use Rattle.std.proofs.alloc.Global.TheSendSync as Global
+use Rattle.std.proofs.vec.Vec.TheSendSync as Vec
+use Rattle.std.proofs.Crossing as Crossing
+
+pub routes_send : IsSend Routes.the_row
+routes_send =
+    search (Route.the_send, Knot.crosses, Resource.the_send, Option.the_send, Option.the_field_send, Slab.the_send, Vec.the_send, Global.the_send, Global.the_field_send, Crossing.crosses, sendable) parts 8 depth 60 fits 20000
