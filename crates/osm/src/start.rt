@@ -14,6 +14,7 @@ use std::env::Args;
 use std::io;
 use std::process::ExitCode;
 use std::sync::Wait;
+use std::thread::Threads;
 
 /// The words, in their order.
 fn words_of(alloc: Global, args: Args) -> Result<Vec<String>, AllocError>
@@ -33,7 +34,7 @@ fn lacking_status(why: &io::Error) -> u8
 }
 
 /// The status of `run` on the words, or 5 where there is no memory for their list.
-fn status_on<H: Host, R: Wait, L: Link>(
+fn status_on<H: Host, R: Threads + Wait + Sync, L: Link>(
     rt: &R,
     alloc: Global,
     args: Args,
@@ -51,7 +52,7 @@ fn status_on<H: Host, R: Wait, L: Link>(
 
 /// Does what the words that the system gave ask, and ends with the status of
 /// `run`. Where the system gave no words, nothing is read or written.
-pub fn program<H: Host, R: Wait, L: Link>(
+pub fn program<H: Host, R: Threads + Wait + Sync, L: Link>(
     rt: &R,
     alloc: Global,
     args: io::Result<Args>,

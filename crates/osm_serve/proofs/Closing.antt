@@ -1,5 +1,5 @@
 -- The end of a session, and what its links come to with it.
-use Rattle.std.proofs.Common.{◌≡◌, ℕ, zero, suc, ◌+◌, ◌≤◌, ◌<◌, ◌==◌, Bool, true, false, cond, List, [], ◌∷◌, ◌++◌, length, map, reverse, refl, sym, ap, ◌∙◌, subst, arith, append-nil, append_assoc, length-append}
+use Rattle.std.proofs.Common.{◌≡◌, ℕ, zero, suc, ◌+◌, ◌≤◌, ◌<◌, ◌==◌, Bool, true, false, cond, List, [], ◌∷◌, ◌++◌, length, reverse, refl, sym, ap, ◌∙◌, subst, arith, append-nil}
 use Rattle.std.proofs.lemmas.Bool.{eq-eqb}
 use Rattle.std.proofs.lemmas.List.{reverse-append}
 use Rattle.std.proofs.lemmas.List.Sums.{sum_by-append}
@@ -17,8 +17,8 @@ use Rattle.snapshot_hub.specs.Known.{Known, newcomer, seeing, owed}
 use Rattle.snapshot_hub.specs.Ends.{MatchEnd}
 use Rattle.snapshot_hub.specs.declared.ends.End.{End}
 use Rattle.snapshot_hub.specs.declared.ends.End.TheVariants.{Matched, Unmatched}
-use Rattle.api_desk.specs.HubDesk.{AtDesk, HasServed}
-use Rattle.osm_serve.specs.Serve.{IsSound, ServesLink, ServesPipe, HasEnded}
+use Rattle.api_desk.specs.HubDesk.{HasServed}
+use Rattle.osm_serve.specs.Serve.{IsSound, ServesLink, ServesPipe}
 use Rattle.osm_serve.specs.ServeAll.{at_desk, EndsAs, EndEach, HaveEnded, HasClosed}
 use Rattle.osm_serve.proofs.OnLink.{HaveReadings, unserved_link}
 use Rattle.osm_serve.proofs.Serving.{nothing_served}
@@ -134,7 +134,7 @@ pipe_served users old new before after end served stay consistent fresh closed =
     let ends = last.2 in
     let journal_sound : IsSound closed.journal = record { legal = closed.legal.taken; consistent = closed.consistent } in
     let all : HasServed users old 0 served.exchanges new =
-    link_served (at_desk users old) (at_desk users new) before after end served 0 (omega arith) in record {
+    link_served (at_desk users old) (at_desk users new) (record { came = before; went = after; end = end }) served 0 (omega arith) in record {
       exchanges = served.exchanges;
       link = served.link;
       journal = closed.journal;

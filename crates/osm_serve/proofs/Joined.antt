@@ -1,16 +1,23 @@
--- What a session was answered on a link, from what it knew before to what it has seen at last.
-use Rattle.std.proofs.Common.{◌≡◌, ℕ, ◌≤◌, ⊎_elim, List, ◌++◌, length, sym, ap, ◌∙◌, subst, arith, append_assoc, length-append}
+-- The links of one session, joined one after another.
+use Rattle.std.proofs.Common.{◌≡◌, ℕ, ◌≤◌, ⊎_elim, List, [], ◌∷◌, ◌++◌, length, refl, sym, ap, ◌∙◌, subst, arith, append_assoc, length-append}
+use Rattle.std.specs.List.{AllZip}
 use mathlib.Core.List.{IsPrefix}
-use Rattle.osm_outside.specs.Told.{Told}
 use Rattle.osm_model.specs.Answered.{Place}
 use Rattle.osm_model.specs.declared.commands.Entry.{Entry}
-use Rattle.http_link.specs.declared.end.LinkEnd.{LinkEnd}
 use Rattle.http_link.specs.Exchange.{Exchange}
+use Rattle.link_workers.specs.Port.{Visit, ServesEach}
+use Rattle.link_workers.specs.Joined.{all_of}
 use Rattle.user_table.specs.Rows.{Row}
 use Rattle.snapshot_hub.specs.Known.{Known, seeing}
 use Rattle.api_desk.specs.Answers.{AreAnswered}
 use Rattle.api_desk.specs.HubDesk.{AtDesk, IsFresh, HasServed, stands_at}
-use Rattle.osm_serve.specs.Serve.{ServesLink}
+use Rattle.osm_serve.specs.Serve.{OnLink, ServesLink}
+use Rattle.osm_serve.proofs.Serving.{nothing_served}
+
+-- what one link and then another had answered by the same session is answered together
+abbrev pub LinksChain : Type 0
+LinksChain = (users : List Row) (old mid new : Known Entry) (point : ℕ) (first second : List Exchange)
+    → (served : HasServed users old point first mid) → HasServed users mid served.last second new → HasServed users old point (first ++ second) new
 
 prefix_trans : (xs ys zs : List Entry) → IsPrefix xs ys → IsPrefix ys zs → IsPrefix xs zs
 prefix_trans xs ys zs p q = (p.0 ++ q.0, sym (append_assoc xs p.0 q.0) ∙ (ap (λ w. w ++ q.0) p.1 ∙ q.1))
@@ -37,15 +44,42 @@ from_fresh users old start new point exchanges fresh served =
     }
 
 -- a whole link, from any point of the front that the session had before
-pub link_served : (old new : AtDesk) (before after : Told) (end : LinkEnd) (s : ServesLink old new before after end) (point : ℕ) → point ≤ length old.known.front
+pub link_served : (old new : AtDesk) (v : Visit) (s : ServesLink old new v.came v.went v.end) (point : ℕ) → point ≤ length old.known.front
     → HasServed old.users old.known point s.exchanges new.known
-link_served old new before after end s point le =
+link_served old new v s point le =
     ⊎_elim
     (λ fresh. from_fresh old.users old.known s.start new.known point s.exchanges fresh
     (s.served point (omega (arith, le, no_shorter old.known.front s.start.front fresh.begins))))
     (λ lacks. subst (λ (k : Known Entry). HasServed old.users k point s.exchanges new.known) lacks.stays
     (s.served point (omega (arith, le, ap (λ (k : Known Entry). length k.front) lacks.stays))))
     s.started
+
+-- all links, one after another
+pub record Joins (old new : AtDesk) (visits : List Visit) (point : ℕ) : Type 0 where
+  pub users : new.users ≡ old.users
+  pub exchanges : List (List Exchange)
+  pub each : AllZip (λ visit exchanges. OnLink visit.came visit.went exchanges visit.end) visits exchanges
+  pub served : HasServed old.users old.known point (all_of exchanges) new.known
+
+join_more : (old mid new : AtDesk) (v : Visit) (visits : List Visit) (point : ℕ) → LinksChain
+    → (s : ServesLink old mid v.came v.went v.end) → (first : HasServed old.users old.known point s.exchanges mid.known)
+    → Joins mid new visits first.last → Joins old new (v ∷ visits) point
+join_more old mid new v visits point chain s first rest = record {
+  users = rest.users ∙ s.users;
+  exchanges = s.exchanges ∷ rest.exchanges;
+  each = (s.link, rest.each);
+  served = chain old.users old.known mid.known new.known point s.exchanges (all_of rest.exchanges) first
+      (subst (λ (u : List Row). HasServed u mid.known first.last (all_of rest.exchanges) new.known) s.users rest.served);
+}
+
+pub joined : (old new : AtDesk) (visits : List Visit) (point : ℕ) → LinksChain → point ≤ length old.known.front
+    → ServesEach ServesLink old visits new → Joins old new visits point
+joined old new [] point chain le same =
+    subst (λ (n : AtDesk). Joins old n [] point) (sym same)
+    (record { users = refl; exchanges = []; each = tt; served = nothing_served old.users old.known point le })
+joined old new (v ∷ visits) point chain le h =
+    let first = link_served old h.0 v h.1 point le in
+    join_more old h.0 new v visits point chain h.1 first (joined h.0 new visits first.last chain first.within h.2)
 
 -- what was served on a front stands on each longer one
 abbrev pub ServedStay : Type 0

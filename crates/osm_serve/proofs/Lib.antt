@@ -2,6 +2,7 @@ pub mod OnLink
 pub mod Serving
 pub mod Joined
 pub mod Closing
+pub mod Working
 pub mod Measuring
 pub mod SentLemmas
 pub mod DoneLemmas

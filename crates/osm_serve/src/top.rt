@@ -7,6 +7,7 @@ use crate::export::export;
 use crate::measure::measure;
 use crate::pipe::serve_pipe;
 use crate::replay::replay;
+use crate::serve::{Listening, run_serve};
 use crate::users::{NoUsers, read_users};
 use api_desk::MapMachine;
 use http_link::LinkEnd;
@@ -17,6 +18,7 @@ use snapshot_hub::Seats;
 use std::alloc::Global;
 use std::marker::Brand;
 use std::sync::Wait;
+use std::thread::Threads;
 use user_table::UserTable;
 
 /// The status that an end of the standard link is: 0 where it was served to its end, 3 for a read
@@ -75,7 +77,7 @@ fn run_pipe<H: Host, R: Wait, L: Link>(
 }
 
 /// Does what was read of the words, over a book that is empty at first for what needs one.
-fn run_words_over<H: Host, R: Wait, L: Link>(
+fn run_words_over<H: Host, R: Threads + Wait + Sync, L: Link>(
     rt: &R,
     alloc: Global,
     words: Words<'_>,
@@ -90,6 +92,17 @@ fn run_words_over<H: Host, R: Wait, L: Link>(
 {
     match words {
         Words::Pipe { users, at } => run_pipe(rt, alloc, users, at, host, standard),
+        Words::Serve {
+            users,
+            listen,
+            workers,
+        } => {
+            let listening = Listening {
+                address: listen,
+                workers,
+            };
+            run_serve(rt, alloc, users, listening, host, standard)
+        }
         Words::Measure(load) => measure(alloc, book, load, standard),
         Words::Export(load) => export(alloc, book, load, standard),
         Words::Replay => replay(alloc, standard),
@@ -97,7 +110,7 @@ fn run_words_over<H: Host, R: Wait, L: Link>(
 }
 
 /// The same with that book.
-fn run_words<H: Host, R: Wait, L: Link>(
+fn run_words<H: Host, R: Threads + Wait + Sync, L: Link>(
     rt: &R,
     alloc: Global,
     words: Words<'_>,
@@ -114,9 +127,10 @@ fn run_words<H: Host, R: Wait, L: Link>(
 
 /// Does what the words ask on the host and the standard link, and answers the program's status: 1
 /// where the words have no reading, 2 where the users text is refused, 3 for a fault of the host in
-/// giving it or in reading, 4 for a fault in writing, 5 for want of memory outside an answer, 7
-/// where what came on the link was refused, 8 where a journal's text was, and 0 otherwise.
-pub fn run<H: Host, R: Wait, L: Link>(
+/// giving it or in reading, 4 for a fault in writing, 5 for want of memory outside an answer, 6 for a
+/// fault in listening or in accepting, 7 where what came on the link was refused, 8 where a journal's
+/// text was, and 0 otherwise.
+pub fn run<H: Host, R: Threads + Wait + Sync, L: Link>(
     rt: &R,
     alloc: Global,
     words: &[String],

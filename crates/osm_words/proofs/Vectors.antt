@@ -2,7 +2,7 @@
 use Rattle.std.proofs.Common.{◌≡◌, ℕ, [], ◌∷◌, Some, None, codes, refl}
 use Rattle.clap.proofs.OnLiterals.{clap_on_literals}
 use Rattle.osm_words.specs.declared.words.Load.{Load}
-use Rattle.osm_words.specs.Words.{reading_of, pipe, measure, export, replay}
+use Rattle.osm_words.specs.Words.{reading_of, pipe, serve, measure, export, replay}
 
 abbrev load : ℕ → ℕ → ℕ → Load
 load seed sessions uploads = record { seed = seed; sessions = sessions; uploads = uploads }
@@ -58,6 +58,36 @@ no_version = refl
 end_mark : reading_of (codes "osm" ∷ codes "pipe" ∷ codes "--users=u" ∷ codes "--" ∷ []) ≡ None
 unfolding clap_on_literals
 end_mark = refl
+
+served : reading_of (codes "osm" ∷ codes "serve" ∷ codes "--users" ∷ codes "u.txt" ∷ codes "--listen" ∷ codes "127.0.0.1:8080" ∷ codes "--workers" ∷ codes "8" ∷ [])
+    ≡ Some (serve (codes "u.txt") (codes "127.0.0.1:8080") 8)
+unfolding clap_on_literals
+served = refl
+
+served_by_the_most : reading_of (codes "osm" ∷ codes "serve" ∷ codes "--workers=064" ∷ codes "--listen=[::1]:0" ∷ codes "--users=u" ∷ [])
+    ≡ Some (serve (codes "u") (codes "[::1]:0") 64)
+unfolding clap_on_literals
+served_by_the_most = refl
+
+no_workers : reading_of (codes "osm" ∷ codes "serve" ∷ codes "--users=u" ∷ codes "--listen=l" ∷ codes "--workers=0" ∷ []) ≡ None
+unfolding clap_on_literals
+no_workers = refl
+
+too_many_workers : reading_of (codes "osm" ∷ codes "serve" ∷ codes "--users=u" ∷ codes "--listen=l" ∷ codes "--workers=65" ∷ []) ≡ None
+unfolding clap_on_literals
+too_many_workers = refl
+
+workers_untold : reading_of (codes "osm" ∷ codes "serve" ∷ codes "--users=u" ∷ codes "--listen=l" ∷ []) ≡ None
+unfolding clap_on_literals
+workers_untold = refl
+
+signed_address : reading_of (codes "osm" ∷ codes "serve" ∷ codes "--users=u" ∷ codes "--listen=-l" ∷ codes "--workers=1" ∷ []) ≡ None
+unfolding clap_on_literals
+signed_address = refl
+
+not_of_serve : reading_of (codes "osm" ∷ codes "serve" ∷ codes "--users=u" ∷ codes "--listen=l" ∷ codes "--workers=1" ∷ codes "--at=1" ∷ []) ≡ None
+unfolding clap_on_literals
+not_of_serve = refl
 
 a_load : reading_of (codes "osm" ∷ codes "measure" ∷ codes "--seed=1" ∷ codes "--sessions" ∷ codes "3" ∷ codes "--uploads=1000" ∷ [])
     ≡ Some (measure (load 1 3 1000))

@@ -15,6 +15,13 @@ plain name = on_top (λ s. record s { disable_help_flag = true; disable_version_
 abbrev pub pipe_app : App
 pipe_app = with_rule (with_rule (plain (codes "pipe")) (option (codes "users") true)) (option (codes "at") false)
 
+-- `serve --users FILE --listen ADDRESS --workers N`
+abbrev pub serve_app : App
+serve_app =
+    with_rule
+    (with_rule (with_rule (plain (codes "serve")) (option (codes "users") true)) (option (codes "listen") true))
+    (option (codes "workers") true)
+
 -- `NAME --seed N --sessions N --uploads N`
 abbrev pub load_app : Text → App
 load_app name =

@@ -8,11 +8,11 @@ use Rattle.osm_words.specs.declared.words.TheConstants.{UPLOADS_A_SESSION}
 use Rattle.osm_words.specs.declared.words.Load.{Load}
 
 -- any text that isn't empty and doesn't begin with `-`
-abbrev pub is_path : List ℕ → Bool
-is_path text = nat_lt 0 (length text) && not (slice_index text 0 == 45)
+abbrev pub is_text : List ℕ → Bool
+is_text text = nat_lt 0 (length text) && not (slice_index text 0 == 45)
 
-abbrev pub path_of : List ℕ → Option (List ℕ)
-path_of text = if is_path text then Some text else None
+abbrev pub text_of : List ℕ → Option (List ℕ)
+text_of text = if is_text text then Some text else None
 
 -- one digit at least, and nothing else
 abbrev pub is_digits : List ℕ → Bool

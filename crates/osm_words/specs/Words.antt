@@ -8,16 +8,18 @@ use Rattle.osm_base.specs.declared.limits.TheConstants.{SESSION_LIMIT}
 use Rattle.osm_words.specs.declared.words.TheConstants.{UPLOAD_LIMIT}
 use Rattle.osm_words.specs.declared.words.Load.{Load}
 use Rattle.osm_words.specs.declared.words.Words.{Words}
-use Rattle.osm_words.specs.declared.words.Words.TheVariants.{Pipe, Measure, Export, Replay}
+use Rattle.osm_words.specs.declared.words.Words.TheVariants.{Pipe, Serve, Measure, Export, Replay}
 use Rattle.osm_words.specs.declared.words.WordsFault.{WordsFault}
 use Rattle.osm_words.specs.declared.words.WordsFault.TheVariants.{NoReading, Memory}
-use Rattle.osm_words.specs.Values.{path_of, number_of, number_in, fitting}
-use Rattle.osm_words.specs.Commands.{pipe_app, load_app, plain, found}
+use Rattle.osm_words.specs.Values.{text_of, number_of, number_in, fitting}
+use Rattle.osm_words.specs.Commands.{pipe_app, serve_app, load_app, plain, found}
 
 -- a command of the program, with its options
 pub data Reading : Type 0 where
   -- the path of the users text, and the moment at which the clock is fixed
   pipe : Text → Option ℕ → Reading
+  -- the path of the users text, the address where links come, and the number of workers
+  serve : Text → Text → ℕ → Reading
   measure : Load → Reading
   export : Load → Reading
   replay : Reading
@@ -25,6 +27,7 @@ pub data Reading : Type 0 where
 -- what was read, without where it lies in memory
 abbrev pub shown : Words → Reading
 shown (Pipe users at) = pipe users.now at
+shown (Serve users listen workers) = serve users.now listen.now workers
 shown (Measure load) = measure load
 shown (Export load) = export load
 shown Replay = replay
@@ -39,7 +42,14 @@ pipe_at users (Some text) = option_map (λ at. pipe users (Some at)) (number_of 
 abbrev pub pipe_of : List Row → Option Reading
 pipe_of rows =
     option_and_then (λ users. pipe_at users (first_of (codes "at") rows))
-    (option_and_then path_of (first_of (codes "users") rows))
+    (option_and_then text_of (first_of (codes "users") rows))
+
+abbrev pub serve_of : List Row → Option Reading
+serve_of rows =
+    option_and_then (λ users. option_and_then (λ listen. option_map (λ workers. serve users listen workers)
+    (option_and_then (number_in 1 SESSION_LIMIT) (first_of (codes "workers") rows)))
+    (option_and_then text_of (first_of (codes "listen") rows)))
+    (option_and_then text_of (first_of (codes "users") rows))
 
 abbrev pub load_of : List Row → Option Load
 load_of rows =
@@ -54,6 +64,9 @@ load_of rows =
 abbrev pub pipe_reading : List Text → Option Reading
 pipe_reading words = option_and_then pipe_of (found pipe_app words)
 
+abbrev pub serve_reading : List Text → Option Reading
+serve_reading words = option_and_then serve_of (found serve_app words)
+
 abbrev pub load_reading : Text → List Text → Option Load
 load_reading name words = option_and_then load_of (found (load_app name) words)
 
@@ -64,10 +77,11 @@ replay_reading words = option_map (λ _. replay) (found (plain (codes "replay"))
 abbrev pub command_reading : Text → List Text → Option Reading
 command_reading name words =
     if bytes_eq name (codes "pipe") then pipe_reading words
+    else (if bytes_eq name (codes "serve") then serve_reading words
     else (if bytes_eq name (codes "measure") then option_map measure (load_reading (codes "measure") words)
     else (if bytes_eq name (codes "export") then option_map export (load_reading (codes "export") words)
     else (if bytes_eq name (codes "replay") then replay_reading words
-    else None)))
+    else None))))
 
 -- behind the program's name
 abbrev pub named_reading : List Text → Option Reading
@@ -100,8 +114,14 @@ pub record HasSessions (load : Load) : Type 0 where
   pub some : 0 < load.sessions
   pub few : load.sessions ≤ SESSION_LIMIT
 
--- the same of the load that is asked for, where one is
+-- Each worker has a session of its own, so there is one at least, and there are no more than there may be.
+pub record HasWorkers (workers : ℕ) : Type 0 where
+  pub some : 0 < workers
+  pub few : workers ≤ SESSION_LIMIT
+
+-- the same of the load or the workers that are asked for, where they are
 abbrev pub HaveSessions : Words → Type 0
+HaveSessions (Serve users listen workers) = HasWorkers workers
 HaveSessions (Measure load) = HasSessions load
 HaveSessions (Export load) = HasSessions load
 HaveSessions other = ⊤

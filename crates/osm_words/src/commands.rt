@@ -1,7 +1,7 @@
 //! What `clap` is told of each command, and what it finds in words.
 ghost use Rattle.std.specs.Prelude.{◌≡◌, IfOk, map, string_bytes, true, false};
 ghost use Rattle.clap.specs.Words.{app_of, rule_of, with_rule, is_simple_and_free, kind_of};
-ghost use Rattle.osm_words.specs.Commands.{option, plain, pipe_app, load_app, found};
+ghost use Rattle.osm_words.specs.Commands.{option, plain, pipe_app, serve_app, load_app, found};
 ghost use Rattle.osm_words.specs.Found.{Finds, Tells};
 
 use crate::words::WordsFault;
@@ -44,6 +44,15 @@ pub fn pipe<'a>(alloc: Global) -> Result<Command<'a>, AllocError>
 {
     let needed = with_option(alloc, plain(alloc, "pipe"), "users", true)?;
     with_option(alloc, needed, "at", false)
+}
+
+/// `serve --users FILE --listen ADDRESS --workers N`.
+pub fn serve<'a>(alloc: Global) -> Result<Command<'a>, AllocError>
+    ensures { IfOk result (λ command. app_of command ≡ serve_app) }
+{
+    let named = with_option(alloc, plain(alloc, "serve"), "users", true)?;
+    let placed = with_option(alloc, named, "listen", true)?;
+    with_option(alloc, placed, "workers", true)
 }
 
 /// `NAME --seed N --sessions N --uploads N`.

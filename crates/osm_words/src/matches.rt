@@ -1,10 +1,10 @@
 //! The options in what `clap` found.
-ghost use Rattle.std.specs.Prelude.{◌≡◌, ◌≤◌, IfSome, option_map, option_and_then, codes};
+ghost use Rattle.std.specs.Prelude.{◌≡◌, ◌≤◌, IfSome, option_map, option_and_then};
 ghost use Rattle.clap.specs.Words.{first_of, found_of, rows_of};
-ghost use Rattle.osm_words.specs.Values.{path_of, number_of, number_in};
-ghost use Rattle.osm_words.specs.Words.{HasSessions, HaveSessions, shown, pipe_of, load_of};
+ghost use Rattle.osm_words.specs.Values.{text_of, number_of, number_in};
+ghost use Rattle.osm_words.specs.Words.{HasSessions, HaveSessions, shown, pipe_of, serve_of, load_of};
 
-use crate::values::{checked, fitting, is_path, number_of};
+use crate::values::{checked, fitting, is_text, number_of};
 use crate::words::{Load, UPLOAD_LIMIT, Words};
 use clap::ArgMatches;
 use osm_base::SESSION_LIMIT;
@@ -29,12 +29,12 @@ fn number_in(matches: &ArgMatches<'_>, name: &str, least: u32, most: u32) -> Opt
     checked(number_at(matches, name)?, least, most)
 }
 
-fn path_of<'a>(matches: &ArgMatches<'a>) -> Option<&'a str>
+fn text_at<'a>(matches: &ArgMatches<'a>, name: &str) -> Option<&'a str>
     ensures { option_map (λ text. text.now) result
-        ≡ option_and_then path_of (first_of (codes "users") (rows_of (found_of matches.now))) }
+        ≡ option_and_then text_of (first_of name.now (rows_of (found_of matches.now))) }
 {
-    let text = value_of(matches, "users")?;
-    if is_path(text) { Some(text) } else { None }
+    let text = value_of(matches, name)?;
+    if is_text(text) { Some(text) } else { None }
 }
 
 /// What `pipe` is to do.
@@ -42,12 +42,27 @@ pub fn pipe_of<'a>(matches: &ArgMatches<'a>) -> Option<Words<'a>>
     ensures value { option_map shown result ≡ pipe_of (rows_of (found_of matches.now)) }
     ensures sessions { IfSome result HaveSessions }
 {
-    let users = path_of(matches)?;
+    let users = text_at(matches, "users")?;
     let at = match value_of(matches, "at") {
         Some(text) => Some(number_of(text)?),
         None => None,
     };
     Some(Words::Pipe { users, at })
+}
+
+/// What `serve` is to do.
+pub fn serve_of<'a>(matches: &ArgMatches<'a>) -> Option<Words<'a>>
+    ensures value { option_map shown result ≡ serve_of (rows_of (found_of matches.now)) }
+    ensures sessions { IfSome result HaveSessions }
+{
+    let users = text_at(matches, "users")?;
+    let listen = text_at(matches, "listen")?;
+    let workers = number_in(matches, "workers", 1, SESSION_LIMIT)?;
+    Some(Words::Serve {
+        users,
+        listen,
+        workers,
+    })
 }
 
 /// The load that is asked for.

@@ -1,9 +1,9 @@
 //! Reading the words.
 ghost use Rattle.std.specs.Prelude.{◌≡◌, IfOk, map, string_bytes};
-ghost use Rattle.osm_words.specs.Words.{Gives, GivesLoad, HasSessions, HaveSessions, reading_of, command_reading, pipe_reading, load_reading, replay_reading, has_end_mark};
+ghost use Rattle.osm_words.specs.Words.{Gives, GivesLoad, HasSessions, HaveSessions, reading_of, command_reading, pipe_reading, serve_reading, load_reading, replay_reading, has_end_mark};
 
-use crate::commands::{find, load, pipe, plain};
-use crate::matches::{load_of, pipe_of};
+use crate::commands::{find, load, pipe, plain, serve};
+use crate::matches::{load_of, pipe_of, serve_of};
 use crate::words::{Load, Words, WordsFault};
 use std::alloc::Global;
 
@@ -13,6 +13,14 @@ fn read_pipe<'a>(alloc: Global, words: &'a [String]) -> Result<Words<'a>, WordsF
 {
     let matches = find(pipe(alloc)?, words)?;
     pipe_of(&matches).ok_or(WordsFault::NoReading)
+}
+
+fn read_serve<'a>(alloc: Global, words: &'a [String]) -> Result<Words<'a>, WordsFault>
+    ensures gives { Gives (serve_reading (map string_bytes words.entry.now)) result }
+    ensures sessions { IfOk result HaveSessions }
+{
+    let matches = find(serve(alloc)?, words)?;
+    serve_of(&matches).ok_or(WordsFault::NoReading)
 }
 
 fn read_load<'a>(alloc: Global, name: &'a str, words: &'a [String]) -> Result<Load, WordsFault>
@@ -38,6 +46,8 @@ fn read_command<'a>(alloc: Global, name: &str, words: &'a [String]) -> Result<Wo
 {
     if name == "pipe" {
         read_pipe(alloc, words)
+    } else if name == "serve" {
+        read_serve(alloc, words)
     } else if name == "measure" {
         Ok(Words::Measure(read_load(alloc, "measure", words)?))
     } else if name == "export" {
@@ -59,9 +69,11 @@ fn has_end_mark(words: &[String]) -> bool
 /// Reads the words of the command line: the program's name, a command's name, and the command's
 /// options as `--name VALUE` or `--name=VALUE`, in any order and each at most once.
 ///
-/// `pipe` needs `users`, a path, and may have `at`. `measure` and `export` need `seed`, `sessions`
-/// from 1 to 64, and `uploads`, at most 909 for each session. `replay` has no options. Numbers are
-/// digits alone, below 2^64. All other words have no reading.
+/// `pipe` needs `users`, a path, and may have `at`. `serve` needs `users`, `listen`, an address, and
+/// `workers`, from 1 to 64. `measure` and `export` need `seed`, `sessions` from 1 to 64, and
+/// `uploads`, at most 909 for each session. `replay` has no options. A path or an address is any
+/// text that isn't empty and doesn't begin with `-`. Numbers are digits alone, below 2^64. All other
+/// words have no reading.
 pub fn read_words<'a>(alloc: Global, words: &'a [String]) -> Result<Words<'a>, WordsFault>
     ensures gives { Gives (reading_of (map string_bytes words.entry.now)) result }
     ensures sessions { IfOk result HaveSessions }

@@ -2,13 +2,13 @@
 ghost use Rattle.std.specs.Prelude.{◌≡◌, ◌≤◌, true, IfSome};
 ghost use Rattle.std.specs.List.{list_all};
 ghost use Rattle.std.specs.Char.{is_ascii_digit};
-ghost use Rattle.osm_words.specs.Values.{is_path, is_digits, number_of, checked, fitting};
+ghost use Rattle.osm_words.specs.Values.{is_text, is_digits, number_of, checked, fitting};
 
 use crate::words::{Load, UPLOADS_A_SESSION};
 
-/// A path: any text that isn't empty and doesn't begin with `-`.
-pub fn is_path(text: &str) -> bool
-    ensures { result ≡ is_path text.now }
+/// A path or an address: any text that isn't empty and doesn't begin with `-`.
+pub fn is_text(text: &str) -> bool
+    ensures { result ≡ is_text text.now }
 {
     match text.as_bytes() {
         [] => false,

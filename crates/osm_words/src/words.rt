@@ -28,7 +28,17 @@ pub struct Load {
 pub enum Words<'a> {
     /// To serve the standard link, with the users of the text at that path, and with the clock fixed
     /// at that moment where one is given, in seconds since 1970.
-    Pipe { users: &'a str, at: Option<u64> },
+    Pipe {
+        users: &'a str,
+        at: Option<u64>,
+    },
+    /// To serve the links that come to an address, as the host reads it, with the users of the text
+    /// at that path and with so many workers, from 1 to `SESSION_LIMIT`.
+    Serve {
+        users: &'a str,
+        listen: &'a str,
+        workers: u32,
+    },
     /// To send a load and tell what came of it.
     Measure(Load),
     /// To send a load and write the journal's text.

@@ -12,10 +12,15 @@ use std::alloc::Global;
 use std::io;
 use std::process::ExitCode;
 use std::sync::Wait;
+use std::thread::Threads;
 use tally::Tally;
 
 /// Plays each row of the text, tells of each that is wrong, and then how many were played.
-fn play_all<R: Print + Wait>(rt: &R, alloc: Global, text: &str) -> io::Result<bool> {
+fn play_all<R: Print + Threads + Wait + Sync>(
+    rt: &R,
+    alloc: Global,
+    text: &str,
+) -> io::Result<bool> {
     let mut tally = Tally::none();
     for row in text.split("\n== ").skip(1) {
         tally.play(rt, alloc, row)?;

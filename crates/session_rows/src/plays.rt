@@ -7,6 +7,7 @@ use row_lines::RowFault;
 use std::alloc::Global;
 use std::io;
 use std::sync::Wait;
+use std::thread::Threads;
 
 /// The room for what is written, in bytes, where a row's sweeps don't take less.
 const ROOM: usize = 1_000_000;
@@ -53,7 +54,7 @@ impl<'a> Play<'a> {
     }
 
     /// Runs the server, and answers whether what came is what must come. Tells what was wrong.
-    pub fn run<R: Print + Wait>(
+    pub fn run<R: Print + Threads + Wait + Sync>(
         &self,
         rt: &R,
         alloc: Global,
@@ -66,7 +67,7 @@ impl<'a> Play<'a> {
         }
     }
 
-    fn run_on<R: Print + Wait>(
+    fn run_on<R: Print + Threads + Wait + Sync>(
         &self,
         rt: &R,
         alloc: Global,
@@ -134,7 +135,12 @@ fn link_of(alloc: Global, row: &Row, play: &Play<'_>) -> Result<MemLink, RowFaul
 }
 
 /// Runs the server on the link, with the row's words and host, and gives the program's status.
-fn served<R: Wait>(rt: &R, alloc: Global, row: &Row, link: &mut MemLink) -> Result<u8, RowFault> {
+fn served<R: Threads + Wait + Sync>(
+    rt: &R,
+    alloc: Global,
+    row: &Row,
+    link: &mut MemLink,
+) -> Result<u8, RowFault> {
     let users = Bytes::of(alloc, row.users.as_slice())?;
     let bad_calls = row.bad_calls.as_slice().to_vec(alloc)?;
     let mut host = MemHost::new(alloc, users, Vec::new(alloc), bad_calls)?;

@@ -5,6 +5,7 @@ use crate::sweeps::{numbers_of, play_of};
 use std::alloc::Global;
 use std::io;
 use std::sync::Wait;
+use std::thread::Threads;
 
 #[derive(Clone, Copy)]
 pub struct Tally {
@@ -33,7 +34,12 @@ impl Tally {
     }
 
     /// Reads a row, its name and behind a line end its lines, and plays it.
-    pub fn play<R: Print + Wait>(&mut self, rt: &R, alloc: Global, text: &str) -> io::Result<()> {
+    pub fn play<R: Print + Threads + Wait + Sync>(
+        &mut self,
+        rt: &R,
+        alloc: Global,
+        text: &str,
+    ) -> io::Result<()> {
         let (name, lines) = text.split_once('\n').unwrap_or((text, ""));
         let mut row = Row::new(alloc);
         self.rows = self.rows.saturating_add(1);
@@ -47,7 +53,7 @@ impl Tally {
     }
 
     /// Counts what the row asks and wants, and plays it and its sweeps.
-    fn play_row<R: Print + Wait>(
+    fn play_row<R: Print + Threads + Wait + Sync>(
         &mut self,
         rt: &R,
         alloc: Global,
@@ -66,7 +72,7 @@ impl Tally {
         Ok(())
     }
 
-    fn run<R: Print + Wait>(
+    fn run<R: Print + Threads + Wait + Sync>(
         &mut self,
         rt: &R,
         alloc: Global,

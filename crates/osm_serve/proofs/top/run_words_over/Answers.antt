@@ -23,3 +23,6 @@ returns-in-Export g c = rw c.in-Export.is (record { host_stays = refl; tells = c
 
 pub returns-in-Replay : goal.returns-in-Replay
 returns-in-Replay g c = rw c.in-Replay.is (record { host_stays = refl; replays = c.replay.ensures })
+
+pub returns-in-Serve : goal.returns-in-Serve
+returns-in-Serve g c = rw c.in-Serve.is c.run_serve.ensures
