@@ -1,0 +1,25 @@
+//! Rows of `serve`: whole runs of the server with workers on ports in memory, and workers on a
+//! listener of the system.
+#![tactic(auto)]
+
+mod ports;
+mod replies;
+mod runs;
+mod sockets;
+mod texts;
+
+use row_tally::Tally;
+use std::io;
+use std::process::ExitCode;
+
+fn main(rt: HostRuntime) -> io::Result<ExitCode> {
+    let mut tally = Tally::none();
+    runs::play(&rt, rt.alloc(), &mut tally);
+    sockets::play(&rt, rt, &mut tally);
+    tally.tell(&rt)?;
+    if tally.is_right() {
+        Ok(ExitCode::SUCCESS)
+    } else {
+        Ok(ExitCode::FAILURE)
+    }
+}
