@@ -1,0 +1,156 @@
+//! What a thread does: the lines of a phase that are of its sessions, each by a desk.
+use crate::gates::RowGate;
+use crate::notes::{Notes, Told, is_wanted};
+use crate::rows::{Phase, Step};
+use api_desk::{HubDesk, MapHub, MapSession};
+use http_link::Desk;
+use osm_base::{Bytes, SESSION_LIMIT};
+use row_lines::{RowFault, number};
+use shared_front::HubName;
+use std::alloc::Global;
+use std::sync::Wait;
+use user_table::UserTable;
+use whole_messages::whole_message;
+use workload::requests;
+
+/// The moment of each request, in seconds since 1970: 2023-11-14T22:13:20Z.
+pub const MOMENT: u64 = 1_700_000_000;
+
+const SEED: u64 = 1;
+
+pub type RowHub<N, R> = MapHub<N, RowGate, R>;
+
+type RowDesk<'h, N, R, W> = HubDesk<'h, N, RowGate, R, W>;
+
+/// Sessions of a thread, and its notes.
+#[derive(Drop)]
+pub struct Job<S: Drop> {
+    pub sessions: Vec<S>,
+    pub notes: Notes,
+}
+
+/// Sends bytes to a desk, and notes what it is told.
+fn send<N: HubName, R: Wait + Drop, W: Wait>(
+    alloc: Global,
+    desk: &mut RowDesk<'_, N, R, W>,
+    notes: &mut Notes,
+    bytes: Bytes,
+    wanted: Option<&str>,
+) -> Result<Told, RowFault> {
+    let calls = desk.session().calls();
+    let kept = Bytes::of(alloc, bytes.as_slice())?;
+    let message = whole_message(alloc, bytes)?.ok_or(RowFault::Unread)?;
+    let reply = desk.answer(alloc, message, MOMENT)?;
+    let session = desk.session();
+    if session.owes() || session.debts() > 0 {
+        notes.owed = notes.owed.saturating_add(1);
+    }
+    let accepted = u64::from(session.calls() > calls);
+    let place = session.seen().saturating_mul(2).saturating_sub(accepted);
+    Ok(Told {
+        session: session.number(),
+        place,
+        bytes: kept,
+        is_wanted: is_wanted(&reply, wanted),
+        reply,
+    })
+}
+
+/// Sends the request of a line, by the desk at that place.
+fn ask<N: HubName, R: Wait + Drop, W: Wait>(
+    alloc: Global,
+    desk: &mut RowDesk<'_, N, R, W>,
+    notes: &mut Notes,
+    place: usize,
+    step: &Step<'_>,
+    time: u64,
+) -> Result<(), RowFault> {
+    let mut bytes = Vec::new(alloc);
+    notes.add_bytes(alloc, &mut bytes, place, step.request, time)?;
+    let told = send(alloc, desk, notes, Bytes::from_vec(bytes), step.wanted)?;
+    notes.add(place, step.request, told)
+}
+
+/// Sends the requests of a load of so many uploads, each by the desk of its session.
+fn send_load<N: HubName, R: Wait + Drop, W: Wait>(
+    alloc: Global,
+    desks: &mut [RowDesk<'_, N, R, W>],
+    notes: &mut Notes,
+    uploads: u32,
+    wanted: Option<&str>,
+) -> Result<(), RowFault> {
+    let sessions = u32::try_from(desks.len()).unwrap_or(u32::MAX);
+    if sessions == 0 || sessions > SESSION_LIMIT {
+        return Err(RowFault::Unread);
+    }
+    for sent in requests(alloc, SEED, sessions, uploads)? {
+        let Some(desk) = desks.get_mut(sent.session as usize) else {
+            return Err(RowFault::Unread);
+        };
+        let told = send(alloc, desk, notes, sent.bytes, wanted)?;
+        notes.told.push(told)?;
+    }
+    Ok(())
+}
+
+/// Plays a line in a round.
+fn play_step<N: HubName, R: Wait + Drop, W: Wait>(
+    alloc: Global,
+    desks: &mut [RowDesk<'_, N, R, W>],
+    notes: &mut Notes,
+    step: &Step<'_>,
+    round: u64,
+) -> Result<(), RowFault> {
+    if let Some(uploads) = step.request.strip_prefix("load ") {
+        let uploads = u32::try_from(number(uploads)?).unwrap_or(u32::MAX);
+        return send_load(alloc, desks, notes, uploads, step.wanted);
+    }
+    for (place, desk) in desks.iter_mut().enumerate() {
+        if step.is_of(notes.first.saturating_add(place as u64)) {
+            for time in 1..=step.times {
+                let time = round.saturating_mul(step.times).saturating_add(time);
+                ask(alloc, desk, notes, place, step, time)?;
+            }
+        }
+    }
+    Ok(())
+}
+
+fn play_rounds<N: HubName, R: Wait + Drop, W: Wait>(
+    alloc: Global,
+    desks: &mut [RowDesk<'_, N, R, W>],
+    notes: &mut Notes,
+    phase: &Phase<'_>,
+) -> Result<(), RowFault> {
+    for round in 0..phase.rounds {
+        for step in &phase.steps {
+            play_step(alloc, desks, notes, step, round)?;
+        }
+    }
+    Ok(())
+}
+
+/// Plays the lines of a phase that are of the job's sessions.
+pub fn play_job<N: HubName, R: Wait + Drop, W: Wait>(
+    rt: &W,
+    alloc: Global,
+    hub: &RowHub<N, R>,
+    users: &UserTable,
+    job: Job<MapSession<N>>,
+    phase: &Phase<'_>,
+) -> Result<Job<MapSession<N>>, RowFault> {
+    let Job {
+        sessions,
+        mut notes,
+    } = job;
+    let mut desks = Vec::new(alloc);
+    for session in sessions {
+        desks.push(HubDesk::new(alloc, rt, hub, session, users)?)?;
+    }
+    play_rounds(alloc, desks.as_mut_slice(), &mut notes, phase)?;
+    let mut sessions = Vec::new(alloc);
+    for desk in desks {
+        sessions.push(desk.into_session())?;
+    }
+    Ok(Job { sessions, notes })
+}
