@@ -1,0 +1,158 @@
+"""What the programs of this folder share: a server that is started, and links to it."""
+
+from __future__ import annotations
+
+import json
+import os
+import socket
+import subprocess
+import sys
+import tempfile
+import time
+from typing import Any, NamedTuple
+
+TICKS: int = os.sysconf("SC_CLK_TCK")
+OSM: str = os.path.join(os.path.dirname(os.path.abspath(__file__)), "..", "osm")
+
+
+class Reply(NamedTuple):
+    status: int
+    body: bytes
+    closes: bool
+
+    def read(self) -> Any:
+        return json.loads(self.body)
+
+
+class Lost(Exception):
+    """A link ended before its reply was whole."""
+
+
+def request(method: str, path: str, token: str = "", body: Any = None, closes: bool = False) -> bytes:
+    """The bytes of a request; a body of bytes stands as it is, any other is written as JSON."""
+    data = b"" if body is None else body if isinstance(body, bytes) else json.dumps(body, separators=(",", ":")).encode()
+    head = f"{method} /api/0.6/{path} HTTP/1.1\r\nHost: localhost\r\n"
+    head += f"Authorization: Bearer {token}\r\n" if token else ""
+    head += f"Content-Type: application/json\r\nContent-Length: {len(data)}\r\n" if data else ""
+    return (head + ("Connection: close\r\n" if closes else "") + "\r\n").encode() + data
+
+
+def connect(port: int, wait: float = 120) -> socket.socket:
+    stream = socket.create_connection(("127.0.0.1", port), wait)
+    stream.setsockopt(socket.IPPROTO_TCP, socket.TCP_NODELAY, 1)
+    return stream
+
+
+class Replies:
+    """The replies that come on a stream, one after another."""
+
+    def __init__(self, stream: socket.socket) -> None:
+        self.stream, self.held = stream, b""
+
+    def more(self) -> None:
+        part = self.stream.recv(1 << 20)
+        if not part:
+            raise Lost(f"after {self.held[:60]!r}")
+        self.held += part
+
+    def next(self) -> Reply:
+        while b"\r\n\r\n" not in self.held:
+            self.more()
+        head, _, self.held = self.held.partition(b"\r\n\r\n")
+        first, *lines = head.decode().split("\r\n")
+        fields = dict(line.lower().split(": ", 1) for line in lines)
+        length = int(fields["content-length"])
+        while len(self.held) < length:
+            self.more()
+        body, self.held = self.held[:length], self.held[length:]
+        return Reply(int(first.split()[1]), body, fields.get("connection") == "close")
+
+
+class Link:
+    """A kept connection, made anew where the last reply said that it ends, and after so many requests."""
+
+    def __init__(self, port: int, token: str = "", kept: int = 1000) -> None:
+        self.port, self.token, self.kept = port, token, kept
+        self.stream: socket.socket | None = None
+        self.asked = self.links = 0
+
+    def ask(self, method: str, path: str, body: Any = None) -> Reply:
+        if self.stream is None:
+            self.stream = connect(self.port)
+            self.replies, self.asked, self.links = Replies(self.stream), 0, self.links + 1
+        self.asked += 1
+        self.stream.sendall(request(method, path, self.token, body, self.asked >= self.kept))
+        reply = self.replies.next()
+        if reply.closes:
+            self.close()
+        return reply
+
+    def close(self) -> None:
+        if self.stream is not None:
+            self.stream.close()
+            self.stream = None
+
+
+def family(pid: int) -> list[int]:
+    """A process and all that it started, the last one last."""
+    try:
+        with open(f"/proc/{pid}/task/{pid}/children") as file:
+            return [pid] + [it for child in file.read().split() for it in family(int(child))]
+    except OSError:
+        return []
+
+
+class Server:
+    """`PROGRAM serve` on a free port, with these users, one line each, until the end of a `with`.
+
+    `pid` is that of the program itself, where PROGRAM is a script that starts it.
+    """
+
+    def __init__(self, program: str, workers: int, users: str, wait: float = 60) -> None:
+        self.folder = tempfile.TemporaryDirectory()
+        path = os.path.join(self.folder.name, "users.txt")
+        with open(path, "w") as file:
+            file.write(users)
+        with socket.socket() as free:
+            free.bind(("127.0.0.1", 0))
+            self.port: int = free.getsockname()[1]
+        words = ["serve", "--users", path, "--listen", f"127.0.0.1:{self.port}", "--workers", str(workers)]
+        self.process = subprocess.Popen([program, *words], stdin=subprocess.DEVNULL)
+        self.workers = workers
+        until = time.monotonic() + wait
+        while not self.answers():
+            if self.process.poll() is not None:
+                sys.exit(f"{program} ended with status {self.process.returncode}")
+            if time.monotonic() > until:
+                self.process.kill()
+                sys.exit(f"{program} doesn't answer on port {self.port}")
+            time.sleep(0.05)
+        self.pid: int = family(self.process.pid)[-1]
+
+    def answers(self) -> bool:
+        try:
+            return Link(self.port, kept=1).ask("GET", "node/1").status == 404
+        except OSError:
+            return False
+
+    def __enter__(self) -> Server:
+        return self
+
+    def __exit__(self, *_: object) -> None:
+        self.process.terminate()
+        self.process.wait()
+        self.folder.cleanup()
+
+    def descriptors(self) -> int:
+        return len(os.listdir(f"/proc/{self.pid}/fd"))
+
+    def seconds(self) -> tuple[float, float]:
+        """The processor time so far, of the program itself and of the kernel for it."""
+        with open(f"/proc/{self.pid}/stat") as file:
+            fields = file.read().rpartition(")")[2].split()
+        return int(fields[11]) / TICKS, int(fields[12]) / TICKS
+
+    def megabytes(self, which: str = "VmRSS") -> float:
+        """The memory that is held, or at most was (VmHWM)."""
+        with open(f"/proc/{self.pid}/status") as file:
+            return next(int(line.split()[1]) for line in file if line.startswith(which)) / 1024
