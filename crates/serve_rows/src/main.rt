@@ -2,6 +2,7 @@
 //! listener of the system.
 #![tactic(auto)]
 
+mod crossing;
 mod ports;
 mod replies;
 mod runs;
@@ -15,6 +16,7 @@ use std::process::ExitCode;
 fn main(rt: HostRuntime) -> io::Result<ExitCode> {
     let mut tally = Tally::none();
     runs::play(&rt, rt.alloc(), &mut tally);
+    crossing::play(&rt, rt.alloc(), &mut tally);
     sockets::play(&rt, rt, &mut tally);
     tally.tell(&rt)?;
     if tally.is_right() {

@@ -109,6 +109,12 @@ fn a_failed_accept<R: Threads + Wait + Sync>(rt: &R, alloc: Global) -> Result<bo
     serve(rt, alloc, USERS, ports, "2", &[])?.is(alloc, 6, &[20, 2], None)
 }
 
+/// No link of the second port is taken.
+fn a_failed_first_accept<R: Threads + Wait + Sync>(rt: &R, alloc: Global) -> Result<bool, Memory> {
+    let ports = two_ports(alloc, [1, 1], &[0])?;
+    serve(rt, alloc, USERS, ports, "2", &[])?.is(alloc, 6, &[1, 0], None)
+}
+
 fn no_links<R: Threads + Wait + Sync>(rt: &R, alloc: Global) -> Result<bool, Memory> {
     let ports = two_ports(alloc, [0, 0], &[])?;
     serve(rt, alloc, USERS, ports, "2", &[])?.is(alloc, 0, &[0, 0], None)
@@ -152,6 +158,11 @@ fn a_hundred_links<R: Threads + Wait + Sync>(rt: &R, alloc: Global) -> Result<bo
 pub fn play<R: Threads + Wait + Sync + Print>(rt: &R, alloc: Global, tally: &mut Tally) {
     tally.note(rt, "two workers", two_workers(rt, alloc));
     tally.note(rt, "an accept fails", a_failed_accept(rt, alloc));
+    tally.note(
+        rt,
+        "the first accept fails",
+        a_failed_first_accept(rt, alloc),
+    );
     tally.note(rt, "no links", no_links(rt, alloc));
     tally.note(rt, "listening fails", listening_fails(rt, alloc));
     tally.note(rt, "other workers than ports", other_workers(rt, alloc));
