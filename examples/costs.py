@@ -118,6 +118,8 @@ def told(program, orders):
 def main():
     uploads = int(sys.argv[1]) if len(sys.argv) > 1 else 5_000
     program = sys.argv[2] if len(sys.argv) > 2 else "crates/map_bench/out/map_bench"
+    if not os.access(program, os.X_OK):
+        sys.exit(f"there is no program {program}: rt ci builds it")
     for order, seconds, peak, line in told(program, orders(uploads)):
         print(f"{order[:32]:32} {seconds:10.4f} s {peak:15,} bytes: {line}", flush=True)
 

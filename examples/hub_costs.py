@@ -7,6 +7,7 @@ far, and last the peaks of processes that do nothing but one load. PROGRAM is
 crates/hub_bench/out/hub_bench where none is named.
 """
 
+import os
 import sys
 import time
 
@@ -44,6 +45,8 @@ def tell(program, orders):
 def main():
     uploads = int(sys.argv[1]) if len(sys.argv) > 1 else 5_000
     program = sys.argv[2] if len(sys.argv) > 2 else "crates/hub_bench/out/hub_bench"
+    if not os.access(program, os.X_OK):
+        sys.exit(f"there is no program {program}: rt ci builds it")
     tell(program, orders(uploads))
     for count in (2 * uploads, 10 * uploads):
         for place in ALONE_AND_ON_A_HUB:
