@@ -1,6 +1,6 @@
 use crate::areas::join_boxes;
 use crate::lives::{closed_at, closes};
-use osm_base::{Box7, CHANGE_LIMIT, Items, Key, Memory, Owner, Stamp, TryCopy};
+use osm_base::{Box7, CHANGE_LIMIT, Items, Key, Memory, Owner, Stamp};
 use osm_element::Tags;
 use std::alloc::Global;
 
@@ -94,28 +94,5 @@ impl ChangesetRecord {
         }
         self.touched = join_boxes(self.touched, area);
         Ok(())
-    }
-}
-
-impl TryCopy for Work {
-    fn copy(&self, _: Global) -> Result<Work, Memory> {
-        Ok(*self)
-    }
-}
-
-impl TryCopy for ChangesetRecord {
-    fn copy(&self, alloc: Global) -> Result<ChangesetRecord, Memory> {
-        let owner = self.owner.copy(alloc)?;
-        let tags = self.tags.copy(alloc)?;
-        let did = self.did.copy(alloc)?;
-        Ok(ChangesetRecord {
-            owner,
-            tags,
-            created: self.created,
-            activity: self.activity,
-            ended: self.ended,
-            touched: self.touched,
-            did,
-        })
     }
 }

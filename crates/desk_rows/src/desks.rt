@@ -6,7 +6,7 @@ use http_link::{Desk, Reply};
 use http_wire::Message;
 use journal_text::journal_text;
 use osm_base::{Bytes, Memory};
-use osm_model::Journal;
+use plain_model::Journal;
 use std::alloc::Global;
 use whole_messages::whole_message;
 

@@ -5,7 +5,7 @@ ghost use Rattle.osm_change.specs.Moments.{HasShownMoments};
 ghost use Rattle.osm_model.specs.Act.{act};
 ghost use Rattle.osm_model.specs.Ask.{ask};
 ghost use Rattle.osm_model.specs.Journal.{replay, journal_after};
-ghost use Rattle.osm_model.specs.Judgement.{IsJudgedOn, answer_of, kept_after};
+ghost use Rattle.plain_model.specs.Judgement.{IsJudgedOn, answer_of, kept_after};
 ghost use Rattle.api_desk.specs.Answers.{reply_of};
 
 use crate::desks::Sender;
@@ -15,7 +15,8 @@ use http_wire::Message;
 use osm_base::Memory;
 use osm_change::Answer;
 use osm_json::{answer_body, answer_status};
-use osm_model::{Journal, Judgement, Query};
+use osm_model::Query;
+use plain_model::{Journal, Judgement};
 use plain_reads::plain_ask;
 use route_table::Routes;
 use std::alloc::Global;

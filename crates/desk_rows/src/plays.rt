@@ -2,7 +2,7 @@
 use crate::counts::Counts;
 use crate::desks::{Replies, Sender};
 use crate::meetings::Meeting;
-use osm_model::Journal;
+use plain_model::Journal;
 use std::alloc::Global;
 use std::{io, mem};
 

@@ -1,6 +1,6 @@
 -- Whether an entry may follow others.
-use Rattle.std.proofs.Common.{◌≡◌, ℕ, zero, suc, ◌+◌, true, false, ◌&&◌, List, [], ◌∷◌, ◌++◌, take, Some, refl, sym, ap, ◌∙◌, subst, append_assoc, append-nil}
-use Rattle.std.specs.Prelude.{slice_get, fold, ◌==◌}
+use Rattle.std.proofs.Common.{◌≡◌, ◌+◌, true, false, ◌&&◌, List, [], ◌∷◌, ◌++◌, refl, sym, ap, ◌∙◌, append_assoc, append-nil}
+use Rattle.std.specs.Prelude.{fold, ◌==◌}
 use Rattle.std.proofs.lemmas.Bool.{and_parts, and_from, eqb-true, eq-eqb, true≢false}
 use Rattle.osm_model.specs.Journal.{IsLegal, is_legal_from, is_numbered, takes, calls_of, replay, after}
 use Rattle.osm_model.specs.State.{empty}
@@ -64,16 +64,3 @@ numbered_front before (e ∷ es) more numbered =
 
 pub front_legal : (es more : List Entry) → IsLegal (es ++ more) → IsLegal es
 front_legal es more legal = record { taken = legal_front empty es more legal.taken; numbered = numbered_front [] es more legal.numbered }
-
--- ---- the number of an entry
-
--- the call of the entry at a place is how many calls its session has before it, and one
-pub numbered_at : (before es : List Entry) (n : ℕ) (e : Entry) → is_numbered before es ≡ true → slice_get es n ≡ Some e → e.call ≡ calls_of e.session (before ++ take n es) + 1
-numbered_at before [] n e numbered found = cc
-numbered_at before (x ∷ es) zero e numbered found =
-    let same : x ≡ e = cc in
-    let both = and_parts (x.call == calls_of x.session before + 1) (is_numbered (before ++ x ∷ []) es) numbered in
-    subst (λ (y : Entry). y.call ≡ calls_of y.session (before ++ []) + 1) same (eqb-true x.call (calls_of x.session before + 1) both.0 ∙ ap (λ (xs : List Entry). calls_of x.session xs + 1) (sym (append-nil before)))
-numbered_at before (x ∷ es) (suc n) e numbered found =
-    let both = and_parts (x.call == calls_of x.session before + 1) (is_numbered (before ++ x ∷ []) es) numbered in
-    numbered_at (before ++ x ∷ []) es n e both.1 found ∙ ap (λ (xs : List Entry). calls_of e.session xs + 1) (append_assoc before (x ∷ []) (take n es))

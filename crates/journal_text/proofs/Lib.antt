@@ -1,4 +1,3 @@
-mod Calls
 mod Complete
 mod Found
 mod Hearing

@@ -15,7 +15,8 @@ use crate::law::lines_are_read_in_turn;
 use crate::limits::TEXT_LIMIT;
 use crate::line::line_behind;
 use osm_base::{Bytes, Memory, copy_all, split_once};
-use osm_model::{Entry, Journal};
+use osm_model::Entry;
+use plain_model::Journal;
 use std::alloc::Global;
 
 /// The line before those of the entries, with the byte 10 that ends it.

@@ -5,7 +5,8 @@ ghost use Rattle.journal_text.specs.Kept.{may_follow, kept_by};
 
 use crate::turns::{is_in_turn, take};
 use osm_base::Memory;
-use osm_model::{Entry, Journal};
+use osm_model::Entry;
+use plain_model::Journal;
 use std::alloc::Global;
 
 /// Keeps entries, each of which may follow those before it.

@@ -1,26 +1,11 @@
 //! Whether an entry is the next one of a plain journal.
-ghost use Rattle.std.specs.Prelude.{◌≡◌, ◌<◌, ◌^◌, true, IfOk};
-ghost use Rattle.osm_model.specs.Journal.{IsLegal, calls_of};
+ghost use Rattle.std.specs.Prelude.{◌≡◌, true, IfOk};
 ghost use Rattle.journal_text.specs.Kept.{may_follow, kept_by, is_in_turn};
 
 use osm_base::{Memory, Stamp};
-use osm_model::{Entry, Journal};
+use osm_model::Entry;
+use plain_model::{Journal, calls_of};
 use std::alloc::Global;
-
-/// How many of the entries are of the session. Its calls are numbered from 1, so its last one tells.
-fn calls_of(entries: &[Entry], session: u32) -> u64
-    requires { IsLegal entries.now }
-    ensures counted { result ≡ calls_of session entries.now }
-    ensures few { result < 2 ^ 63 }
-{
-    for place in (0..entries.len()).rev() {
-        let entry = &entries[place];
-        if entry.session == session {
-            return entry.call;
-        }
-    }
-    0
-}
 
 /// Whether the entry has the next number of its session, and a stamp that the last one allows.
 pub(crate) fn is_in_turn(journal: &Journal, entry: &Entry) -> bool

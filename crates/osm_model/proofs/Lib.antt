@@ -3,13 +3,10 @@ pub mod References
 pub mod Versions
 pub mod Underway
 pub mod Made
-pub mod Works
 pub mod Advances
 pub mod Told
 pub mod Asked
 pub mod Replayed
-pub mod JournalLemmas
-pub mod Calls
-mod Opened
+pub mod Taken
 mod Rows
 mod ReadRows

@@ -1,5 +1,5 @@
 -- Steps that may be refused, and what an operation that is passed comes to.
-use Rattle.std.proofs.Common.{◌≡◌, ℕ, suc, ◌+◌, ◌<◌, Bool, true, false, List, [], ◌∷◌, ◌++◌, length, get_or, drop, None, Some, Ok, Err, refl, sym, ap, ◌∙◌, subst, add-one, drop-cons, length-append, arith}
+use Rattle.std.proofs.Common.{◌≡◌, ℕ, ◌+◌, Bool, true, false, List, [], ◌∷◌, ◌++◌, length, None, Some, Ok, Err, refl, ap, ◌∙◌, subst, length-append, arith}
 use Rattle.std.specs.Prelude.{Option, Result}
 use Rattle.osm_base.specs.Outcome.{◌>>=◌}
 use Rattle.osm_base.specs.declared.keys.Kind.{Kind}
@@ -124,33 +124,3 @@ adds-operate_all u g (o ∷ ops) h e =
     let one = adds-operate u g o step.0 step.1 in
     let rest = adds-operate_all u step.0 ops h step.2 in
     record { keys = omega (arith, one.keys, rest.keys); done = omega (arith, one.done, rest.done) }
-
--- ---- the fold, operation by operation
-
--- the fold takes its next operation
-pub operate_all-step :
-    (u : Upload) (g h : Progress) (ops : List Op) (i : ℕ) (o : Op)
-    → i < length ops
-    → o ≡ get_or ops i o
-    → operate u g o ≡ Ok h
-    → operate_all u g (drop i ops) ≡ operate_all u h (drop (i + 1) ops)
-operate_all-step u g h ops i o within here passed =
-    let cut : drop i ops ≡ o ∷ drop (i + 1) ops =
-    rw add-one (drop-cons ops i o within ∙ ap (λ (x : Op). x ∷ drop (suc i) ops) (sym here))
-    in
-    ap (operate_all u g) cut
-    ∙ ap (λ (r : Result Progress Refusal). r >>= λ next. operate_all u next (drop (i + 1) ops)) passed
-
--- and ends with its first refusal
-pub operate_all-refused :
-    (u : Upload) (g : Progress) (ops : List Op) (i : ℕ) (o : Op) (r : Refusal)
-    → i < length ops
-    → o ≡ get_or ops i o
-    → operate u g o ≡ Err r
-    → operate_all u g (drop i ops) ≡ Err r
-operate_all-refused u g ops i o r within here refused =
-    let cut : drop i ops ≡ o ∷ drop (suc i) ops =
-    drop-cons ops i o within ∙ ap (λ (x : Op). x ∷ drop (suc i) ops) (sym here)
-    in
-    ap (operate_all u g) cut
-    ∙ ap (λ (r : Result Progress Refusal). r >>= λ next. operate_all u next (drop (suc i) ops)) refused

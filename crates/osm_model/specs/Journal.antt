@@ -3,8 +3,6 @@ use Rattle.std.specs.Prelude.{◌≡◌, ℕ, ◌+◌, Bool, true, ◌&&◌, ◌
 use Rattle.osm_base.specs.Stamp.{stamp_after}
 use Rattle.osm_base.specs.declared.people.User.{User}
 use Rattle.osm_change.specs.declared.refusals.Refusal.{Refusal}
-use Rattle.osm_element.specs.Elements.{IsConsistent}
-use Rattle.osm_element.specs.Later.{IsBegun}
 use Rattle.osm_model.specs.declared.commands.Command.{Command}
 use Rattle.osm_model.specs.declared.commands.Entry.{Entry}
 use Rattle.osm_model.specs.declared.states.State.{State}
@@ -68,10 +66,3 @@ appended entries e (Err r) = entries
 abbrev pub journal_after : List Entry → ℕ → User → ℕ → Command → List Entry
 journal_after entries session user moment c =
     appended entries (next_entry entries session user moment c) (judge (replay entries) user (stamp_after (replay entries).last moment) c)
-
--- what a journal keeps
-pub record IsJournal (entries : List Entry) (P : State) : Type 0 where
-  pub legal : IsLegal entries
-  pub replayed : P ≡ replay entries
-  pub consistent : IsConsistent P.elements
-  pub begun : IsBegun P.elements

@@ -6,9 +6,7 @@ pub mod Names
 pub mod Operation
 pub mod Fold
 pub mod Act
-pub mod Edit
 pub mod Journal
-pub mod Judgement
 pub mod Reads
 pub mod Selection
 pub mod ChangesetReads

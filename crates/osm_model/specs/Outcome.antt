@@ -9,9 +9,3 @@ abbrev pub Gives : {A : Type 0} → Result A Refusal → Result A Fault → Type
 Gives expected (Ok a) = expected ≡ Ok a
 Gives expected (Err fault.Memory) = ⊤
 Gives expected (Err (fault.Refused r)) = expected ≡ Err r
-
--- it leaves in place what the rules say, unless memory ran out
-abbrev pub Leaves : {A : Type 0} → Result A Refusal → A → Result (Unit {0}) Fault → Type 0
-Leaves expected made (Ok done) = expected ≡ Ok made
-Leaves expected made (Err fault.Memory) = ⊤
-Leaves expected made (Err (fault.Refused r)) = expected ≡ Err r

@@ -1,7 +1,7 @@
 use osm_base::Memory;
 use osm_change::Refusal;
 
-/// Why a step of the plain program has no result.
+/// Why a command, or a step of one, has no result.
 #[derive(Drop)]
 pub enum Fault {
     Memory,

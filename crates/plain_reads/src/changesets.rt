@@ -8,7 +8,8 @@ use changeset_core::{ChangesetRecord, Work};
 use osm_base::{Box7, Items, Memory, QUERY_LIMIT, Stamp};
 use osm_change::{ChangesetRow, Refusal, Shown};
 use osm_element::Elements;
-use osm_model::{Fault, State, changeset_row};
+use osm_model::{Fault, State};
+use plain_model::changeset_row;
 use std::alloc::Global;
 
 /// A changeset as it is at a stamp.

@@ -3,8 +3,9 @@ ghost use Rattle.std.specs.Prelude.{◌≡◌, ◌+◌, ◌<◌, length, OnOk, O
 
 use crate::compared::difference;
 use osm_base::{Memory, TryCopy};
-use osm_model::{Entry, Journal};
+use osm_model::Entry;
 use osm_world::World;
+use plain_model::Journal;
 use std::alloc::Global;
 use std::marker::Model;
 

@@ -1,10 +1,11 @@
-//! Calls at values that were worked out by hand: of tables, changes, loads and answers. What each
-//! must give stands beside it. Bodies and journals come from the input, with what each must be read
-//! as; docs/ROWS.md tells more.
+//! Calls at values that were worked out by hand: of tables, changes, commands, loads and answers. What
+//! each must give stands beside it. Bodies and journals come from the input, with what each must be
+//! read as; docs/ROWS.md tells more.
 #![tactic(auto)]
 
 mod answers;
 mod changes;
+mod commands;
 mod labels;
 mod loads;
 mod tables;
@@ -21,6 +22,7 @@ fn main(rt: HostRuntime) -> io::Result<ExitCode> {
     tables::play(&rt, alloc, &mut tally);
     values::play(&rt, alloc, &mut tally);
     changes::play(&rt, alloc, &mut tally);
+    commands::play(&rt, alloc, &mut tally);
     loads::play(&rt, alloc, &mut tally);
     answers::play(&rt, alloc, &mut tally);
     tally.tell(&rt)?;

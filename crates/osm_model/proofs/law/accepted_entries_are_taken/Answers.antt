@@ -1,4 +1,4 @@
-use Rattle.osm_model.proofs.JournalLemmas.{entry_taken}
+use Rattle.osm_model.proofs.Taken.{entry_taken}
 use Rattle.osm_model.proofs.law.accepted_entries_are_taken.Goals as goal
 
 pub returns : goal.returns

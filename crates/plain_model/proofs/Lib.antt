@@ -1,0 +1,5 @@
+mod Calls
+mod Folding
+mod JournalLemmas
+mod Opened
+mod Works

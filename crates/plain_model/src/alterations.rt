@@ -1,0 +1,84 @@
+ghost use Rattle.std.specs.Prelude.{◌≡◌, ◌-◌, OnOk, OnErr, slice_get, Some};
+ghost use Rattle.plain_model.specs.Alteration.{state_after, CanTake};
+
+use changeset_core::{ChangesetRecord, Work};
+use osm_base::{Box7, Items, Key, Memory, Stamp, Text};
+use osm_element::{Elements, Tags};
+use osm_model::State;
+
+/// What an accepted command changes, the last stamp aside.
+#[derive(Drop)]
+pub enum Alteration {
+    AddChangeset(ChangesetRecord),
+    /// Other tags, which is activity at the stamp.
+    SetTags {
+        changeset: u64,
+        tags: Tags,
+        at: Stamp,
+    },
+    SetEnd {
+        changeset: u64,
+        at: Stamp,
+    },
+    /// The elements that an upload at the stamp leaves, and for its changeset the versions that it
+    /// made, in order, and the box of what it touched.
+    EnterWork {
+        changeset: u64,
+        at: Stamp,
+        elements: Elements,
+        works: Items<Work>,
+        touched: Option<Box7>,
+    },
+    AddRedaction(Text),
+    Mark {
+        key: Key,
+        version: u64,
+        redaction: Option<u64>,
+    },
+}
+
+/// Takes the alteration. Want of memory leaves the state as it was.
+pub fn take_alteration(state: &mut State, alteration: Alteration) -> Result<(), Memory>
+    requires { CanTake state.old alteration }
+    ensures ok { OnOk result (state.new ≡ state_after state.old alteration) }
+    ensures memory { OnErr result (state.new ≡ state.old) }
+{
+    match alteration {
+        Alteration::AddChangeset(made) => state.changesets.push(made),
+        Alteration::SetTags {
+            changeset,
+            tags,
+            at,
+        } => {
+            let kept = state.changesets.item_mut(changeset as usize - 1);
+            kept.tags = tags;
+            kept.activity = at;
+            Ok(())
+        }
+        Alteration::SetEnd { changeset, at } => {
+            state.changesets.item_mut(changeset as usize - 1).ended = Some(at);
+            Ok(())
+        }
+        Alteration::EnterWork {
+            changeset,
+            at,
+            elements,
+            works,
+            touched,
+        } => {
+            let kept = state.changesets.item_mut(changeset as usize - 1);
+            kept.work(works.items(), touched, at)?;
+            state.elements = elements;
+            Ok(())
+        }
+        Alteration::AddRedaction(title) => state.redactions.push(title),
+        Alteration::Mark {
+            key,
+            version,
+            redaction,
+        } => {
+            state.elements.mark(key, version, redaction);
+            Ok(())
+        }
+    }
+}
