@@ -1,7 +1,9 @@
 ghost use Rattle.std.specs.Prelude.{◌≡◌, map, position, option_copied, IfOk};
 ghost use Rattle.osm_base.specs.Key.{key_eq};
 ghost use Rattle.osm_change.specs.Said.{placeholder_in};
-ghost use Rattle.osm_model.specs.Names.{id_of, of_kind, known_key, said, said_made, said_key, with_ids, member_with_id};
+ghost use Rattle.osm_change.specs.Keys.{id_of};
+ghost use Rattle.osm_change.specs.Names.{said, said_made};
+ghost use Rattle.osm_model.specs.Names.{of_kind, known_key, said_key, with_ids, member_with_id};
 
 use crate::uploads::{Progress, UploadTask};
 use osm_base::{Items, Key, Kind, Memory, TryCopy};
