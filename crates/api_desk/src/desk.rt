@@ -56,7 +56,7 @@ fn change<L: Ledger>(
 }
 
 /// The number of a session's next call.
-fn next_call(book: &Book<MapMachine>, session: u32) -> u64
+pub fn next_call(book: &Book<MapMachine>, session: u32) -> u64
     ensures { result ≡ calls_of session book.now + 1 }
 {
     one_more(book.calls(session), book.journal())

@@ -1,12 +1,11 @@
 //! What a command that is no upload comes to on a world, before anything of the world is changed.
-ghost use Rattle.std.specs.Prelude.{◌≡◌, true, Ok, Err, IfOk, IfErr, MatchResult};
+ghost use Rattle.std.specs.Prelude.{◌≡◌, true, IfOk, IfErr};
 ghost use Rattle.osm_change.specs.Moments.{HasShownLife, RefusalHasShownEnd};
 ghost use Rattle.changeset_core.specs.Changeset.{is_open, retagged};
 ghost use Rattle.changeset_core.specs.Timely.{IsTimelyRecord};
 ghost use Rattle.osm_model.specs.Act.{judge, retag, close_changeset, known_version, known_redaction, old_version, redact, unredact};
 ghost use Rattle.osm_model.specs.Changeset.{changeset_row};
 ghost use Rattle.osm_model.specs.Outcome.{Gives};
-ghost use Rattle.osm_model.specs.State.{own_changeset};
 ghost use Rattle.osm_world.specs.World.{state_of};
 ghost use Rattle.upload_check.specs.Commands.{IsOther};
 ghost use Rattle.api_desk.specs.Judging.{Judges, IsShown, told};
@@ -18,38 +17,6 @@ use osm_element::Tags;
 use osm_model::{Command, Fault};
 use osm_world::World;
 use std::alloc::Global;
-
-/// A changeset that the user may work on at a stamp: its owner is tested before whether it is open.
-fn own_changeset<'a>(
-    world: &'a World,
-    user: &User,
-    at: Stamp,
-    id: u64,
-) -> Result<&'a Changeset, Refusal>
-    ensures value { MatchResult result (λ found. own_changeset (state_of world.now) user.now at id ≡ Ok found.now.kept)
-        (λ refusal. own_changeset (state_of world.now) user.now at id ≡ Err refusal) }
-    ensures open { IfOk result (λ found. is_open found.now.kept at ≡ true) }
-    ensures timely { IfOk result (λ found. IsTimelyRecord found.now.kept) }
-    ensures shown { IfErr result RefusalHasShownEnd }
-{
-    let Some(found) = world.changeset(id) else {
-        return Err(Refusal::NoChangeset { id });
-    };
-    if found.owner().id != user.id {
-        return Err(Refusal::NotOwner {
-            changeset: id,
-            owner: found.owner().id,
-        });
-    }
-    let closes = found.closes();
-    if at.seconds() < closes.seconds() {
-        return Ok(found);
-    }
-    Err(Refusal::Closed {
-        changeset: id,
-        closed_at: closes,
-    })
-}
 
 /// A changeset as the client is told who gives it other tags at a stamp. That is activity, so it
 /// stays open.
@@ -89,7 +56,7 @@ fn retag(
     ensures gives { Gives (told (retag (state_of world.now) user.now at id tags.now)) result }
     ensures shown { IsShown result }
 {
-    let found = own_changeset(world, user, at, id)?;
+    let found = world.own_changeset(user, at, id)?;
     let row = retagged_row(alloc, id, found, tags, at)?;
     Ok(Answer::Changeset(row))
 }
@@ -98,7 +65,7 @@ fn close_changeset(world: &World, user: &User, at: Stamp, id: u64) -> Result<Ans
     ensures gives { Gives (told (close_changeset (state_of world.now) user.now at id)) result }
     ensures shown { IsShown result }
 {
-    own_changeset(world, user, at, id)?;
+    world.own_changeset(user, at, id)?;
     Ok(Answer::Nothing)
 }
 

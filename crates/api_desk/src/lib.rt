@@ -23,7 +23,7 @@ mod tasks;
 mod world_asks;
 mod world_rows;
 
-pub use desk::OneDesk;
+pub use desk::{OneDesk, next_call};
 pub use faults::RequestFault;
 pub use hub_desk::{HubDesk, MapHub, MapSession};
 pub use hub_law::{

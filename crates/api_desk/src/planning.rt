@@ -1,7 +1,7 @@
 //! What is planned of a user's command, where the plan stands, and what it comes to.
 ghost use Rattle.std.specs.Prelude.{◌≡◌, ◌<◌, ◌+◌, [], true, length, IfOk, MatchResult};
 ghost use Rattle.osm_base.specs.Stamp.{stamp_after};
-ghost use Rattle.osm_change.specs.Keys.{next_of, key_of, keys_of};
+ghost use Rattle.osm_change.specs.Keys.{key_of, keys_of};
 ghost use Rattle.diff_result.specs.Counted.{HasNumbers};
 ghost use Rattle.osm_later.specs.Plan.{StandsOn};
 ghost use Rattle.osm_model.specs.Act.{judge, number_of, single_number};
@@ -18,7 +18,7 @@ ghost use Rattle.api_desk.specs.declared.requests.Asked.{Asked};
 use crate::plans::MapPlan;
 use crate::requests::Asked;
 use machine_law::Tag;
-use osm_base::{Kind, Memory, Stamp, Steps, TryCopy};
+use osm_base::{Memory, Stamp, Steps, TryCopy};
 use osm_change::{Answer, Change, FirstIds, OneOp, Op, OpDone, OpDones, kind_of};
 use osm_model::{Command, Entry, Fault};
 use osm_world::World;
@@ -83,23 +83,12 @@ pub fn command_still(world: &World, plan: &MapPlan) -> Result<(), Look>
     }
 }
 
-/// The id that the first create of a kind gets.
-fn first_id(first: FirstIds, kind: Kind) -> u64
-    ensures { result ≡ next_of first kind }
-{
-    match kind {
-        Kind::Node => first.node,
-        Kind::Way => first.way,
-        Kind::Relation => first.relation,
-    }
-}
-
 /// The new id of a create, else the version.
 fn number_of(operation: &Op, first: FirstIds, done: OpDone) -> u64
     ensures { result ≡ number_of operation.now (key_of [] first operation.now) done }
 {
     match operation {
-        Op::Create { content, .. } => first_id(first, kind_of(content)),
+        Op::Create { content, .. } => first.next(kind_of(content)),
         Op::Modify { .. } | Op::Delete { .. } => done.version(),
     }
 }

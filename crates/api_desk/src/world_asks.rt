@@ -4,7 +4,7 @@ ghost use Rattle.osm_change.specs.declared.answers.Answer.TheVariants as answers
 ghost use Rattle.osm_change.specs.declared.reads.MapFault.{MapFault};
 ghost use Rattle.osm_change.specs.declared.reads.ReadFault.{ReadFault};
 ghost use Rattle.osm_change.specs.declared.reads.Shown.{Shown};
-ghost use Rattle.osm_model.specs.Ask.{ask, ask_at, not_found, read_refusal, elements_answer, one_answer, read_answer, map_refusal, map_answer, changeset_answer, download_answer};
+ghost use Rattle.osm_model.specs.Ask.{ask, ask_at, elements_answer, one_answer, read_answer, map_refusal, map_answer, changeset_answer, download_answer};
 ghost use Rattle.osm_model.specs.ChangesetReads.{read_changeset, download};
 ghost use Rattle.osm_model.specs.Selection.{map_of};
 ghost use Rattle.osm_world.specs.World.{state_of};
@@ -13,8 +13,8 @@ ghost use Rattle.read_calls.specs.Read.{IsRead};
 use crate::world_rows::{element_rows, selected_rows};
 use changeset_calls::{ChangesetFault, download, query, read};
 use map_call::map;
-use osm_base::{AREA_LIMIT, Box7, Items, Key, MAP_NODE_LIMIT, Memory, Stamp, Steps};
-use osm_change::{Answer, MapFault, ReadFault, Refusal, Said, Selection, Shown};
+use osm_base::{AREA_LIMIT, Box7, Items, MAP_NODE_LIMIT, Memory, Stamp, Steps};
+use osm_change::{Answer, MapFault, ReadFault, Refusal, Selection, Shown};
 use osm_model::{Query, answers_have_moments};
 use osm_world::World;
 use read_calls::{full, history, many, one, relations_of, version, ways_of};
@@ -94,45 +94,6 @@ fn elements_answer<'a>(
     Ok(Answer::Elements { bounds: None, rows })
 }
 
-/// An element that never existed has version 0.
-fn not_found(key: Key, version: u64) -> Refusal
-    ensures { result ≡ not_found key version }
-{
-    let id = Said::Id(key.id);
-    let kind = key.kind;
-    if version == 0 {
-        Refusal::NoElement { id, op: None, kind }
-    } else {
-        Refusal::NoSuchVersion { id, kind, version }
-    }
-}
-
-/// The refusal of a read, unless memory ran out.
-fn refused_read<'a>(fault: ReadFault) -> Result<Answer<'a>, Memory>
-    ensures { IfOk result (λ answer. (answer ≡ answers.Refused (read_refusal fault)) × (fault ≢ ReadFault.Memory)) }
-{
-    match fault {
-        ReadFault::NotFound { key, version } => Ok(Answer::Refused(not_found(key, version))),
-        ReadFault::Gone { key, version } => Ok(Answer::Refused(Refusal::Gone {
-            id: Said::Id(key.id),
-            op: None,
-            kind: key.kind,
-            version,
-        })),
-        ReadFault::Redacted {
-            key,
-            version,
-            redaction,
-        } => Ok(Answer::Refused(Refusal::Redacted {
-            id: Said::Id(key.id),
-            redaction,
-            kind: key.kind,
-            version,
-        })),
-        ReadFault::Memory => Err(Memory),
-    }
-}
-
 fn one_answer<'a>(
     alloc: Global,
     world: &'a World,
@@ -145,7 +106,7 @@ fn one_answer<'a>(
             let rows = element_rows(alloc, world, &[shown])?;
             Ok(Answer::Elements { bounds: None, rows })
         }
-        Err(fault) => refused_read(fault),
+        Err(fault) => fault.answer(),
     }
 }
 
@@ -158,7 +119,7 @@ fn read_answer<'a>(
 {
     match read {
         Ok(shown) => elements_answer(alloc, world, &shown),
-        Err(fault) => refused_read(fault),
+        Err(fault) => fault.answer(),
     }
 }
 

@@ -7,11 +7,13 @@ mod areas;
 mod changesets;
 mod law;
 mod lives;
+mod places;
 mod records;
 mod touched;
 
-pub use areas::{join_boxes, widened};
+pub use areas::join_boxes;
 pub use changesets::Changeset;
 pub use law::{boxes_are_joined, ends_are_bounded, records_stay_timely};
+pub use places::Places;
 pub use records::{ChangesetRecord, Work};
 pub use touched::touched_area;

@@ -3,74 +3,75 @@ ghost use Rattle.osm_element.specs.Elements.{key, key_of_member, position_in, re
 ghost use Rattle.changeset_core.specs.Changeset.{touched_area, widen_all, widen_by};
 
 use crate::areas::widened;
+use crate::places::Places;
 use osm_base::{Box7, Key, Kind};
-use osm_element::{Content, Elements, Member};
+use osm_element::{Content, Member};
 
 /// The least box of what a new content of an element touches, `None` where it touches nothing.
-pub fn touched_area(elements: &Elements, key: Key, new: &Option<Content<u64>>) -> Option<Box7>
-    ensures { result ≡ touched_area elements.now key new.now }
+pub fn touched_area<P: Places>(places: &P, key: Key, new: &Option<Content<u64>>) -> Option<Box7>
+    ensures { result ≡ touched_area (P.elements places.now) key new.now }
 {
-    let area = with_element(elements, None, key);
-    let area = with_old(elements, area, key);
+    let area = with_element(places, None, key);
+    let area = with_old(places, area, key);
     match new {
-        Some(new) => with_position(with_listed(elements, area, new), new),
+        Some(new) => with_position(with_listed(places, area, new), new),
         None => area,
     }
 }
 
 /// The box with the place of an element, if it is a visible node.
-fn with_element(elements: &Elements, area: Option<Box7>, key: Key) -> Option<Box7>
-    ensures { result ≡ widen_by elements.now area (key ∷ []) }
+fn with_element<P: Places>(places: &P, area: Option<Box7>, key: Key) -> Option<Box7>
+    ensures { result ≡ widen_by (P.elements places.now) area (key ∷ []) }
 {
-    match elements.position(key) {
+    match places.place_of(key) {
         Some(at) => widened(area, at),
         None => area,
     }
 }
 
 /// The box with the places of what an element lists.
-fn with_old(elements: &Elements, area: Option<Box7>, key: Key) -> Option<Box7>
-    ensures { result ≡ widen_by elements.now area (refs_of elements.now key) }
+fn with_old<P: Places>(places: &P, area: Option<Box7>, key: Key) -> Option<Box7>
+    ensures { result ≡ widen_by (P.elements places.now) area (refs_of (P.elements places.now) key) }
 {
-    match elements.content(key) {
-        Some(content) => with_listed(elements, area, content),
+    match places.content_of(key) {
+        Some(content) => with_listed(places, area, content),
         None => area,
     }
 }
 
 /// The box with the places of what a content lists.
-fn with_listed(elements: &Elements, area: Option<Box7>, content: &Content<u64>) -> Option<Box7>
-    ensures { result ≡ widen_by elements.now area (refs content.now) }
+fn with_listed<P: Places>(places: &P, area: Option<Box7>, content: &Content<u64>) -> Option<Box7>
+    ensures { result ≡ widen_by (P.elements places.now) area (refs content.now) }
 {
     match content {
         Content::Node(_) => area,
-        Content::Way(nodes) => with_nodes(elements, area, nodes.items()),
-        Content::Relation(members) => with_members(elements, area, members.items()),
+        Content::Way(nodes) => with_nodes(places, area, nodes.items()),
+        Content::Relation(members) => with_members(places, area, members.items()),
     }
 }
 
-fn with_nodes(elements: &Elements, mut area: Option<Box7>, nodes: &[u64]) -> Option<Box7>
-    ensures { result ≡ widen_by elements.now area (map (key Kind.Node) nodes.now) }
+fn with_nodes<P: Places>(places: &P, mut area: Option<Box7>, nodes: &[u64]) -> Option<Box7>
+    ensures { result ≡ widen_by (P.elements places.now) area (map (key Kind.Node) nodes.now) }
 {
     for id in nodes {
         let node = Key {
             kind: Kind::Node,
             id: *id,
         };
-        area = with_element(elements, area, node);
+        area = with_element(places, area, node);
     }
     area
 }
 
-fn with_members(
-    elements: &Elements,
+fn with_members<P: Places>(
+    places: &P,
     mut area: Option<Box7>,
     members: &[Member<u64>],
 ) -> Option<Box7>
-    ensures { result ≡ widen_by elements.now area (map key_of_member members.now) }
+    ensures { result ≡ widen_by (P.elements places.now) area (map key_of_member members.now) }
 {
     for member in members {
-        area = with_element(elements, area, member.key());
+        area = with_element(places, area, member.key());
     }
     area
 }

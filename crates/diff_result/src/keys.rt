@@ -1,9 +1,9 @@
 ghost use Rattle.std.specs.Prelude.{◌≡◌, length, IfOk};
-ghost use Rattle.osm_change.specs.Keys.{next_of, one_more, ids_after, id_of, key_of, keys_of};
+ghost use Rattle.osm_change.specs.Keys.{next_of, one_more, ids_after, key_of, keys_of};
 ghost use Rattle.diff_result.specs.Counted.{HasNumbers};
 
 use osm_base::{Key, Kind, Memory};
-use osm_change::{FirstIds, Name, Op, kind_of};
+use osm_change::{FirstIds, Op, kind_of};
 use std::alloc::Global;
 
 /// The element of each operation.
@@ -35,14 +35,8 @@ fn take_key(keys: &[Key], next: &mut FirstIds, operation: &Op) -> Key
                 id: take_id(next, kind),
             }
         }
-        Op::Modify { name, content, .. } => Key {
-            kind: kind_of(content),
-            id: id_of(keys, *name),
-        },
-        Op::Delete { kind, name, .. } => Key {
-            kind: *kind,
-            id: id_of(keys, *name),
-        },
+        Op::Modify { name, content, .. } => name.key(kind_of(content), keys),
+        Op::Delete { kind, name, .. } => name.key(*kind, keys),
     }
 }
 
@@ -64,15 +58,5 @@ fn take_id(next: &mut FirstIds, kind: Kind) -> u64
             next.relation += 1;
             next.relation - 1
         }
-    }
-}
-
-/// The id of a named element; 0 at a place that no operation before has, which no change names.
-fn id_of(keys: &[Key], name: Name) -> u64
-    ensures { result ≡ id_of keys.now name }
-{
-    match name {
-        Name::Old(id) => id,
-        Name::New(place) => keys.get(place as usize).map_or(0, |key| key.id),
     }
 }

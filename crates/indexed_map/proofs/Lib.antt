@@ -1,5 +1,4 @@
 mod Indexing
 mod UseSteps
 mod Moved
-mod WidenBy
 mod Empty

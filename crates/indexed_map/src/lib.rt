@@ -5,7 +5,6 @@
 mod maps;
 mod moves;
 mod promises;
-mod touched;
 mod usage;
 
 pub use maps::IndexedMap;

@@ -14,8 +14,8 @@ use crate::moves::move_node;
 use crate::promises::{
     forget_places, forget_uses, forget_versions, promise_place, promise_uses, promise_version,
 };
-use crate::touched::touched_area;
 use crate::usage::{begin_uses, current_content, end_uses};
+use changeset_core::{Places, touched_area};
 use history_store::Store;
 use osm_base::{Box7, Coord, Key, Kind, Memory};
 use osm_element::{Content, Version};
@@ -120,7 +120,7 @@ impl IndexedMap {
     pub fn touched_area(&self, key: Key, new: &Option<Content<u64>>) -> Option<Box7>
         ensures { result ≡ touched_area self.now.elements key new.now }
     {
-        touched_area(&self.store, key, new)
+        touched_area(self, key, new)
     }
 
     /// Promises room for one more version of an element, for uses of what is `listed`, and for the
@@ -181,5 +181,17 @@ impl IndexedMap {
         end_uses(&self.store, &mut self.users, key, listed);
         begin_uses(&mut self.users, key, listed);
         self.store.push_version(key, version);
+    }
+}
+
+impl Places for IndexedMap {
+    ghost elements = { λ map. map.elements };
+
+    fn place_of(&self, key: Key) -> Option<Coord> {
+        self.store.place_of(key)
+    }
+
+    fn content_of(&self, key: Key) -> Option<&Content<u64>> {
+        current_content(&self.store, key)
     }
 }

@@ -4,15 +4,15 @@ ghost use Rattle.serde_json.specs.Data.{string};
 ghost use Rattle.osm_json.specs.Fields.{shown_fields};
 ghost use Rattle.osm_json.specs.Rows.{tags as tags_data};
 ghost use Rattle.osm_json.specs.Sent.{Sends, tokens_of};
-ghost use Rattle.osm_json.specs.Shown.{field, record_of, natural, kind_name};
+ghost use Rattle.osm_json.specs.Shown.{field, record_of, natural};
 ghost use Rattle.osm_json.specs.Uploads.{change as change_data};
 ghost use Rattle.journal_text.specs.Line.{command as command_data, user as user_data, line_data};
 
 use json::Writer;
-use osm_base::{Key, Kind, User};
+use osm_base::{Key, User};
 use osm_change::Change;
 use osm_element::Tags;
-use osm_json::{Shown, write_change, write_members, write_record, write_tags};
+use osm_json::{Shown, kind_name, write_change, write_members, write_record, write_tags};
 use osm_model::{Command, Entry};
 use std::alloc::AllocError;
 
@@ -64,16 +64,6 @@ fn with_change(
     out.end_object()
 }
 
-fn name_of(kind: Kind) -> &'static str
-    ensures { result.now ≡ kind_name kind }
-{
-    match kind {
-        Kind::Node => "node",
-        Kind::Way => "way",
-        Kind::Relation => "relation",
-    }
-}
-
 #[tactic(auto, unfolding(crate::specs::Line::command))]
 fn redact(out: &mut Writer, key: Key, version: u64, redaction: u64) -> Result<(), AllocError>
     ensures { Sends result out.old out.new (tokens_of (command_data (Command.Redact key version redaction))) }
@@ -84,7 +74,7 @@ fn redact(out: &mut Writer, key: Key, version: u64, redaction: u64) -> Result<()
             ("act", Shown::Text("redact")),
             ("id", Shown::Natural(key.id)),
             ("redaction", Shown::Natural(redaction)),
-            ("type", Shown::Text(name_of(key.kind))),
+            ("type", Shown::Text(kind_name(key.kind))),
             ("version", Shown::Natural(version)),
         ],
     )
@@ -99,7 +89,7 @@ fn unredact(out: &mut Writer, key: Key, version: u64) -> Result<(), AllocError>
         &[
             ("act", Shown::Text("unredact")),
             ("id", Shown::Natural(key.id)),
-            ("type", Shown::Text(name_of(key.kind))),
+            ("type", Shown::Text(kind_name(key.kind))),
             ("version", Shown::Natural(version)),
         ],
     )

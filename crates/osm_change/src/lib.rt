@@ -7,6 +7,7 @@ mod causes;
 mod changes;
 mod law;
 mod listed;
+mod names;
 mod operations;
 mod raw;
 mod reads;
@@ -20,7 +21,8 @@ pub use answers::{
 pub use causes::{Cause, ShapeFault};
 pub use changes::Change;
 pub use law::{changes_are_read_again, names_are_said};
-pub use listed::{kind_of, names_listed};
+pub use listed::kind_of;
+pub use names::said_made;
 pub use operations::{FirstIds, Name, Named, Op, OpDone, OpDones};
 pub use raw::{Action, RawOp};
 pub use reads::{MapFault, ReadFault, Selection, Shown};

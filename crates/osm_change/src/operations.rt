@@ -1,3 +1,4 @@
+use crate::listed::kind_of;
 use osm_base::{Items, Kind, Memory, TryCopy};
 use osm_element::{Content, Tags};
 use std::alloc::Global;
@@ -123,4 +124,47 @@ pub struct FirstIds {
     pub node: u64,
     pub way: u64,
     pub relation: u64,
+}
+
+impl FirstIds {
+    ghost use Rattle.std.specs.Prelude.{◌≡◌, IfOk};
+    ghost use Rattle.osm_change.specs.Keys.{next_of, one_more, ids_after};
+
+    /// The id that the next element of a kind gets.
+    pub fn next(self, kind: Kind) -> u64
+        ensures { result ≡ next_of self kind }
+    {
+        match kind {
+            Kind::Node => self.node,
+            Kind::Way => self.way,
+            Kind::Relation => self.relation,
+        }
+    }
+
+    fn one_more(self, kind: Kind) -> Result<FirstIds, Memory>
+        ensures { IfOk result (λ next. next ≡ one_more self kind) }
+    {
+        let Some(id) = self.next(kind).checked_add(1) else {
+            return Err(Memory);
+        };
+        match kind {
+            Kind::Node => Ok(FirstIds { node: id, ..self }),
+            Kind::Way => Ok(FirstIds { way: id, ..self }),
+            Kind::Relation => Ok(FirstIds {
+                relation: id,
+                ..self
+            }),
+        }
+    }
+
+    /// The ids after an operation: a create takes the next one of its kind. `Memory` where no id is
+    /// left, which no map comes to.
+    pub fn after(self, operation: &Op) -> Result<FirstIds, Memory>
+        ensures { IfOk result (λ next. next ≡ ids_after self operation.now) }
+    {
+        match operation {
+            Op::Create { content, .. } => self.one_more(kind_of(content)),
+            _ => Ok(self),
+        }
+    }
 }

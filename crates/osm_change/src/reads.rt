@@ -1,3 +1,5 @@
+use crate::answers::Answer;
+use crate::refusals::{Refusal, Said};
 use osm_base::{Ids, Key, Memory};
 
 /// One version of an element, as a read shows it.
@@ -38,6 +40,54 @@ impl From<Memory> for ReadFault {
 
     fn from(_: Memory) -> Self {
         ReadFault::Memory
+    }
+}
+
+impl ReadFault {
+    ghost use Rattle.std.specs.Prelude.{◌≡◌, ◌≢◌, IfOk};
+    ghost use Rattle.osm_change.specs.Reads.{read_refusal};
+    ghost use Rattle.osm_change.specs.declared.answers.Answer.TheVariants as answers;
+
+    /// What the read is answered, unless memory ran out.
+    pub fn answer<'a>(self) -> Result<Answer<'a>, Memory>
+        ensures { IfOk result (λ answer. (answer ≡ answers.Refused (read_refusal self)) × (self ≢ ReadFault.Memory)) }
+    {
+        match self {
+            ReadFault::NotFound { key, version } => Ok(Answer::Refused(not_found(key, version))),
+            ReadFault::Gone { key, version } => Ok(Answer::Refused(Refusal::Gone {
+                id: Said::Id(key.id),
+                op: None,
+                kind: key.kind,
+                version,
+            })),
+            ReadFault::Redacted {
+                key,
+                version,
+                redaction,
+            } => Ok(Answer::Refused(Refusal::Redacted {
+                id: Said::Id(key.id),
+                redaction,
+                kind: key.kind,
+                version,
+            })),
+            ReadFault::Memory => Err(Memory),
+        }
+    }
+}
+
+ghost use Rattle.std.specs.Prelude.{◌≡◌};
+ghost use Rattle.osm_change.specs.Reads.{not_found};
+
+/// An element that never existed has version 0.
+fn not_found(key: Key, version: u64) -> Refusal
+    ensures { result ≡ not_found key version }
+{
+    let id = Said::Id(key.id);
+    let kind = key.kind;
+    if version == 0 {
+        Refusal::NoElement { id, op: None, kind }
+    } else {
+        Refusal::NoSuchVersion { id, kind, version }
     }
 }
 

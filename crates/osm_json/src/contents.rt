@@ -6,7 +6,7 @@ ghost use Rattle.osm_json.specs.Fields.{IsMember};
 ghost use Rattle.osm_json.specs.Rows.{reference as reference_data, content_fields, visible_fields, tag_field, tags as tags_data, tags_fields, box_fields};
 ghost use Rattle.osm_json.specs.Sent.{Sends, SendsFields, tokens_of};
 
-use crate::send::{Shown, members, name_of, record, text};
+use crate::send::{Shown, kind_name, members, record, text};
 use json::Writer;
 use osm_base::{Box7, Coord, Text};
 use osm_element::{Content, Member, Tags, Version};
@@ -53,7 +53,7 @@ fn reference(out: &mut Writer, member: &Member<u64>) -> Result<(), AllocError>
         &[
             ("ref", Shown::Natural(member.name)),
             ("role", Shown::Text(member.role.as_str())),
-            ("type", Shown::Text(name_of(member.kind))),
+            ("type", Shown::Text(kind_name(member.kind))),
         ],
     )
 }

@@ -3,7 +3,7 @@ ghost use Rattle.std.specs.Prelude.{flat_map};
 ghost use Rattle.osm_json.specs.Rows.{diff_row as diff_row_data, diff as diff_data};
 ghost use Rattle.osm_json.specs.Sent.{Sends, tokens_of};
 
-use crate::send::{Shown, name_of, optional, record, version};
+use crate::send::{Shown, kind_name, optional, record, version};
 use json::Writer;
 use osm_change::DiffRow;
 use std::alloc::AllocError;
@@ -18,7 +18,7 @@ fn diff_row(out: &mut Writer, row: &DiffRow) -> Result<(), AllocError>
             ("new_id", optional(row.new_id)),
             ("new_version", optional(row.new_version)),
             ("old_id", Shown::Integer(row.old_id)),
-            ("type", Shown::Text(name_of(row.kind))),
+            ("type", Shown::Text(kind_name(row.kind))),
         ],
     )
 }

@@ -6,7 +6,7 @@ ghost use Rattle.osm_change.specs.Moments.{HasShownStamp};
 ghost use Rattle.osm_json.specs.Sent.{Sends, SendsFields, tokens_of};
 
 use crate::contents::{edges, visible, visible_tags};
-use crate::send::{Shown, members, moment, name_of, optional, version};
+use crate::send::{Shown, kind_name, members, moment, optional, version};
 use json::Writer;
 use osm_base::Box7;
 use osm_change::ElementRow;
@@ -37,7 +37,7 @@ fn origin(out: &mut Writer, row: &ElementRow<'_>) -> Result<(), AllocError>
     members(
         out,
         &[
-            ("type", Shown::Text(name_of(row.key.kind))),
+            ("type", Shown::Text(kind_name(row.key.kind))),
             ("uid", Shown::Natural(row.owner.id)),
             ("user", Shown::Text(row.owner.name.as_str())),
             ("version", Shown::Natural(row.number)),

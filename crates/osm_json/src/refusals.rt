@@ -5,7 +5,7 @@ ghost use Rattle.osm_json.specs.Refused.{local_name as name_of_local, error_name
 ghost use Rattle.osm_change.specs.Moments.{IsShownMoment, RefusalHasShownEnd};
 ghost use Rattle.osm_json.specs.Sent.{Sends, SendsFields, tokens_of};
 
-use crate::send::{Shown, members, moment, name_of, natural, operation, said, text};
+use crate::send::{Shown, kind_name, members, moment, natural, operation, said, text};
 use json::Writer;
 use osm_base::{Kind, Stamp};
 use osm_change::{Refusal, Said};
@@ -169,7 +169,7 @@ fn element(out: &mut Writer, id: Said, op: Option<u32>, kind: Kind) -> Result<()
         &[
             ("id", said(id)),
             ("op", operation(op)),
-            ("type", Shown::Text(name_of(kind))),
+            ("type", Shown::Text(kind_name(kind))),
         ],
     )
 }
@@ -188,7 +188,7 @@ fn current(
         &[
             ("id", said(id)),
             ("op", operation(op)),
-            ("type", Shown::Text(name_of(kind))),
+            ("type", Shown::Text(kind_name(kind))),
             ("version", Shown::Natural(version)),
         ],
     )
@@ -201,7 +201,7 @@ fn one_version(out: &mut Writer, id: Said, kind: Kind, version: u64) -> Result<(
         out,
         &[
             ("id", said(id)),
-            ("type", Shown::Text(name_of(kind))),
+            ("type", Shown::Text(kind_name(kind))),
             ("version", Shown::Natural(version)),
         ],
     )
@@ -224,7 +224,7 @@ fn conflict(
             ("id", said(id)),
             ("op", operation(op)),
             ("provided", Shown::Natural(provided)),
-            ("type", Shown::Text(name_of(kind))),
+            ("type", Shown::Text(kind_name(kind))),
         ],
     )
 }
@@ -236,7 +236,7 @@ fn user(out: &mut Writer, id: Said, kind: Kind, version: u64) -> Result<(), Allo
         out,
         &[
             ("user_id", said(id)),
-            ("user_type", Shown::Text(name_of(kind))),
+            ("user_type", Shown::Text(kind_name(kind))),
             ("user_version", Shown::Natural(version)),
         ],
     )
@@ -256,7 +256,7 @@ fn redacted(
         &[
             ("id", said(id)),
             ("redaction", Shown::Natural(redaction)),
-            ("type", Shown::Text(name_of(kind))),
+            ("type", Shown::Text(kind_name(kind))),
             ("version", Shown::Natural(version)),
         ],
     )

@@ -38,7 +38,8 @@ pub(crate) fn text(out: &mut Writer, name: &str, text: &str) -> Result<(), Alloc
     out.string(text)
 }
 
-pub(crate) fn name_of(kind: Kind) -> &'static str
+/// The name of a kind in bodies and in the lines of journals.
+pub fn kind_name(kind: Kind) -> &'static str
     ensures { result.now ≡ kind_name kind }
 {
     match kind {

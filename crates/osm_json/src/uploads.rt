@@ -14,7 +14,7 @@ ghost use Rattle.osm_json.specs.Uploads.{text_if_some, given_member, content_giv
 ghost use Rattle.osm_json.specs.Blocks.{opened, closed, turned};
 
 use crate::contents::tags;
-use crate::send::{Shown, members, name_of, optional, record};
+use crate::send::{Shown, kind_name, members, optional, record};
 use json::Writer;
 use osm_base::Kind;
 use osm_change::{Action, Change, Name, Op, kind_of, names_are_said};
@@ -43,7 +43,7 @@ fn member(out: &mut Writer, change: &Change, member: &Member<Name>) -> Result<()
         &[
             ("ref", Shown::Integer(change.said(member.name))),
             ("role", text_if_some(member.role.as_str())),
-            ("type", Shown::Text(name_of(member.kind))),
+            ("type", Shown::Text(kind_name(member.kind))),
         ],
     )
 }
@@ -122,7 +122,7 @@ fn type_and_version(out: &mut Writer, of: Kind, version: Option<u64>) -> Result<
     members(
         out,
         &[
-            ("type", Shown::Text(name_of(of))),
+            ("type", Shown::Text(kind_name(of))),
             ("version", optional(version)),
         ],
     )
@@ -187,7 +187,7 @@ fn operation(out: &mut Writer, change: &Change, op: &Op) -> Result<(), AllocErro
             &[
                 ("id", Shown::Integer(change.said(*name))),
                 ("tags", Shown::Absent),
-                ("type", Shown::Text(name_of(*kind))),
+                ("type", Shown::Text(kind_name(*kind))),
                 ("version", Shown::Natural(*version)),
             ],
         ),

@@ -10,6 +10,7 @@ use Rattle.osm_base.specs.declared.keys.Key.{Key}
 use Rattle.osm_element.specs.Elements.{version}
 use Rattle.osm_element.specs.declared.versions.Version.{Version}
 use Rattle.osm_change.specs.Moments.{HasShownStamp, HasShownLife, RefusalHasShownEnd, HasShownMoments}
+use Rattle.osm_change.specs.Reads.{not_found, read_refusal}
 use Rattle.osm_change.specs.declared.answers.ElementRow.{ElementRow}
 use Rattle.osm_change.specs.declared.reads.MapFault.{MapFault}
 use Rattle.osm_change.specs.declared.reads.MapFault.TheVariants as unmapped
@@ -24,7 +25,7 @@ use Rattle.changeset_core.specs.declared.records.ChangesetRecord.{ChangesetRecor
 use Rattle.osm_model.specs.declared.queries.Query.{Query}
 use Rattle.osm_model.specs.declared.queries.Query.TheVariants as query
 use Rattle.osm_model.specs.declared.states.State.{State}
-use Rattle.osm_model.specs.Ask.{element_row, element_rows, not_found, read_refusal, map_refusal, one_answer, read_answer, map_answer, changeset_answer, download_answer, ask}
+use Rattle.osm_model.specs.Ask.{element_row, element_rows, map_refusal, one_answer, read_answer, map_answer, changeset_answer, download_answer, ask}
 use Rattle.osm_model.specs.Changeset.{changeset_row}
 use Rattle.osm_model.specs.ChangesetReads.{read_changeset, row_at, newest, passes, is_unmarked, download}
 use Rattle.osm_model.specs.Reads.{shown, one, numbered, history_of, many, full, ways_of, relations_of}

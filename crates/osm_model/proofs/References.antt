@@ -13,13 +13,14 @@ use Rattle.osm_element.specs.declared.contents.Content.{Content}
 use Rattle.osm_element.specs.declared.contents.Content.TheVariants.{Node, Way, Relation}
 use Rattle.osm_element.specs.declared.contents.Member.{Member}
 use Rattle.osm_change.specs.Change.{names_listed, named, named_member}
+use Rattle.osm_change.specs.Keys.{id_of}
 use Rattle.osm_change.specs.declared.operations.Name.{Name}
 use Rattle.osm_change.specs.declared.operations.Name.TheVariants.{Old, New}
 use Rattle.osm_change.specs.declared.operations.Named.{Named}
 use Rattle.osm_change.specs.declared.refusals.Refusal.{Refusal}
 use Rattle.osm_model.specs.declared.uploads.Progress.{Progress}
 use Rattle.osm_model.specs.Upload.{Upload}
-use Rattle.osm_model.specs.Names.{id_of, of_kind, known_key, with_ids, member_with_id}
+use Rattle.osm_model.specs.Names.{of_kind, known_key, with_ids, member_with_id}
 use Rattle.osm_model.specs.Operation.{is_missing, missing, references_visible}
 
 -- the key that a name stands for

@@ -13,6 +13,7 @@ use Rattle.osm_element.specs.declared.contents.Content.{Content}
 use Rattle.osm_change.specs.Change.{kind_of, names_listed}
 use Rattle.osm_change.specs.Moments.{IsShownMoment, HasShownLife, RefusalHasShownEnd, HasShownMoments}
 use Rattle.osm_change.specs.Rows.{rows}
+use Rattle.osm_change.specs.Names.{said}
 use Rattle.osm_change.specs.declared.answers.Answer.TheVariants as answer
 use Rattle.osm_change.specs.declared.operations.Name.{Name}
 use Rattle.osm_change.specs.declared.operations.Named.{Named}
@@ -32,7 +33,7 @@ use Rattle.osm_model.specs.Changeset.{changeset_row, open_record, own_record}
 use Rattle.osm_model.specs.State.{changeset, own_changeset, with_tags, with_end}
 use Rattle.osm_model.specs.Timely.{IsTimely}
 use Rattle.osm_model.specs.Upload.{Upload}
-use Rattle.osm_model.specs.Names.{known_key, said}
+use Rattle.osm_model.specs.Names.{known_key}
 use Rattle.osm_model.specs.Operation.{number, named_key, named_version, is_missing, missing, references_visible, created, modified, modify_known, modify_current, or_skipped, delete_unless_used, delete_visible, delete_known, used, gone, operate, operate_all}
 use Rattle.osm_model.specs.Fold.{start, applied_count, task, upload, upload_own, upload_counted, uploaded}
 use Rattle.osm_model.specs.Act.{Effect, judge, settle, act, single_number, known_version, known_redaction, old_version, marked}

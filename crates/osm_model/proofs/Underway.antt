@@ -23,6 +23,7 @@ use Rattle.osm_element.proofs.EachVersion.{each-push}
 use Rattle.osm_element.proofs.Later.{later-refl, later-trans, later-push, begun-push, next-push}
 use Rattle.osm_element.proofs.Used.{known, lists-users}
 use Rattle.osm_change.specs.Change.{kind_of}
+use Rattle.osm_change.specs.Names.{said}
 use Rattle.osm_change.specs.declared.operations.Name.{Name}
 use Rattle.osm_change.specs.declared.operations.Name.TheVariants.{Old, New}
 use Rattle.osm_change.specs.declared.operations.Op.{Op}
@@ -38,7 +39,7 @@ use Rattle.osm_model.specs.declared.uploads.Progress.{Progress}
 use Rattle.osm_model.specs.Attributed.{IsVersion}
 use Rattle.osm_model.specs.State.{own_changeset}
 use Rattle.osm_model.specs.Upload.{Upload}
-use Rattle.osm_model.specs.Names.{of_kind, known_key, said, with_ids}
+use Rattle.osm_model.specs.Names.{of_kind, known_key, with_ids}
 use Rattle.osm_model.specs.Operation.{number, named_key, references_visible, next_key, made_version, applied, skipped, operate, operate_all}
 use Rattle.osm_model.specs.Fold.{start, applied_count, works, task, upload, upload_own, upload_counted}
 use Rattle.osm_model.proofs.References.{references-visible}

@@ -1,10 +1,10 @@
 -- What a query is answered.
-use Rattle.std.specs.Prelude.{ℕ, ◌==◌, if◌then◌else◌, List, [], ◌∷◌, filter_map, Option, Some, None, option_and_then, option_map, Result, Ok, Err}
+use Rattle.std.specs.Prelude.{ℕ, List, [], ◌∷◌, filter_map, Option, Some, None, option_and_then, option_map, Result, Ok, Err}
 use Rattle.osm_base.specs.Place.{Area}
 use Rattle.osm_base.specs.Stamp.{stamp_after}
-use Rattle.osm_base.specs.declared.keys.Key.{Key}
 use Rattle.osm_base.specs.declared.limits.TheConstants.{AREA_LIMIT, MAP_NODE_LIMIT}
 use Rattle.osm_element.specs.Elements.{version}
+use Rattle.osm_change.specs.Reads.{read_refusal}
 use Rattle.osm_change.specs.declared.answers.Answer.{Answer}
 use Rattle.osm_change.specs.declared.answers.Answer.TheVariants as answer
 use Rattle.osm_change.specs.declared.answers.ChangesetRow.{ChangesetRow}
@@ -12,12 +12,10 @@ use Rattle.osm_change.specs.declared.answers.ElementRow.{ElementRow}
 use Rattle.osm_change.specs.declared.reads.MapFault.{MapFault}
 use Rattle.osm_change.specs.declared.reads.MapFault.TheVariants as unmapped
 use Rattle.osm_change.specs.declared.reads.ReadFault.{ReadFault}
-use Rattle.osm_change.specs.declared.reads.ReadFault.TheVariants as unread
 use Rattle.osm_change.specs.declared.reads.Selection.{Selection}
 use Rattle.osm_change.specs.declared.reads.Shown.{Shown}
 use Rattle.osm_change.specs.declared.refusals.Refusal.{Refusal}
 use Rattle.osm_change.specs.declared.refusals.Refusal.TheVariants as refused
-use Rattle.osm_change.specs.declared.refusals.Said.TheVariants.{Id}
 use Rattle.osm_model.specs.declared.queries.Query.{Query}
 use Rattle.osm_model.specs.declared.queries.Query.TheVariants as query
 use Rattle.osm_model.specs.declared.states.State.{State}
@@ -40,17 +38,7 @@ element_rows P ss = filter_map (element_row P) ss
 
 -- ---- refusals
 
--- an element that never existed has version 0
-abbrev pub not_found : Key → ℕ → Refusal
-not_found k n = if n == 0 then refused.NoElement (Id k.id) None k.kind else refused.NoSuchVersion (Id k.id) k.kind n
-
 -- No definition gives want of memory.
-abbrev pub read_refusal : ReadFault → Refusal
-read_refusal (unread.NotFound k n) = not_found k n
-read_refusal (unread.Gone k n) = refused.Gone (Id k.id) None k.kind n
-read_refusal (unread.Redacted k n r) = refused.Redacted (Id k.id) r k.kind n
-read_refusal unread.Memory = refused.NoPath
-
 abbrev pub map_refusal : MapFault → Refusal
 map_refusal (unmapped.TooLarge area) = refused.MapArea area AREA_LIMIT
 map_refusal (unmapped.TooMany nodes) = refused.MapNodes MAP_NODE_LIMIT nodes

@@ -11,6 +11,7 @@ use Rattle.osm_element.specs.declared.contents.Content.{Content}
 use Rattle.osm_element.specs.declared.elements.Elements.{Elements}
 use Rattle.osm_element.specs.declared.versions.Version.{Version}
 use Rattle.osm_change.specs.Change.{kind_of, names_listed}
+use Rattle.osm_change.specs.Names.{said}
 use Rattle.osm_change.specs.declared.operations.Name.{Name}
 use Rattle.osm_change.specs.declared.operations.Named.{Named}
 use Rattle.osm_change.specs.declared.operations.Op.{Op}
@@ -20,7 +21,7 @@ use Rattle.osm_change.specs.declared.refusals.Refusal.{Refusal}
 use Rattle.osm_change.specs.declared.refusals.Refusal.TheVariants as refused
 use Rattle.changeset_core.specs.Changeset.{touched_area, join_areas}
 use Rattle.osm_model.specs.Upload.{Upload}
-use Rattle.osm_model.specs.Names.{known_key, said, said_key, with_ids}
+use Rattle.osm_model.specs.Names.{known_key, said_key, with_ids}
 use Rattle.osm_model.specs.declared.uploads.Progress.{Progress}
 
 -- -- tests

@@ -1,8 +1,7 @@
 -- An entry that is kept by the map's book.
-use Rattle.std.proofs.Common.{◌≡◌, ℕ, ◌+◌, ◌≤◌, Bool, true, false, ◌&&◌, List, length, is_ok, Option, Result, Ok, Err, refl, sym, ap, ◌∙◌}
+use Rattle.std.proofs.Common.{◌≡◌, ℕ, ◌+◌, Bool, true, false, ◌&&◌, List, is_ok, Option, Result, Ok, Err, refl, sym, ap, ◌∙◌}
 use Rattle.std.specs.Prelude.{◌==◌}
 use Rattle.std.specs.Option.{is_some}
-use Rattle.std.proofs.lemmas.List.Sums.{count_by-le-length}
 use Rattle.std.proofs.lemmas.Bool.{and_parts, eqb-true}
 use Rattle.hub_core.specs.Journal.{extended, place_of}
 use Rattle.osm_base.specs.Stamp.{stamp_after}
@@ -13,10 +12,6 @@ use Rattle.osm_model.specs.Journal.{calls_of, entry_of, replay}
 use Rattle.osm_model.specs.declared.commands.Entry.{Entry}
 use Rattle.api_desk.specs.Machine.{entry_if}
 use Rattle.journal_text.specs.Kept.{may_follow, kept_by, is_in_turn}
-
--- of a session there are no more entries than in all
-pub calls_within : (session : ℕ) (es : List Entry) → calls_of session es ≤ length es
-calls_within session es = count_by-le-length (λ (e : Entry). e.session == session) es
 
 and_true : (b : Bool) → ((b && true) && true) ≡ b
 and_true true = refl

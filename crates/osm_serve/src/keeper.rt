@@ -1,8 +1,8 @@
 //! The map's book, as the keeper of a text's entries.
-ghost use Rattle.std.specs.Prelude.{◌≡◌, ◌<◌, ◌≤◌, ◌+◌, length, true, [], IfOk};
+ghost use Rattle.std.specs.Prelude.{◌≡◌, ◌<◌, true, [], IfOk};
 ghost use Rattle.journal_text.specs.Kept.{may_follow, kept_by, is_in_turn};
 
-use api_desk::{Asked, MapMachine};
+use api_desk::{Asked, MapMachine, next_call};
 use hub_core::{Book, NoOutlet};
 use journal_text::Keeper;
 use machine_law::{Machine, Tag};
@@ -68,18 +68,9 @@ impl Keeper for BookKeeper {
 fn is_in_turn(book: &Book<MapMachine>, entry: &Entry) -> bool
     ensures { result ≡ is_in_turn book.now entry.now }
 {
-    let call = one_more(book.calls(entry.session), book.journal());
+    let call = next_call(book, entry.session);
     let stamp = Stamp::after(book.world().world().last_stamp(), entry.stamp.seconds());
     entry.call == call && stamp.seconds() == entry.stamp.seconds()
-}
-
-/// A number of some of these entries, and one.
-fn one_more(calls: u64, entries: &[Entry]) -> u64
-    requires { calls ≤ length entries.now }
-    ensures { result ≡ calls + 1 }
-{
-    let _all = entries.len();
-    calls + 1
 }
 
 /// Keeps the entry where its command is accepted.

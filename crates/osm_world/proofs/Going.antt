@@ -12,10 +12,11 @@ use Rattle.osm_change.specs.declared.operations.OpDone.TheVariants.{Applied, Ski
 use Rattle.changeset_core.specs.Changeset.{join_areas, touched_area}
 use Rattle.changeset_core.specs.declared.records.ChangesetRecord.{ChangesetRecord}
 use Rattle.changeset_core.specs.declared.records.Work.{Work}
+use Rattle.osm_change.specs.Keys.{ids_after}
 use Rattle.osm_model.specs.declared.uploads.Progress.{Progress}
 use Rattle.osm_model.specs.Fold.{task, work_of, works}
 use Rattle.osm_model.specs.Operation.{applied, skipped, operate, operate_all}
-use Rattle.osm_world.specs.Beds.{first_ids, ids_after, content_of_op, tags_of_op, makes, version_of_op, IsBedOf, AreBedsOf}
+use Rattle.osm_world.specs.Beds.{first_ids, content_of_op, tags_of_op, makes, version_of_op, IsBedOf, AreBedsOf}
 use Rattle.osm_world.specs.World.{Runs, IsDone}
 use Rattle.osm_world.specs.declared.beds.Bed.{Bed}
 use Rattle.osm_world.proofs.Operations.{bind-Ok, stepped, Ok-same, step-is, IsReached, IsUnder, reached, ids-operate, under-operate}

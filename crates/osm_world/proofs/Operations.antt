@@ -17,6 +17,8 @@ use Rattle.osm_element.specs.declared.versions.Version.{Version}
 use Rattle.osm_element.proofs.Used.{known}
 use Rattle.osm_element.proofs.Later.{next-push, later-push}
 use Rattle.osm_change.specs.Change.{kind_of}
+use Rattle.osm_change.specs.Keys.{next_of, one_more, ids_after, id_of, key_of}
+use Rattle.osm_change.specs.Names.{said}
 use Rattle.osm_change.specs.declared.operations.FirstIds.{FirstIds}
 use Rattle.osm_change.specs.declared.operations.Name.{Name}
 use Rattle.osm_change.specs.declared.operations.Name.TheVariants.{Old, New}
@@ -26,10 +28,10 @@ use Rattle.osm_change.specs.declared.refusals.Refusal.{Refusal}
 use Rattle.osm_change.specs.declared.refusals.Refusal.TheVariants as refused
 use Rattle.osm_model.specs.declared.uploads.Progress.{Progress}
 use Rattle.osm_model.specs.Upload.{Upload}
-use Rattle.osm_model.specs.Names.{id_of, of_kind, known_key, said, with_ids}
+use Rattle.osm_model.specs.Names.{of_kind, known_key, with_ids}
 use Rattle.osm_model.specs.Operation.{number, named_key, named_version, references_visible, made_version, created, applied, skipped, modified, modify_known, modify_current, or_skipped, delete_unless_used, delete_visible, delete_known, used, gone, operate}
 use Rattle.indexed_map.specs.Indexed.{is_unused}
-use Rattle.osm_world.specs.Beds.{first_ids, id_for, one_more, ids_after, key_of, content_of_op, tags_of_op, makes}
+use Rattle.osm_world.specs.Beds.{first_ids, content_of_op, tags_of_op, makes}
 
 -- where two steps in a row are passed, each is
 pub bind-Ok :
@@ -144,10 +146,10 @@ visible-step u g h kind name version if_unused k true is e =
     unused-step u g h kind name k if_unused (users g.elements k) refl fine.2
     ∙ ap (λ (b : Bool). if b && is_unused g.elements k then applied u g k None [] else skipped g k) (sym is)
 
-id_for-first : (E : Elements) (q : Kind) → id_for (first_ids E) q ≡ next_id E q
-id_for-first E kind.Node = refl
-id_for-first E kind.Way = refl
-id_for-first E kind.Relation = refl
+next_of-first : (E : Elements) (q : Kind) → next_of (first_ids E) q ≡ next_id E q
+next_of-first E kind.Node = refl
+next_of-first E kind.Way = refl
+next_of-first E kind.Relation = refl
 
 pub step-is :
     (u : Upload) (g : Progress) (o : Op) (h : Progress)
@@ -156,7 +158,7 @@ pub step-is :
 step-is u g (Create placeholder content tags) h e =
     let passed = bind-Ok (references_visible u g content) (λ (fine : Unit {0}). Ok (created u g content tags)) h e in
     sym (Ok-same (created u g content tags) h passed.2)
-    ∙ ap (λ (n : ℕ). applied u g (key (kind_of content) n) (Some (with_ids g.keys content)) tags) (sym (id_for-first g.elements (kind_of content)))
+    ∙ ap (λ (n : ℕ). applied u g (key (kind_of content) n) (Some (with_ids g.keys content)) tags) (sym (next_of-first g.elements (kind_of content)))
 step-is u g (Modify name version content tags) h e =
     let named = bind-Ok (named_key u g (kind_of content) name) (λ (k : Key). modify_known u g name k version content tags) h e in
     let current = bind-Ok (named_version u g (kind_of content) name named.0 version) (λ (fine : Unit {0}). modify_current u g named.0 content tags) h named.2 in
@@ -186,7 +188,7 @@ pub reached :
     → operate u g o ≡ Ok h
     → IsReached g.elements (key_of g.keys (first_ids g.elements) o)
 reached u g (Create placeholder content tags) h on e =
-    let is = id_for-first g.elements (kind_of content) in
+    let is = next_of-first g.elements (kind_of content) in
     record { counted = omega (arith, is); follows = omega (arith, is) }
 reached u g (Modify name version content tags) h on e =
     let named = bind-Ok (named_key u g (kind_of content) name) (λ (k : Key). modify_known u g name k version content tags) h e in

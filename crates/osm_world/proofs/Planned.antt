@@ -10,16 +10,17 @@ use Rattle.osm_base.specs.declared.keys.Key.{Key}
 use Rattle.osm_element.specs.Elements.{key, key_of_member}
 use Rattle.osm_element.specs.declared.contents.Member.{Member}
 use Rattle.osm_element.specs.declared.elements.Elements.{Elements}
+use Rattle.osm_change.specs.Keys.{ids_after, id_of}
 use Rattle.osm_change.specs.declared.operations.FirstIds.{FirstIds}
 use Rattle.osm_change.specs.declared.operations.Name.{Name}
 use Rattle.osm_change.specs.declared.operations.Op.{Op}
-use Rattle.osm_model.specs.Names.{id_of, member_with_id}
+use Rattle.osm_model.specs.Names.{member_with_id}
 use Rattle.history_store.specs.Store.{free}
 use Rattle.reverse_refs.specs.Users.{free_in}
 use Rattle.tile_grid.specs.Grid.{free_at}
 use Rattle.indexed_map.specs.Indexed.{Stand, times_listed}
 use Rattle.indexed_map.specs.Placed.{enters}
-use Rattle.osm_world.specs.Beds.{first_ids, ids_after, place_of_op, IsBedOf, AreBedsOf, made, begun, entered}
+use Rattle.osm_world.specs.Beds.{first_ids, place_of_op, IsBedOf, AreBedsOf, made, begun, entered}
 use Rattle.osm_world.specs.declared.beds.Bed.{Bed}
 
 pub nodes_named : (ks : List Key) (names : List Name) → map (λ name. key kind.Node (id_of ks name)) names ≡ map (key kind.Node) (map (id_of ks) names)

@@ -3,7 +3,6 @@ use Rattle.std.specs.Prelude.{◌≡◌, ⊤, ℕ, ◌+◌, ◌≤◌, Bool, tru
 use Rattle.osm_base.specs.Key.{key_eq}
 use Rattle.osm_base.specs.Place.{Position}
 use Rattle.osm_base.specs.Row.{Row}
-use Rattle.osm_base.specs.declared.keys.Kind.{Kind}
 use Rattle.osm_base.specs.declared.keys.Kind.TheVariants as kind
 use Rattle.osm_base.specs.declared.keys.Key.{Key}
 use Rattle.osm_element.specs.Elements.{key, next_id, is_visible}
@@ -13,12 +12,12 @@ use Rattle.osm_element.specs.declared.contents.Content.TheVariants as content
 use Rattle.osm_element.specs.declared.contents.Member.{Member}
 use Rattle.osm_element.specs.declared.elements.Elements.{Elements}
 use Rattle.osm_element.specs.declared.versions.Version.{Version}
-use Rattle.osm_change.specs.Change.{kind_of}
+use Rattle.osm_change.specs.Keys.{ids_after, key_of}
 use Rattle.osm_change.specs.declared.operations.Name.{Name}
 use Rattle.osm_change.specs.declared.operations.FirstIds.{FirstIds}
 use Rattle.osm_change.specs.declared.operations.Op.{Op}
 use Rattle.osm_change.specs.declared.operations.Op.TheVariants.{Create, Modify, Delete}
-use Rattle.osm_model.specs.Names.{id_of, with_ids}
+use Rattle.osm_model.specs.Names.{with_ids}
 use Rattle.indexed_map.specs.Indexed.{IsListOf, is_unused, times_listed}
 use Rattle.indexed_map.specs.Placed.{enters}
 use Rattle.osm_world.specs.declared.beds.Bed.{Bed}
@@ -26,28 +25,6 @@ use Rattle.osm_world.specs.declared.beds.Bed.{Bed}
 -- the ids that come next
 abbrev pub first_ids : Elements → FirstIds
 first_ids E = record { node = next_id E kind.Node; way = next_id E kind.Way; relation = next_id E kind.Relation }
-
-abbrev pub id_for : FirstIds → Kind → ℕ
-id_for ids kind.Node = ids.node
-id_for ids kind.Way = ids.way
-id_for ids kind.Relation = ids.relation
-
-abbrev pub one_more : FirstIds → Kind → FirstIds
-one_more ids kind.Node = record ids { node = ids.node + 1 }
-one_more ids kind.Way = record ids { way = ids.way + 1 }
-one_more ids kind.Relation = record ids { relation = ids.relation + 1 }
-
--- a create takes the next id of its kind
-abbrev pub ids_after : FirstIds → Op → FirstIds
-ids_after ids (Create placeholder content tags) = one_more ids (kind_of content)
-ids_after ids (Modify name version content tags) = ids
-ids_after ids (Delete kind name version if_unused) = ids
-
--- the element of an operation, by the keys of those before it and the ids that come next
-abbrev pub key_of : List Key → FirstIds → Op → Key
-key_of ks ids (Create placeholder content tags) = key (kind_of content) (id_for ids (kind_of content))
-key_of ks ids (Modify name version content tags) = key (kind_of content) (id_of ks name)
-key_of ks ids (Delete kind name version if_unused) = key kind (id_of ks name)
 
 -- what the element holds then, where a version is made
 abbrev pub content_of_op : List Key → Op → Option (Content ℕ)

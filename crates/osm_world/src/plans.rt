@@ -3,17 +3,17 @@ ghost use Rattle.osm_base.specs.Key.{key_eq, lists_key, IsRising};
 ghost use Rattle.osm_base.specs.Place.{Position};
 ghost use Rattle.osm_base.specs.declared.keys.Key.{Key};
 ghost use Rattle.osm_element.specs.Elements.{key, refs};
-ghost use Rattle.osm_model.specs.Names.{id_of, with_ids};
+ghost use Rattle.osm_change.specs.Keys.{ids_after, id_of};
+ghost use Rattle.osm_model.specs.Names.{with_ids};
 ghost use Rattle.history_store.specs.Store.{free};
 ghost use Rattle.reverse_refs.specs.Users.{free_in};
 ghost use Rattle.tile_grid.specs.Grid.{free_at};
 ghost use Rattle.indexed_map.specs.Indexed.{times_listed};
 ghost use Rattle.indexed_map.specs.Placed.{enters};
 ghost use Rattle.osm_world.specs.declared.beds.Bed.{Bed};
-ghost use Rattle.osm_world.specs.Beds.{first_ids, id_for, one_more, ids_after, place_in, place_of_op, HasPlaces, IsBedOf, IsLaidFor, AreBedsOf, made, begun, entered};
+ghost use Rattle.osm_world.specs.Beds.{first_ids, place_in, place_of_op, HasPlaces, IsBedOf, IsLaidFor, AreBedsOf, made, begun, entered};
 
 use crate::beds::{Bed, Laid};
-use crate::uploads::id_of;
 use indexed_map::IndexedMap;
 use osm_base::{Coord, Items, Key, Kind, Memory, Roomy};
 use osm_change::{FirstIds, Name, Op, kind_of};
@@ -21,31 +21,13 @@ use osm_element::{Content, Member};
 use rising_lists::keys_sorted_once;
 use std::alloc::{AllocError, Global};
 
-fn node_key(keys: &[Key], name: Name) -> Key
-    ensures { result ≡ key Kind.Node (id_of keys.now name) }
-{
-    Key {
-        kind: Kind::Node,
-        id: id_of(keys, name),
-    }
-}
-
 fn node_keys(alloc: Global, keys: &[Key], nodes: &[Name]) -> Result<Vec<Key>, AllocError>
     ensures { IfOk result (λ made. made.items ≡ map (λ name. key Kind.Node (id_of keys.now name)) nodes.now) }
 {
     nodes
         .iter()
-        .map(|name| node_key(keys, *name))
+        .map(|name| name.key(Kind::Node, keys))
         .collect(alloc)
-}
-
-fn member_key(keys: &[Key], member: &Member<Name>) -> Key
-    ensures { result ≡ key member.now.kind (id_of keys.now member.now.name) }
-{
-    Key {
-        kind: member.kind,
-        id: id_of(keys, member.name),
-    }
 }
 
 fn member_keys(
@@ -57,7 +39,7 @@ fn member_keys(
 {
     members
         .iter()
-        .map(|member| member_key(keys, member))
+        .map(|member| member.name.key(member.kind, keys))
         .collect(alloc)
 }
 
@@ -119,42 +101,6 @@ fn lay_content(
     })
 }
 
-fn id_for(ids: FirstIds, kind: Kind) -> u64
-    ensures { result ≡ id_for ids kind }
-{
-    match kind {
-        Kind::Node => ids.node,
-        Kind::Way => ids.way,
-        Kind::Relation => ids.relation,
-    }
-}
-
-fn one_more(ids: FirstIds, kind: Kind) -> Result<FirstIds, Memory>
-    ensures { IfOk result (λ next. next ≡ one_more ids kind) }
-{
-    let Some(id) = id_for(ids, kind).checked_add(1) else {
-        return Err(Memory);
-    };
-    match kind {
-        Kind::Node => Ok(FirstIds { node: id, ..ids }),
-        Kind::Way => Ok(FirstIds { way: id, ..ids }),
-        Kind::Relation => Ok(FirstIds {
-            relation: id,
-            ..ids
-        }),
-    }
-}
-
-/// A create takes the next id of its kind.
-fn ids_after(ids: FirstIds, operation: &Op) -> Result<FirstIds, Memory>
-    ensures { IfOk result (λ next. next ≡ ids_after ids operation.now) }
-{
-    match operation {
-        Op::Create { content, .. } => one_more(ids, kind_of(content)),
-        _ => Ok(ids),
-    }
-}
-
 fn lay_one(alloc: Global, keys: &[Key], ids: FirstIds, operation: &Op) -> Result<Bed, Memory>
     ensures { IfOk result (λ bed. IsBedOf keys.now ids operation.now bed) }
 {
@@ -163,24 +109,14 @@ fn lay_one(alloc: Global, keys: &[Key], ids: FirstIds, operation: &Op) -> Result
             let kind = kind_of(content);
             let key = Key {
                 kind,
-                id: id_for(ids, kind),
+                id: ids.next(kind),
             };
             lay_content(alloc, keys, key, content)
         }
         Op::Modify { name, content, .. } => {
-            let key = Key {
-                kind: kind_of(content),
-                id: id_of(keys, *name),
-            };
-            lay_content(alloc, keys, key, content)
+            lay_content(alloc, keys, name.key(kind_of(content), keys), content)
         }
-        Op::Delete { kind, name, .. } => {
-            let key = Key {
-                kind: *kind,
-                id: id_of(keys, *name),
-            };
-            Ok(Bed::none(alloc, key))
-        }
+        Op::Delete { kind, name, .. } => Ok(Bed::none(alloc, name.key(*kind, keys))),
     }
 }
 
@@ -243,7 +179,7 @@ fn lay_next(
         × ((b : Key) → free_in map.new.users b ≡ free_in map.old.users b + times_listed bed.listed b)
         × ((p : Position) → free_at map.new.cells p ≡ free_at map.old.cells p + (if enters p (place_of_op operation.now) then 1 else 0))) }
 {
-    let next = ids_after(ids, operation)?;
+    let next = ids.after(operation)?;
     let bed = lay_one(alloc, keys.as_slice(), ids, operation)?;
     let key = bed.key;
     promise_for(alloc, map, &bed, operation)?;

@@ -4,7 +4,8 @@ ghost use Rattle.osm_base.specs.Place.{Position};
 ghost use Rattle.osm_base.specs.declared.keys.Key.{Key};
 ghost use Rattle.osm_element.specs.Elements.{next_id, count, push_version};
 ghost use Rattle.changeset_core.specs.Changeset.{new_position, touched_area};
-ghost use Rattle.osm_model.specs.Names.{id_of, member_with_id, with_ids};
+ghost use Rattle.osm_change.specs.Keys.{id_of};
+ghost use Rattle.osm_model.specs.Names.{member_with_id, with_ids};
 ghost use Rattle.osm_model.specs.declared.uploads.Progress.{Progress};
 ghost use Rattle.history_store.specs.Store.{free};
 ghost use Rattle.reverse_refs.specs.Users.{free_in};
@@ -22,19 +23,6 @@ use osm_change::{Name, Op};
 use osm_element::{Content, Member, Tags, Version};
 use std::alloc::Global;
 
-/// The id that a name stands for, where it stands for one.
-pub fn id_of(keys: &[Key], name: Name) -> u64
-    ensures { result ≡ id_of keys.now name }
-{
-    match name {
-        Name::Old(id) => id,
-        Name::New(place) => match keys.get(place as usize) {
-            Some(key) => key.id,
-            None => 0,
-        },
-    }
-}
-
 fn nodes_with_ids(keys: &[Key], nodes: &[Name], places: Roomy<u64>) -> Items<u64>
     requires empty { places.items ≡ [] }
     requires room { length nodes.now ≤ places.free }
@@ -42,7 +30,7 @@ fn nodes_with_ids(keys: &[Key], nodes: &[Name], places: Roomy<u64>) -> Items<u64
 {
     let mut made = places;
     for name in nodes {
-        made.push(id_of(keys, *name));
+        made.push(name.id(keys));
     }
     Items::of(made.into_vec())
 }
@@ -60,7 +48,7 @@ fn members_with_ids(
     for member in members.into_vec() {
         made.push(Member {
             kind: member.kind,
-            name: id_of(keys, member.name),
+            name: member.name.id(keys),
             role: member.role,
         });
     }
@@ -84,6 +72,13 @@ fn with_ids(
     }
 }
 
+/// The content and the tags that an operation gives a new version: no content where it deletes.
+#[derive(Drop)]
+struct NewVersion {
+    content: Option<Content<u64>>,
+    tags: Tags,
+}
+
 /// Makes the next version of an element, enters it in its changeset, and gives the box of what it
 /// touches.
 fn make_version(
@@ -91,27 +86,26 @@ fn make_version(
     changeset: &mut Changeset,
     at: Stamp,
     key: Key,
-    content: Option<Content<u64>>,
-    tags: Tags,
+    fresh: NewVersion,
     listed: &[Key],
 ) -> Option<Box7>
     requires counted { 0 < key.id }
     requires follows { key.id ≤ next_id map.old.elements key.kind }
-    requires listed { IsListOf content listed.now }
-    requires room { HasRoom map.old key listed.now (new_position content) }
+    requires listed { IsListOf fresh.content listed.now }
+    requires room { HasRoom map.old key listed.now (new_position fresh.content) }
     requires work { 0 < changeset.old.free }
-    ensures touched { result ≡ touched_area map.old.elements key content }
-    ensures elements { map.new.elements ≡ push_version map.old.elements key (version_of changeset.old.id at content tags) }
+    ensures touched { result ≡ touched_area map.old.elements key fresh.content }
+    ensures elements { map.new.elements ≡ push_version map.old.elements key (version_of changeset.old.id at fresh.content fresh.tags) }
     ensures entered { changeset.new ≡ record { id = changeset.old.id; kept = record changeset.old.kept { did = changeset.old.kept.did ++ record { key = key; version = count map.old.elements key + 1 } ∷ [] }; free = changeset.old.free - 1 } }
     ensures versions { (k : Key) → free map.new.versions k + (if key_eq k key then 1 else 0) ≡ free map.old.versions k }
     ensures users { (b : Key) → free_in map.old.users b ≤ free_in map.new.users b + times_listed listed.now b }
-    ensures cells { (p : Position) → free_at map.old.cells p ≤ free_at map.new.cells p + (if enters p (new_position content) then 1 else 0) }
+    ensures cells { (p : Position) → free_at map.old.cells p ≤ free_at map.new.cells p + (if enters p (new_position fresh.content) then 1 else 0) }
 {
     let number = map.count(key) + 1;
-    let touched = map.touched_area(key, &content);
+    let touched = map.touched_area(key, &fresh.content);
     let version = Version {
-        content,
-        tags,
+        content: fresh.content,
+        tags: fresh.tags,
         changeset: changeset.id(),
         stamp: at,
         redaction: None,
@@ -131,24 +125,27 @@ fn makes(map: &IndexedMap, key: Key, operation: &Op) -> bool
     }
 }
 
-/// What the element of an operation holds then, and its tags.
 fn given(
     alloc: Global,
     keys: &[Key],
     operation: Op,
     ids: Roomy<u64>,
     members: Roomy<Member<u64>>,
-) -> (Option<Content<u64>>, Tags)
+) -> NewVersion
     requires { HasPlacesFor operation ids members }
-    ensures content { result.0 ≡ content_of_op keys.now operation }
-    ensures tags { result.1 ≡ tags_of_op operation }
-    ensures place { new_position result.0 ≡ place_of_op operation }
+    ensures content { result.content ≡ content_of_op keys.now operation }
+    ensures tags { result.tags ≡ tags_of_op operation }
+    ensures place { new_position result.content ≡ place_of_op operation }
 {
     match operation {
-        Op::Create { content, tags, .. } | Op::Modify { content, tags, .. } => {
-            (Some(with_ids(keys, content, ids, members)), tags)
-        }
-        Op::Delete { .. } => (None, Tags::none(alloc)),
+        Op::Create { content, tags, .. } | Op::Modify { content, tags, .. } => NewVersion {
+            content: Some(with_ids(keys, content, ids, members)),
+            tags,
+        },
+        Op::Delete { .. } => NewVersion {
+            content: None,
+            tags: Tags::none(alloc),
+        },
     }
 }
 
@@ -188,8 +185,8 @@ fn apply_one(
         ids,
         members,
     } = bed;
-    let (content, tags) = given(alloc, keys, operation, ids, members);
-    make_version(map, changeset, at, key, content, tags, listed.items())
+    let fresh = given(alloc, keys, operation, ids, members);
+    make_version(map, changeset, at, key, fresh, listed.items())
 }
 
 /// Takes what was laid by for one operation.

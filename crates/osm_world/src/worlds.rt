@@ -1,9 +1,11 @@
-ghost use Rattle.std.specs.Prelude.{◌≡◌, true, Some, None, MatchOption, OnOk};
+ghost use Rattle.std.specs.Prelude.{◌≡◌, true, Some, None, Ok, Err, MatchOption, MatchResult, IfOk, IfErr, OnOk};
 ghost use Rattle.osm_element.specs.Elements.{users};
-ghost use Rattle.changeset_core.specs.Timely.{IsTimelyMoment};
+ghost use Rattle.osm_change.specs.Moments.{RefusalHasShownEnd};
+ghost use Rattle.changeset_core.specs.Changeset.{is_open};
+ghost use Rattle.changeset_core.specs.Timely.{IsTimelyMoment, IsTimelyRecord};
 ghost use Rattle.indexed_map.specs.Placed.{IsPlaced};
 ghost use Rattle.osm_model.specs.Journal.{after, takes};
-ghost use Rattle.osm_model.specs.State.{empty, changeset};
+ghost use Rattle.osm_model.specs.State.{empty, changeset, own_changeset};
 ghost use Rattle.osm_world.specs.Records.{records, AreNumbered};
 ghost use Rattle.osm_world.specs.World.{state_of, HasRoom, HasUploadRoom, HasNothingPromised, IsKept};
 
@@ -13,8 +15,8 @@ use crate::stores::Stores;
 use changeset_core::Changeset;
 use history_store::Store;
 use indexed_map::IndexedMap;
-use osm_base::{Key, Memory, Roomy, Stamp};
-use osm_change::Op;
+use osm_base::{Key, Memory, Roomy, Stamp, User};
+use osm_change::{Op, Refusal};
 use osm_model::{
     Command, Entry, entries_keep_maps, moments_are_bounded, points_are_consistent,
     versions_are_attributed,
@@ -111,6 +113,34 @@ impl World {
         } else {
             self.stores.changesets.items().get(id as usize - 1)
         }
+    }
+
+    /// A changeset that the user may work on at a stamp: its owner is tested before whether it is
+    /// open.
+    pub fn own_changeset(&self, user: &User, at: Stamp, id: u64) -> Result<&Changeset, Refusal>
+        ensures value { MatchResult result (λ found. own_changeset (state_of self.now) user.now at id ≡ Ok found.now.kept)
+            (λ refusal. own_changeset (state_of self.now) user.now at id ≡ Err refusal) }
+        ensures open { IfOk result (λ found. is_open found.now.kept at ≡ true) }
+        ensures timely { IfOk result (λ found. IsTimelyRecord found.now.kept) }
+        ensures shown { IfErr result RefusalHasShownEnd }
+    {
+        let Some(found) = self.changeset(id) else {
+            return Err(Refusal::NoChangeset { id });
+        };
+        if found.owner().id != user.id {
+            return Err(Refusal::NotOwner {
+                changeset: id,
+                owner: found.owner().id,
+            });
+        }
+        let closes = found.closes();
+        if at.seconds() < closes.seconds() {
+            return Ok(found);
+        }
+        Err(Refusal::Closed {
+            changeset: id,
+            closed_at: closes,
+        })
     }
 
     /// The redactions.

@@ -1,27 +1,13 @@
-ghost use Rattle.std.specs.Prelude.{◌≡◌, map, position, option_copied, IfOk};
-ghost use Rattle.osm_base.specs.Key.{key_eq};
-ghost use Rattle.osm_change.specs.Said.{placeholder_in};
-ghost use Rattle.osm_model.specs.Names.{id_of, of_kind, known_key, said, said_made, said_key, with_ids, member_with_id};
+ghost use Rattle.std.specs.Prelude.{◌≡◌, map, IfOk};
+ghost use Rattle.osm_change.specs.Keys.{id_of};
+ghost use Rattle.osm_model.specs.Names.{of_kind, known_key, said_key, with_ids, member_with_id};
 
 use crate::uploads::UploadTask;
 use osm_base::{Items, Key, Kind, Memory, TryCopy};
-use osm_change::{Name, Op, Said};
+use osm_change::{Name, Said, said_made};
 use osm_element::{Content, Member};
 use osm_model::Progress;
 use std::alloc::{AllocError, Global};
-
-/// The id that a name stands for, where it stands for one.
-fn id_of(keys: &[Key], name: Name) -> u64
-    ensures { result ≡ id_of keys.now name }
-{
-    match name {
-        Name::Old(id) => id,
-        Name::New(place) => match keys.get(place as usize) {
-            Some(key) => key.id,
-            None => 0,
-        },
-    }
-}
 
 fn of_kind(kind: Kind, key: Key) -> Option<Key>
     ensures { result ≡ of_kind kind key }
@@ -50,40 +36,6 @@ pub fn known_key(upload: &UploadTask, progress: &Progress, kind: Kind, name: Nam
     }
 }
 
-fn placeholder_in(operation: Option<&Op>) -> i64
-    ensures { result ≡ placeholder_in (option_copied operation.entry) }
-{
-    match operation {
-        Some(Op::Create { placeholder, .. }) => *placeholder,
-        _ => 0,
-    }
-}
-
-/// An element as the client named it.
-pub fn said(operations: &[Op], name: Name) -> Said
-    ensures { result ≡ said operations.now name }
-{
-    match name {
-        Name::Old(id) => Said::Id(id),
-        Name::New(place) => Said::Placeholder(placeholder_in(operations.get(place as usize))),
-    }
-}
-
-fn first_operation(keys: &[Key], key: Key) -> Option<usize>
-    ensures { result ≡ position (λ x. key_eq x key) keys.now }
-{
-    keys.iter().position(|made| made.is(key))
-}
-
-fn said_made(operations: &[Op], keys: &[Key], key: Key) -> Said
-    ensures { result ≡ said_made operations.now keys.now key }
-{
-    match first_operation(keys, key) {
-        Some(place) => Said::Placeholder(placeholder_in(operations.get(place))),
-        None => Said::Id(key.id),
-    }
-}
-
 /// An element as the client would name it: by its id where it was there before the upload, and else
 /// by the placeholder of its creation.
 pub fn said_key(upload: &UploadTask, progress: &Progress, key: Key) -> Said
@@ -99,7 +51,7 @@ pub fn said_key(upload: &UploadTask, progress: &Progress, key: Key) -> Said
 fn ids_of(alloc: Global, keys: &[Key], names: &[Name]) -> Result<Vec<u64>, AllocError>
     ensures { IfOk result (λ ids. ids.items ≡ map (id_of keys.now) names.now) }
 {
-    names.iter().map(|name| id_of(keys, *name)).collect(alloc)
+    names.iter().map(|name| name.id(keys)).collect(alloc)
 }
 
 fn member_with_id(alloc: Global, keys: &[Key], member: &Member<Name>) -> Result<Member<u64>, Memory>
@@ -108,7 +60,7 @@ fn member_with_id(alloc: Global, keys: &[Key], member: &Member<Name>) -> Result<
     let role = member.role.copy(alloc)?;
     Ok(Member {
         kind: member.kind,
-        name: id_of(keys, member.name),
+        name: member.name.id(keys),
         role,
     })
 }

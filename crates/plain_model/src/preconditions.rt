@@ -2,7 +2,7 @@ ghost use Rattle.std.specs.Prelude.{◌≡◌, ◌+◌, ◌<◌, ◌^◌, length
 ghost use Rattle.osm_change.specs.Change.{named, named_member, names_listed};
 ghost use Rattle.osm_model.specs.Operation.{number, named_key, named_version, is_missing, missing, references_visible, gone, used};
 
-use crate::names::{known_key, said, said_key};
+use crate::names::{known_key, said_key};
 use crate::uploads::UploadTask;
 use osm_base::{Key, Kind};
 use osm_change::{Name, Named, Refusal};
@@ -30,7 +30,7 @@ pub fn named_key(
     match known_key(upload, progress, kind, name) {
         Some(key) => Ok(key),
         None => Err(Refusal::NoElement {
-            id: said(upload.operations, name),
+            id: name.said(upload.operations),
             op: number(progress),
             kind,
         }),
@@ -55,7 +55,7 @@ pub fn named_version(
     } else {
         Err(Refusal::WrongVersion {
             found,
-            id: said(upload.operations, name),
+            id: name.said(upload.operations),
             op: number(progress),
             provided: version,
             kind,
@@ -81,7 +81,7 @@ fn missing(upload: &UploadTask, progress: &Progress, named: Named) -> Refusal
         None => 0,
     };
     Refusal::Missing {
-        id: said(upload.operations, named.name),
+        id: named.name.said(upload.operations),
         op: number(progress),
         kind: named.kind,
         version,
@@ -148,7 +148,7 @@ pub fn gone(upload: &UploadTask, progress: &Progress, kind: Kind, name: Name, ke
     ensures { result ≡ gone upload.now progress.now kind name key }
 {
     Refusal::Gone {
-        id: said(upload.operations, name),
+        id: name.said(upload.operations),
         op: number(progress),
         kind,
         version: progress.elements.count(key),
@@ -161,7 +161,7 @@ pub fn used(upload: &UploadTask, progress: &Progress, kind: Kind, name: Name, us
     ensures { result ≡ used upload.now progress.now kind name user }
 {
     Refusal::Used {
-        id: said(upload.operations, name),
+        id: name.said(upload.operations),
         op: number(progress),
         kind,
         user_id: said_key(upload, progress, user),

@@ -1,9 +1,9 @@
-ghost use Rattle.std.specs.Prelude.{◌≡◌, ◌≢◌, List, Result, IfOk};
+ghost use Rattle.std.specs.Prelude.{◌≡◌, List, Result, IfOk};
 ghost use Rattle.osm_change.specs.Moments.{HasShownMoments};
 ghost use Rattle.osm_change.specs.declared.reads.ReadFault.{ReadFault};
 ghost use Rattle.osm_change.specs.declared.reads.Shown.{Shown};
 ghost use Rattle.osm_change.specs.declared.answers.Answer.TheVariants as answers;
-ghost use Rattle.osm_model.specs.Ask.{ask, ask_at, not_found, read_refusal, elements_answer, one_answer, read_answer, map_answer, changeset_answer, download_answer};
+ghost use Rattle.osm_model.specs.Ask.{ask, ask_at, elements_answer, one_answer, read_answer, map_answer, changeset_answer, download_answer};
 ghost use Rattle.osm_model.specs.ChangesetReads.{read_changeset, download};
 ghost use Rattle.osm_model.specs.Selection.{map_of};
 ghost use Rattle.osm_model.specs.Timely.{IsTimely};
@@ -16,8 +16,8 @@ use crate::many::many;
 use crate::rows::element_rows;
 use crate::selection::{map_of, selected};
 use crate::users::{relations_of, ways_of};
-use osm_base::{AREA_LIMIT, Box7, Items, Key, MAP_NODE_LIMIT, Memory, Stamp};
-use osm_change::{Answer, MapFault, ReadFault, Refusal, Said, Shown};
+use osm_base::{AREA_LIMIT, Box7, Items, MAP_NODE_LIMIT, Memory, Stamp};
+use osm_change::{Answer, MapFault, ReadFault, Refusal, Shown};
 use osm_model::{Fault, Query, State, answers_have_moments};
 use std::alloc::Global;
 
@@ -100,45 +100,6 @@ fn elements_answer<'a>(
     Ok(Answer::Elements { bounds: None, rows })
 }
 
-/// An element that never existed has version 0.
-fn not_found(key: Key, version: u64) -> Refusal
-    ensures { result ≡ not_found key version }
-{
-    let id = Said::Id(key.id);
-    let kind = key.kind;
-    if version == 0 {
-        Refusal::NoElement { id, op: None, kind }
-    } else {
-        Refusal::NoSuchVersion { id, kind, version }
-    }
-}
-
-/// The refusal of a read, unless memory ran out.
-fn refused_read<'a>(fault: ReadFault) -> Result<Answer<'a>, Memory>
-    ensures { IfOk result (λ answer. (answer ≡ answers.Refused (read_refusal fault)) × (fault ≢ ReadFault.Memory)) }
-{
-    match fault {
-        ReadFault::NotFound { key, version } => Ok(Answer::Refused(not_found(key, version))),
-        ReadFault::Gone { key, version } => Ok(Answer::Refused(Refusal::Gone {
-            id: Said::Id(key.id),
-            op: None,
-            kind: key.kind,
-            version,
-        })),
-        ReadFault::Redacted {
-            key,
-            version,
-            redaction,
-        } => Ok(Answer::Refused(Refusal::Redacted {
-            id: Said::Id(key.id),
-            redaction,
-            kind: key.kind,
-            version,
-        })),
-        ReadFault::Memory => Err(Memory),
-    }
-}
-
 fn one_answer<'a>(
     alloc: Global,
     state: &'a State,
@@ -151,7 +112,7 @@ fn one_answer<'a>(
             let rows = element_rows(alloc, state, &[shown])?;
             Ok(Answer::Elements { bounds: None, rows })
         }
-        Err(fault) => refused_read(fault),
+        Err(fault) => fault.answer(),
     }
 }
 
@@ -164,7 +125,7 @@ fn read_answer<'a>(
 {
     match read {
         Ok(shown) => elements_answer(alloc, state, &shown),
-        Err(fault) => refused_read(fault),
+        Err(fault) => fault.answer(),
     }
 }
 

@@ -16,6 +16,7 @@ use Rattle.osm_element.specs.declared.contents.Content.{Content}
 use Rattle.osm_element.specs.declared.elements.Elements.{Elements}
 use Rattle.osm_change.specs.Change.{kind_of, names_listed}
 use Rattle.osm_change.specs.Keys.{next_of}
+use Rattle.osm_change.specs.Names.{said, said_made}
 use Rattle.osm_change.specs.declared.operations.FirstIds.{FirstIds}
 use Rattle.osm_change.specs.declared.operations.Name.{Name}
 use Rattle.osm_change.specs.declared.operations.Name.TheVariants.{Old, New}
@@ -27,7 +28,7 @@ use Rattle.osm_change.specs.declared.refusals.Refusal.TheVariants as refused
 use Rattle.osm_change.specs.declared.refusals.Said.{Said}
 use Rattle.osm_change.specs.declared.refusals.Said.TheVariants.{Id}
 use Rattle.osm_model.specs.Fold.{task}
-use Rattle.osm_model.specs.Names.{of_kind, known_key, said, said_made, said_key, with_ids}
+use Rattle.osm_model.specs.Names.{of_kind, known_key, said_key, with_ids}
 use Rattle.osm_model.specs.Operation as model
 use Rattle.osm_model.specs.Operation.{number, named_key, named_version, references_visible, applied, skipped, created, modified, or_skipped, delete_unless_used, delete_visible, delete_known, operate}
 use Rattle.osm_model.specs.Upload.{Upload}

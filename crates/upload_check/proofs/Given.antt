@@ -16,13 +16,14 @@ use Rattle.osm_element.specs.declared.elements.Elements.{Elements}
 use Rattle.osm_element.proofs.Used as used
 use Rattle.osm_change.specs.Change.{kind_of}
 use Rattle.osm_change.specs.Keys.{id_of, key_of}
+use Rattle.osm_change.specs.Names.{said}
 use Rattle.osm_change.specs.declared.operations.Name.{Name}
 use Rattle.osm_change.specs.declared.operations.Name.TheVariants.{Old, New}
 use Rattle.osm_change.specs.declared.operations.Op.{Op}
 use Rattle.osm_change.specs.declared.operations.Op.TheVariants.{Create, Modify, Delete}
 use Rattle.osm_change.specs.declared.refusals.Refusal.{Refusal}
 use Rattle.osm_change.specs.declared.refusals.Refusal.TheVariants as refused
-use Rattle.osm_model.specs.Names.{of_kind, said}
+use Rattle.osm_model.specs.Names.{of_kind}
 use Rattle.osm_model.specs.declared.uploads.Progress.{Progress}
 use Rattle.upload_check.specs.Overlay.{Sight, standing, is_visible, StandsFor}
 use Rattle.upload_check.specs.Checks.{place_of, known, element, current_version, references, gone, least_user, makes, leaves, next_key, check_current, check_known, or_left, refuse_used, check_used, check_unused, check_visible, check}

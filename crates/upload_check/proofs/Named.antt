@@ -11,8 +11,9 @@ use Rattle.osm_element.specs.Elements.{key, refs}
 use Rattle.osm_element.specs.declared.contents.Content.{Content}
 use Rattle.osm_element.specs.declared.contents.Content.TheVariants as content
 use Rattle.osm_element.specs.declared.contents.Member.{Member}
+use Rattle.osm_change.specs.Keys.{id_of}
 use Rattle.osm_change.specs.declared.operations.Name.{Name}
-use Rattle.osm_model.specs.Names.{id_of, with_ids}
+use Rattle.osm_model.specs.Names.{with_ids}
 
 pub nodes_listed : (ks : List Key) (names : List Name) (b : Key) → lists_key (refs (with_ids ks (content.Way names))) b ≡ list_any (λ name. key_eq (key kind.Node (id_of ks name)) b) names
 nodes_listed ks [] b = refl

@@ -9,6 +9,7 @@ use Rattle.osm_element.specs.Elements.{key, users}
 use Rattle.osm_element.specs.declared.contents.Content.{Content}
 use Rattle.osm_change.specs.Change.{kind_of, names_listed}
 use Rattle.osm_change.specs.Keys.{next_of}
+use Rattle.osm_change.specs.Names.{said}
 use Rattle.osm_change.specs.declared.operations.Name.{Name}
 use Rattle.osm_change.specs.declared.operations.Named.{Named}
 use Rattle.osm_change.specs.declared.operations.Op.{Op}
@@ -16,7 +17,7 @@ use Rattle.osm_change.specs.declared.operations.Op.TheVariants.{Create, Modify, 
 use Rattle.osm_change.specs.declared.refusals.Refusal.{Refusal}
 use Rattle.osm_change.specs.declared.refusals.Refusal.TheVariants as refused
 use Rattle.osm_model.specs.Fold.{task}
-use Rattle.osm_model.specs.Names.{known_key, said, said_key}
+use Rattle.osm_model.specs.Names.{known_key, said_key}
 use Rattle.osm_model.specs.Operation.{number, named_key}
 use Rattle.osm_model.specs.Upload.{Upload}
 use Rattle.osm_model.specs.declared.uploads.Progress.{Progress}

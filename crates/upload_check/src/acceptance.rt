@@ -8,7 +8,7 @@ ghost use Rattle.upload_check.specs.Planned.{outcome_of, taken_by};
 
 use crate::planning::judge_change;
 use crate::plans::Found;
-use crate::settles::{has_room, own_changeset};
+use crate::settles::has_room;
 use changeset_core::Changeset;
 use osm_base::{Memory, Stamp, Steps, User};
 use osm_change::Change;
@@ -50,7 +50,7 @@ ghost use Rattle.osm_later.specs.Settle.{settle_done};
 fn is_taken(world: &World, user: &User, at: Stamp, id: u64, found: &Found) -> bool
     ensures { result ≡ is_ok (settle_done (state_of world.now) user.now at id (outcome_of found.now)) }
 {
-    match own_changeset(world, user, at, id) {
+    match world.own_changeset(user, at, id) {
         Ok(kept) => has_room_for(kept, id, found),
         Err(_) => false,
     }

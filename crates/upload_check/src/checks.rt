@@ -5,7 +5,6 @@ ghost use Rattle.upload_check.specs.Effects.{done_of};
 ghost use Rattle.upload_check.specs.Checks.{place_of, element, current_version, is_missing, missing, references, gone, used, makes, leaves, next_key, check_create, check_modify, check_used, check_unused, check_delete, check};
 
 use crate::counts::increased;
-use crate::overlays::next_of;
 use crate::sights::View;
 use osm_base::{Key, Kind, Memory};
 use osm_change::{Name, Named, Op, OpDone, Refusal, kind_of};
@@ -180,7 +179,7 @@ impl<'a> View<'a> {
     fn next_key(&self, kind: Kind) -> Key
         ensures { result ≡ next_key self.now kind }
     {
-        let id = next_of(self.over.next(), kind);
+        let id = self.over.next().next(kind);
         Key { kind, id }
     }
 

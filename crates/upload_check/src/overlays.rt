@@ -1,7 +1,6 @@
 //! What an upload has come to so far, beside the map of before.
 ghost use Rattle.std.specs.Prelude.{◌≡◌, ℕ, ◌<◌, ◌^◌, [], List, length, IfOk, OnOk};
 ghost use Rattle.osm_element.specs.Elements.{refs_in};
-ghost use Rattle.osm_change.specs.Keys.{next_of, one_more, ids_after};
 ghost use Rattle.osm_change.specs.declared.operations.Op.{Op};
 ghost use Rattle.diff_result.specs.Counted.{HasNumbers};
 ghost use Rattle.osm_model.specs.Fold.{start};
@@ -12,12 +11,12 @@ ghost use Rattle.upload_check.specs.Overlay.{content_now, sight, StandsFor};
 ghost use Rattle.upload_check.specs.Users.{AreRaised, AreLowered};
 
 use crate::checks::Step;
-use crate::counts::{increased, lower_each, raise_each, revise};
+use crate::counts::{lower_each, raise_each, revise};
 use crate::references::add_given;
 use crate::sights::View;
 use crate::standings::{Holds, Standings};
 use osm_base::{Key, Kind, Memory};
-use osm_change::{FirstIds, Op, kind_of};
+use osm_change::{FirstIds, Op};
 use osm_world::World;
 use rising_lists::keys_sorted_once;
 use std::alloc::Global;
@@ -96,7 +95,7 @@ impl Overlay {
         ensures { OnOk result (IsEntered (sight (state_of world.now).elements operations.now self.old) operation.now step self.new) }
     {
         self.note(alloc, world, operations, operation, step)?;
-        self.next = ids_after(self.next, operation)?;
+        self.next = self.next.after(operation)?;
         self.keys.push(step.key)?;
         Ok(())
     }
@@ -216,40 +215,5 @@ pub fn first_ids(world: &World) -> FirstIds
         node: store.next_id(Kind::Node),
         way: store.next_id(Kind::Way),
         relation: store.next_id(Kind::Relation),
-    }
-}
-
-/// The id that the next element of a kind gets.
-pub fn next_of(next: FirstIds, kind: Kind) -> u64
-    ensures { result ≡ next_of next kind }
-{
-    match kind {
-        Kind::Node => next.node,
-        Kind::Way => next.way,
-        Kind::Relation => next.relation,
-    }
-}
-
-fn one_more(next: FirstIds, kind: Kind) -> Result<FirstIds, Memory>
-    ensures { IfOk result (λ after. after ≡ one_more next kind) }
-{
-    let id = increased(next_of(next, kind))?;
-    Ok(match kind {
-        Kind::Node => FirstIds { node: id, ..next },
-        Kind::Way => FirstIds { way: id, ..next },
-        Kind::Relation => FirstIds {
-            relation: id,
-            ..next
-        },
-    })
-}
-
-/// A create takes the next id of its kind.
-fn ids_after(next: FirstIds, operation: &Op) -> Result<FirstIds, Memory>
-    ensures { IfOk result (λ after. after ≡ ids_after next operation.now) }
-{
-    match operation {
-        Op::Create { content, .. } => one_more(next, kind_of(content)),
-        _ => Ok(next),
     }
 }

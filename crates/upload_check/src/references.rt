@@ -4,54 +4,24 @@ ghost use Rattle.std.specs.List.{list_any};
 ghost use Rattle.osm_base.specs.Key.{key_eq, lists_key};
 ghost use Rattle.osm_base.specs.declared.keys.Key.{Key};
 ghost use Rattle.osm_element.specs.Elements.{key, key_of_member, refs, refs_in};
-ghost use Rattle.osm_model.specs.Names.{id_of, with_ids};
+ghost use Rattle.osm_change.specs.Keys.{id_of};
+ghost use Rattle.osm_model.specs.Names.{with_ids};
 ghost use Rattle.osm_world.specs.Beds.{content_of_op};
 
 use osm_base::{Key, Kind, Memory};
 use osm_change::{Name, Op};
 use osm_element::{Content, Member};
 
-/// The id that a name stands for, where it stands for one.
-fn id_of(keys: &[Key], name: Name) -> u64
-    ensures { result ≡ id_of keys.now name }
-{
-    match name {
-        Name::Old(id) => id,
-        Name::New(place) => match keys.get(place as usize) {
-            Some(key) => key.id,
-            None => 0,
-        },
-    }
-}
-
-fn node_key(keys: &[Key], name: Name) -> Key
-    ensures { result ≡ key Kind.Node (id_of keys.now name) }
-{
-    Key {
-        kind: Kind::Node,
-        id: id_of(keys, name),
-    }
-}
-
-fn member_key(keys: &[Key], member: &Member<Name>) -> Key
-    ensures { result ≡ key member.now.kind (id_of keys.now member.now.name) }
-{
-    Key {
-        kind: member.kind,
-        id: id_of(keys, member.name),
-    }
-}
-
 fn is_node(keys: &[Key], name: Name, used: Key) -> bool
     ensures { result ≡ key_eq (key Kind.Node (id_of keys.now name)) used }
 {
-    node_key(keys, name).is(used)
+    name.key(Kind::Node, keys).is(used)
 }
 
 fn is_member(keys: &[Key], member: &Member<Name>, used: Key) -> bool
     ensures { result ≡ key_eq (key member.now.kind (id_of keys.now member.now.name)) used }
 {
-    member_key(keys, member).is(used)
+    member.name.key(member.kind, keys).is(used)
 }
 
 fn nodes_list(keys: &[Key], nodes: &[Name], used: Key) -> bool
@@ -94,7 +64,7 @@ fn add_nodes(keys: &[Key], nodes: &[Name], listed: &mut Vec<Key>) -> Result<(), 
     ensures { OnOk result ((b : Key) → lists_key listed.new.items b ≡ lists_key listed.old.items b || list_any (λ name. key_eq (key Kind.Node (id_of keys.now name)) b) nodes.now) }
 {
     for name in nodes {
-        listed.push(node_key(keys, *name))?;
+        listed.push(name.key(Kind::Node, keys))?;
     }
     Ok(())
 }
@@ -103,7 +73,7 @@ fn add_members(keys: &[Key], members: &[Member<Name>], listed: &mut Vec<Key>) ->
     ensures { OnOk result ((b : Key) → lists_key listed.new.items b ≡ lists_key listed.old.items b || list_any (λ m. key_eq (key m.kind (id_of keys.now m.name)) b) members.now) }
 {
     for member in members {
-        listed.push(member_key(keys, member))?;
+        listed.push(member.name.key(member.kind, keys))?;
     }
     Ok(())
 }

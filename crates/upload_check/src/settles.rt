@@ -1,5 +1,5 @@
 //! What an upload comes to: a plan that stands is settled without judging an operation.
-ghost use Rattle.std.specs.Prelude.{◌≡◌, ◌+◌, nat_lt, length, count_by, Ok, Err, IfOk, IfErr, MatchResult};
+ghost use Rattle.std.specs.Prelude.{◌≡◌, ◌+◌, nat_lt, length, count_by, IfOk, IfErr};
 ghost use Rattle.osm_base.specs.Outcome.{refuse_if};
 ghost use Rattle.osm_base.specs.Stamp.{stamp_after};
 ghost use Rattle.osm_change.specs.Done.{is_applied};
@@ -10,7 +10,6 @@ ghost use Rattle.osm_later.specs.Settle.{settle_done};
 ghost use Rattle.osm_later.specs.Plan.{StandsOn, IsPlannedOn};
 ghost use Rattle.osm_model.specs.Journal.{Later};
 ghost use Rattle.osm_model.specs.Outcome.{Gives};
-ghost use Rattle.osm_model.specs.State.{own_changeset};
 ghost use Rattle.osm_model.specs.declared.states.State.{State};
 ghost use Rattle.osm_world.specs.World.{state_of};
 ghost use Rattle.upload_check.specs.Asked.{IsOutcome, OnRefused};
@@ -20,7 +19,7 @@ use crate::copies::{copy_refusal, copy_rows};
 use crate::overlays::first_ids;
 use crate::plans::{Found, Plan};
 use changeset_core::Changeset;
-use osm_base::{CHANGE_LIMIT, Memory, Stamp, User};
+use osm_base::{CHANGE_LIMIT, Memory, Stamp};
 use osm_change::{FirstIds, OpDone, OpDones, Refusal};
 use osm_later::plans_settle;
 use osm_model::Fault;
@@ -58,7 +57,7 @@ fn settled(alloc: Global, world: &World, plan: &Plan, at: Stamp) -> Result<OpDon
     ensures shown { OnRefused result RefusalHasShownEnd }
 {
     plan.laws();
-    let kept = own_changeset(world, &plan.cmd.user, at, plan.cmd.changeset)?;
+    let kept = world.own_changeset(&plan.cmd.user, at, plan.cmd.changeset)?;
     taken(alloc, kept, plan.cmd.changeset, &plan.found)
 }
 
@@ -74,36 +73,6 @@ fn taken(alloc: Global, kept: &Changeset, id: u64, found: &Found) -> Result<OpDo
             Ok(copy_rows(alloc, rows.items())?)
         }
         Found::Refused(refusal) => Err(Fault::Refused(copy_refusal(alloc, refusal)?)),
-    }
-}
-
-/// The changeset, if the user may work on it: its owner is tested before whether it is open.
-pub fn own_changeset<'a>(
-    world: &'a World,
-    user: &User,
-    at: Stamp,
-    id: u64,
-) -> Result<&'a Changeset, Refusal>
-    ensures value { MatchResult result (λ kept. own_changeset (state_of world.now) user.now at id ≡ Ok kept.now.kept)
-        (λ refusal. own_changeset (state_of world.now) user.now at id ≡ Err refusal) }
-    ensures shown { IfErr result RefusalHasShownEnd }
-{
-    let Some(kept) = world.changeset(id) else {
-        return Err(Refusal::NoChangeset { id });
-    };
-    if kept.owner().id != user.id {
-        return Err(Refusal::NotOwner {
-            changeset: id,
-            owner: kept.owner().id,
-        });
-    }
-    if kept.open_at(at) {
-        Ok(kept)
-    } else {
-        Err(Refusal::Closed {
-            changeset: id,
-            closed_at: kept.closes(),
-        })
     }
 }
 

@@ -1,9 +1,11 @@
 //! The tables of the server, and the lists that they are made of.
 mod changesets;
 mod lists;
+mod parameters;
 mod placeholders;
 mod redactions;
 mod references;
+mod stores;
 mod tiles;
 mod tokens;
 
@@ -14,6 +16,7 @@ pub fn play<R: Print>(rt: &R, alloc: Global, tally: &mut Tally) {
     lists::play(rt, alloc, tally);
     tokens::play(rt, alloc, tally);
     tiles::play(rt, alloc, tally);
+    parameters::play(rt, alloc, tally);
     tally.note(
         rt,
         "a placeholder binds once",
@@ -23,6 +26,11 @@ pub fn play<R: Print>(rt: &R, alloc: Global, tally: &mut Tally) {
         rt,
         "users are in the order of keys",
         references::users_are_in_the_order_of_keys(alloc),
+    );
+    tally.note(
+        rt,
+        "a version stands in the room that was made for it",
+        stores::a_version_stands_in_its_room(alloc),
     );
     tally.note(
         rt,

@@ -5,4 +5,4 @@ use Rattle.changeset_core.specs.Changeset.{widen_by}
 use Rattle.changeset_core.proofs.touched.with_members.Given as goal
 
 abbrev pub invariant-loop-member : goal.invariant-loop-member
-invariant-loop-member l = l.area ≡ widen_by l.elements l.initial.area (map key_of_member (take l.member-index l.members))
+invariant-loop-member g l = l.area ≡ widen_by (g.P.Places.elements l.places) l.initial.area (map key_of_member (take l.member-index l.members))

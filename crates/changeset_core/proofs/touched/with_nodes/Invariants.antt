@@ -6,4 +6,4 @@ use Rattle.changeset_core.specs.Changeset.{widen_by}
 use Rattle.changeset_core.proofs.touched.with_nodes.Given as goal
 
 abbrev pub invariant-loop-id : goal.invariant-loop-id
-invariant-loop-id l = l.area ≡ widen_by l.elements l.initial.area (map (key Node) (take l.id-index l.nodes))
+invariant-loop-id g l = l.area ≡ widen_by (g.P.Places.elements l.places) l.initial.area (map (key Node) (take l.id-index l.nodes))

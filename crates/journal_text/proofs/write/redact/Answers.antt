@@ -3,4 +3,4 @@ use Rattle.journal_text.proofs.write.redact.Goals as goal
 
 pub returns : goal.returns
 unfolding command
-returns c = rw c.name_of.ensures at c.record.ensures
+returns c = rw c.kind_name.ensures at c.record.ensures

@@ -3,4 +3,4 @@ use Rattle.osm_json.proofs.refusals.current.Goals as goal
 
 pub returns : goal.returns
 unfolding current_fields
-returns c = simp (c.said.ensures, c.operation.ensures, c.name_of.ensures) at c.members.ensures
+returns c = simp (c.said.ensures, c.operation.ensures, c.kind_name.ensures) at c.members.ensures

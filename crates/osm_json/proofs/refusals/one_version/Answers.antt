@@ -3,4 +3,4 @@ use Rattle.osm_json.proofs.refusals.one_version.Goals as goal
 
 pub returns : goal.returns
 unfolding version_fields
-returns c = simp (c.said.ensures, c.name_of.ensures) at c.members.ensures
+returns c = simp (c.said.ensures, c.kind_name.ensures) at c.members.ensures

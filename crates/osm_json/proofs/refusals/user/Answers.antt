@@ -3,4 +3,4 @@ use Rattle.osm_json.proofs.refusals.user.Goals as goal
 
 pub returns : goal.returns
 unfolding user_fields
-returns c = simp (c.said.ensures, c.name_of.ensures) at c.members.ensures
+returns c = simp (c.said.ensures, c.kind_name.ensures) at c.members.ensures

@@ -3,8 +3,9 @@ use Rattle.osm_base.specs.declared.keys.Kind.TheVariants as kind
 use Rattle.osm_element.specs.Elements.{key, refs}
 use Rattle.osm_element.specs.declared.contents.Content.{Content}
 use Rattle.osm_element.specs.declared.contents.Member.{Member}
+use Rattle.osm_change.specs.Keys.{id_of}
 use Rattle.osm_change.specs.declared.operations.Name.{Name}
-use Rattle.osm_model.specs.Names.{id_of, with_ids}
+use Rattle.osm_model.specs.Names.{with_ids}
 use Rattle.osm_world.proofs.Planned.{nodes_named, members_named}
 use Rattle.osm_world.proofs.plans.keys_listed.Goals as goal
 

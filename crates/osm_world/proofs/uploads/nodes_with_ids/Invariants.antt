@@ -1,5 +1,5 @@
 use Rattle.std.proofs.Common.{◌≡◌, ◌+◌, ◌≤◌, length, map, take}
-use Rattle.osm_model.specs.Names.{id_of}
+use Rattle.osm_change.specs.Keys.{id_of}
 use Rattle.osm_world.proofs.uploads.nodes_with_ids.Given as goal
 
 abbrev pub invariant-loop-name : goal.invariant-loop-name

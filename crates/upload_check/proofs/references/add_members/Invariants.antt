@@ -3,7 +3,7 @@ use Rattle.std.specs.List.{list_any}
 use Rattle.osm_base.specs.Key.{key_eq, lists_key}
 use Rattle.osm_base.specs.declared.keys.Key.{Key}
 use Rattle.osm_element.specs.Elements.{key}
-use Rattle.osm_model.specs.Names.{id_of}
+use Rattle.osm_change.specs.Keys.{id_of}
 use Rattle.upload_check.proofs.references.add_members.Given as goal
 
 abbrev pub invariant-loop-member : goal.invariant-loop-member

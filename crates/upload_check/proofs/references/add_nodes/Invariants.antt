@@ -4,7 +4,7 @@ use Rattle.osm_base.specs.Key.{key_eq, lists_key}
 use Rattle.osm_base.specs.declared.keys.Kind.TheVariants as kind
 use Rattle.osm_base.specs.declared.keys.Key.{Key}
 use Rattle.osm_element.specs.Elements.{key}
-use Rattle.osm_model.specs.Names.{id_of}
+use Rattle.osm_change.specs.Keys.{id_of}
 use Rattle.upload_check.proofs.references.add_nodes.Given as goal
 
 abbrev pub invariant-loop-name : goal.invariant-loop-name

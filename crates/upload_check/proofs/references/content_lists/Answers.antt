@@ -4,8 +4,9 @@ use Rattle.osm_base.specs.Key.{key_eq, lists_key}
 use Rattle.osm_base.specs.declared.keys.Kind.TheVariants as kind
 use Rattle.osm_element.specs.Elements.{key, refs}
 use Rattle.osm_element.specs.declared.contents.Content.{Content}
+use Rattle.osm_change.specs.Keys.{id_of}
 use Rattle.osm_change.specs.declared.operations.Name.{Name}
-use Rattle.osm_model.specs.Names.{id_of, with_ids}
+use Rattle.osm_model.specs.Names.{with_ids}
 use Rattle.upload_check.proofs.Named.{nodes_listed}
 use Rattle.upload_check.proofs.references.content_lists.Goals as goal
 

@@ -1,5 +1,0 @@
-use Rattle.indexed_map.proofs.WidenBy.{touched_area-Some}
-use Rattle.indexed_map.proofs.touched.touched_area.Goals as goal
-
-pub returns-in-Some : goal.returns-in-Some
-returns-in-Some c = touched_area-Some c.args.store.now.elements c.args.key c.args.new.now _ _ _ _ _ c.in-Some.is c.with_element-area.ensures c.with_old-area.ensures c.with_listed.ensures c.with_position.ensures

@@ -1,8 +1,0 @@
-use Rattle.std.proofs.Common.{◌≡◌, take}
-use Rattle.std.specs.Prelude.{map}
-use Rattle.osm_element.specs.Elements.{key_of_member}
-use Rattle.changeset_core.specs.Changeset.{widen_by}
-use Rattle.indexed_map.proofs.touched.with_members.Given as goal
-
-abbrev pub invariant-loop-member : goal.invariant-loop-member
-invariant-loop-member l = l.area ≡ widen_by l.store.elements l.initial.area (map key_of_member (take l.member-index l.members))
