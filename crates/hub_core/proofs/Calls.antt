@@ -1,21 +1,32 @@
 -- One more entry of a session is one more call.
-use Rattle.std.proofs.Common.{◌≡◌, ◌≢◌, ℕ, ◌+◌, ◌≤◌, ◌<◌, ◌==◌, Bool, true, false, cond, length, take, drop, sym, List, [], ◌∷◌, ◌++◌, ap, ◌∙◌, arith}
+use Rattle.std.proofs.Common.{◌≡◌, ◌≢◌, ℕ, ◌+◌, ◌≤◌, ◌<◌, ◌==◌, Bool, true, false, cond, length, take, drop, sym, List, [], ◌∷◌, ◌++◌, ap, ◌∙◌, nat_lt, arith}
 use Rattle.std.specs.Prelude.{count_by}
 use Rattle.std.specs.List.{sum_by}
 use Rattle.std.proofs.lemmas.List.{take-append-drop, take-append-le, length-take-le}
 use Rattle.std.proofs.lemmas.List.Sums.{sum_by-append}
 use Rattle.std.proofs.lemmas.Bool.{eq-eqb, ne_eqb}
 use Rattle.machine_law.specs.declared.tags.Tag.{Tag}
-use Rattle.std.proofs.Common.{set, get_or, zero, suc, refl}
-use Rattle.std.proofs.lemmas.List.{get_or-set_same, get_or-set_other}
+use Rattle.std.proofs.Common.{Option, Some, None, unwrap_or, refl}
+use Rattle.std.specs.BTreeMap.{BTreeMap, get, is_at, Updates}
+use Rattle.std.specs.Ordering.{is_eq, nat_cmp}
+use Rattle.std.specs.declared.cmp.Ordering.TheVariants.{Less, Equal, Greater}
 use native.Mathlib.Decide.{ℕ_discrete}
-use Rattle.hub_core.specs.Journal.{calls_of, AreCounted}
+use Rattle.hub_core.specs.Journal.{calls_of, count_of, AreCounted}
 
 same_session : (session : ℕ) → (session == session) ≡ true
 same_session session = eq-eqb session session refl
 
 other_session : (session other : ℕ) → session ≢ other → (other == session) ≡ false
 other_session session other apart = ne_eqb other session (λ same. apart (sym same))
+
+-- two numbers that differ aren't compared as equal
+unequal : (less same : Bool) → same ≡ false → is_eq (cond less Less (cond same Equal Greater)) ≡ false
+unequal true same h = refl
+unequal false true h = cc
+unequal false false h = refl
+
+other_key : (key other : ℕ) → key ≢ other → is_at (nat_cmp key) other ≡ false
+other_key key other apart = unequal (nat_lt key other) (key == other) (ne_eqb key other apart)
 
 module _ {E : Type 0} where
   count_push : (p : E → Bool) (xs : List E) (e : E) → p e ≡ true → count_by p (xs ++ e ∷ []) ≡ count_by p xs + 1
@@ -48,16 +59,16 @@ module _ {E : Type 0} where
       omega (arith, count_take p m xs, count_take p n (take m xs), ap (count_by p) short, all)
 
   -- the count of an entry's session is raised with it
-  pub counted_push : (tag_of : E → Tag) (counts : List ℕ) (xs : List E) (e : E) (tag : Tag) → AreCounted tag_of counts xs → tag_of e ≡ tag → tag.session < length counts
-      → tag.call ≡ calls_of tag_of tag.session xs + 1 → AreCounted tag_of (set counts tag.session tag.call) (xs ++ e ∷ [])
-  counted_push tag_of counts xs e tag counted is there next session = go (ℕ_discrete session tag.session) where
-    go : Dec (session ≡ tag.session) → get_or (set counts tag.session tag.call) session 0 ≡ calls_of tag_of session (xs ++ e ∷ [])
-    go (yes same) = rw same (get_or-set_same counts tag.session tag.call 0 there ∙ (next ∙ sym (calls_push tag_of xs e tag is)))
-    go (no apart) = get_or-set_other counts tag.session session tag.call 0 apart ∙ (counted session ∙ sym (calls_other tag_of xs e tag session is apart))
+  pub counted_push : (tag_of : E → Tag) (old new : BTreeMap ℕ ℕ) (xs : List E) (e : E) (tag : Tag) → AreCounted tag_of old xs → tag_of e ≡ tag
+      → Updates nat_cmp old new tag.session (Some tag.call) → tag.call ≡ calls_of tag_of tag.session xs + 1 → AreCounted tag_of new (xs ++ e ∷ [])
+  counted_push tag_of old new xs e tag counted is set next session = go (ℕ_discrete session tag.session) where
+    go : Dec (session ≡ tag.session) → count_of new session ≡ calls_of tag_of session (xs ++ e ∷ [])
+    go (yes same) = rw same (ap (λ (o : Option ℕ). unwrap_or o 0) set.1 ∙ (next ∙ sym (calls_push tag_of xs e tag is)))
+    go (no apart) = ap (λ (o : Option ℕ). unwrap_or o 0) (set.2 session (other_key tag.session session (λ same. apart (sym same)))) ∙ (counted session ∙ sym (calls_other tag_of xs e tag session is apart))
 
 -- a place more changes no count
-pub place_more : (counts : List ℕ) (session : ℕ) → get_or (counts ++ 0 ∷ []) session 0 ≡ get_or counts session 0
-place_more [] zero = refl
-place_more [] (suc session) = refl
-place_more (x ∷ counts) zero = refl
-place_more (x ∷ counts) (suc session) = place_more counts session
+pub place_more : (old new : BTreeMap ℕ ℕ) (session : ℕ) → get nat_cmp old session ≡ None → Updates nat_cmp old new session (Some 0) → (other : ℕ) → count_of new other ≡ count_of old other
+place_more old new session none set other = go (ℕ_discrete other session) where
+  go : Dec (other ≡ session) → count_of new other ≡ count_of old other
+  go (yes same) = rw same (ap (λ (o : Option ℕ). unwrap_or o 0) set.1 ∙ sym (ap (λ (o : Option ℕ). unwrap_or o 0) none))
+  go (no apart) = ap (λ (o : Option ℕ). unwrap_or o 0) (set.2 other (other_key session other (λ same. apart (sym same))))

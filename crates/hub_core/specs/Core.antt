@@ -25,11 +25,11 @@ pub record CoreState (C E : Type 0) : Type 0 where
   pub sessions : ℕ → SessionState C
 
 -- what an event gives. A commit is told with the journal that it found, and with the intent
-pub data Told (C E : Type 0) : Type 0 where
-  Idle : Told C E
-  Planned : Told C E
-  Committed : (found : List E) (intent : Intent C) (settled : Settled E) → Told C E
-  Answered : (bytes : List ℕ) → Told C E
+pub data CoreReply (C E : Type 0) : Type 0 where
+  Idle : CoreReply C E
+  Planned : CoreReply C E
+  Committed : (found : List E) (intent : Intent C) (settled : Settled E) → CoreReply C E
+  Answered : (bytes : List ℕ) → CoreReply C E
 
 abbrev pub tagged : ℕ → ℕ → Tag
 tagged session call = record { session = session; call = call }
@@ -87,7 +87,7 @@ module _ {S C Q P E K : Type 0} (rules : Rules S C Q P E K) where
   committed_by core session moment None = core
   committed_by core session moment (Some intent) = settled_by core session (acted_by core session moment intent.command).entry
 
-  abbrev pub tells_commit : CoreState C E → ℕ → ℕ → Option (Intent C) → Told C E
+  abbrev pub tells_commit : CoreState C E → ℕ → ℕ → Option (Intent C) → CoreReply C E
   tells_commit core session moment None = Idle
   tells_commit core session moment (Some intent) = Committed core.journal intent (acted_by core session moment intent.command)
 
@@ -103,12 +103,12 @@ module _ {S C Q P E K : Type 0} (rules : Rules S C Q P E K) where
   abbrev pub core_after : ℕ → List (Event C Q) → CoreState C E
   core_after count events = fold core_step (core_start count) events
 
-  abbrev pub tells_answer : Bool → CoreState C E → Q → ℕ → Told C E
+  abbrev pub tells_answer : Bool → CoreState C E → Q → ℕ → CoreReply C E
   tells_answer false core query moment = Idle
   tells_answer true core query moment = Answered (rules.reply (replay rules (take core.published core.journal)) query moment)
 
   -- what an event gives
-  abbrev pub core_tells : CoreState C E → Event C Q → Told C E
+  abbrev pub core_tells : CoreState C E → Event C Q → CoreReply C E
   core_tells core (Plan session command) = if can_read core session then Planned else Idle
   core_tells core (Commit session moment) = tells_commit core session moment (plan_of core session)
   core_tells core Publish = Idle
@@ -116,6 +116,6 @@ module _ {S C Q P E K : Type 0} (rules : Rules S C Q P E K) where
   core_tells core (Freshen session) = Idle
 
   -- what these events give, one after the other
-  abbrev pub all_told : CoreState C E → List (Event C Q) → List (Told C E)
+  abbrev pub all_told : CoreState C E → List (Event C Q) → List (CoreReply C E)
   all_told core [] = []
   all_told core (event ∷ events) = core_tells core event ∷ all_told (core_step core event) events

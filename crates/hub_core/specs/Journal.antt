@@ -1,8 +1,14 @@
 -- The journal of a machine: the list of its entries, and the calls that it has of each session.
-use Rattle.std.specs.Prelude.{◌≡◌, ℕ, ◌+◌, ◌==◌, Bool, true, ◌&&◌, List, [], ◌∷◌, ◌++◌, Option, Some, None, count_by, length, slice_index_or}
+use Rattle.std.specs.Prelude.{◌≡◌, ℕ, ◌+◌, ◌==◌, Bool, true, ◌&&◌, List, [], ◌∷◌, ◌++◌, Option, Some, None, count_by, length, unwrap_or}
+use Rattle.std.specs.BTreeMap.{BTreeMap, get}
+use Rattle.std.specs.Ordering.{nat_cmp}
 use mathlib.Core.List.{IsPrefix}
 use Rattle.machine_law.specs.declared.tags.Tag.{Tag}
 use Rattle.machine_law.specs.Rules.{Rules, replay, is_legal}
+
+-- what the counts have of the session: 0 where it has no place
+abbrev pub count_of : BTreeMap ℕ ℕ → ℕ → ℕ
+count_of counts session = unwrap_or (get nat_cmp counts session) 0
 
 module _ {E : Type 0} (tag_of : E → Tag) where
   -- how many entries the session has
@@ -14,9 +20,9 @@ module _ {E : Type 0} (tag_of : E → Tag) where
   is_numbered before [] = true
   is_numbered before (e ∷ es) = ((tag_of e).call == calls_of (tag_of e).session before + 1) && is_numbered (before ++ e ∷ []) es
 
-  -- for each session the number of its entries, and 0 for those that have no place in the list
-  abbrev pub AreCounted : List ℕ → List E → Type 0
-  AreCounted counts entries = (session : ℕ) → slice_index_or counts session 0 ≡ calls_of session entries
+  -- the counts have of each session the number of its entries
+  abbrev pub AreCounted : BTreeMap ℕ ℕ → List E → Type 0
+  AreCounted counts entries = (session : ℕ) → count_of counts session ≡ calls_of session entries
 
 -- the entries with one more at their end, if there is one
 abbrev pub extended : {E : Type 0} → List E → Option E → List E

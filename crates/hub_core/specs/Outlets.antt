@@ -1,6 +1,11 @@
--- An outlet in memory: what it holds, and which offers it refuses.
-use Rattle.std.specs.Prelude.{◌≡◌, ℕ, ◌+◌, ◌-◌, ◌^◌, ◌⊎◌, min, List, [], ◌∷◌, ◌++◌}
+-- What outlets hold; and of an outlet in memory also which offers it refuses.
+use Rattle.std.specs.Prelude.{◌≡◌, ℕ, ◌+◌, ◌-◌, ◌^◌, ◌⊎◌, min, List, [], ◌∷◌, ◌++◌, Option, Some, None}
 use Rattle.std.specs.List.{Contains}
+
+-- what is held with one entry more at its end, where the outlet tells what it holds
+abbrev pub with_offer : {E : Type 0} → Option (List E) → E → Option (List E)
+with_offer None entry = None
+with_offer (Some held) entry = Some (held ++ entry ∷ [])
 
 -- the entries that are held, the first one first; how many offers were made; and the numbers, from 0, of those that are refused
 pub record Listed (E : Type 0) : Type 0 where

@@ -5,8 +5,8 @@ use Rattle.hub_core.specs.declared.running.Caller.{Caller}
 use Rattle.hub_core.specs.declared.dones.Done.{Done}
 use Rattle.hub_core.specs.declared.events.Seen.{Seen}
 use Rattle.hub_core.specs.declared.events.Seen.TheVariants.{Idle, Planned, Committed, Answered}
-use Rattle.hub_core.specs.Core.{CoreState, SessionState, Intent, Told}
-use Rattle.hub_core.specs.Core.Told.{Idle as ToldIdle, Planned as ToldPlanned, Committed as ToldCommitted, Answered as ToldAnswered}
+use Rattle.hub_core.specs.Core.{CoreState, SessionState, Intent, CoreReply}
+use Rattle.hub_core.specs.Core.CoreReply.{Idle as ToldIdle, Planned as ToldPlanned, Committed as ToldCommitted, Answered as ToldAnswered}
 use Rattle.hub_core.specs.Journal.{place_of, IsMadeBefore}
 use Rattle.hub_core.specs.Paths.{IsPath}
 
@@ -52,7 +52,7 @@ module _ {S C Q P E K : Type 0} (rules : Rules S C Q P E K) where
       (plan : P) × rules.planned (replay rules (take intent.base found)) intent.command plan × IsPath rules plan (replay rules found) done.path
 
   -- the reply is the one that is told
-  abbrev pub IsTold : Told C E → Seen K → Type 0
+  abbrev pub IsTold : CoreReply C E → Seen K → Type 0
   IsTold ToldIdle Idle = Unit {0}
   IsTold ToldPlanned Planned = Unit {0}
   IsTold (ToldCommitted found intent settled) (Committed done) = (done.answer ≡ settled.answer) × (done.place ≡ place_of found settled.entry) × IsPathOf found intent done
@@ -62,7 +62,7 @@ module _ {S C Q P E K : Type 0} (rules : Rules S C Q P E K) where
   IsTold (ToldCommitted found intent settled) _ = ⊥
   IsTold (ToldAnswered bytes) _ = ⊥
 
-  abbrev pub AreTold : List (Told C E) → List (Seen K) → Type 0
+  abbrev pub AreTold : List (CoreReply C E) → List (Seen K) → Type 0
   AreTold [] [] = Unit {0}
   AreTold (told ∷ more) (seen ∷ rest) = IsTold told seen × AreTold more rest
   AreTold [] (seen ∷ rest) = ⊥

@@ -1,7 +1,9 @@
-ghost use Rattle.std.specs.Prelude.{◌≡◌, ◌+◌, ◌<◌, ℕ, true, [], ◌∷◌, ◌++◌, length, IfOk, OnOk, OnErr, IfSome, MatchOption, List, slice_index_or, vec_len, vec_capacity};
+ghost use Rattle.std.specs.Prelude.{◌≡◌, ◌+◌, ◌<◌, ℕ, true, Some, [], ◌∷◌, ◌++◌, length, IfOk, OnOk, OnErr, IfSome, MatchOption, List, vec_len, vec_capacity};
+ghost use Rattle.std.specs.BTreeMap.{ContainsKey, Updates};
+ghost use Rattle.std.specs.Ordering.{nat_cmp};
 ghost use mathlib.Core.List.{IsPrefix};
 ghost use Rattle.machine_law.specs.Rules.{replay, Later, IsForeseen};
-ghost use Rattle.hub_core.specs.Journal.{calls_of, extended, place_of, IsJournal, IsMadeBefore};
+ghost use Rattle.hub_core.specs.Journal.{calls_of, count_of, extended, place_of, IsJournal, IsMadeBefore};
 ghost use Rattle.hub_core.specs.Paths.{MatchPath, IsPath, IsDone};
 
 use crate::dones::{Done, Path};
@@ -9,6 +11,7 @@ use crate::outlets::Outlet;
 use machine_law::{Machine, Settled, Tag};
 use osm_base::{Memory, Steps};
 use std::alloc::Global;
+use std::collections::BTreeMap;
 use std::marker::Model;
 use std::sync::ledger::Ledger;
 
@@ -18,7 +21,7 @@ pub struct Book<M: Machine> {
     alloc: Global,
     journal: Vec<M::Entry>,
     /// The number of entries of each session. A session that has none may have no place.
-    calls: Vec<u64>,
+    calls: BTreeMap<u32, u64>,
     world: M::World,
 }
 
@@ -31,7 +34,7 @@ impl<M: Machine> Model for Book<M> {
 
     ghost view = { λ b. b.journal.items };
 
-    ghost invariant = { λ b. (M.state b.world ≡ replay M.rules b.journal.items) × IsJournal M.rules b.journal.items × AreCounted M.rules.tag_of b.calls.items b.journal.items };
+    ghost invariant = { λ b. (M.state b.world ≡ replay M.rules b.journal.items) × IsJournal M.rules b.journal.items × AreCounted M.rules.tag_of b.calls b.journal.items };
 }
 
 impl<M: Machine> Book<M> {
@@ -42,7 +45,7 @@ impl<M: Machine> Book<M> {
         Book {
             alloc,
             journal: Vec::new(alloc),
-            calls: Vec::new(alloc),
+            calls: BTreeMap::new(alloc),
             world: M::empty(alloc),
         }
     }
@@ -77,16 +80,12 @@ impl<M: Machine> Book<M> {
         &self.world
     }
 
-    /// The number of the journal's entries with this session, in constant time.
+    /// The number of the journal's entries with this session, in steps that grow with the logarithm
+    /// of the number of sessions.
     pub fn calls(&self, session: u32) -> u64
         ensures { result ≡ calls_of M.rules.tag_of session self.now }
     {
-        let session = session as usize;
-        if session < self.calls.len() {
-            self.calls[session]
-        } else {
-            0
-        }
+        self.calls.get(&session).copied().unwrap_or(0)
     }
 
     // Puts an entry at the end, and offers it. It returns its place.
@@ -103,20 +102,19 @@ impl<M: Machine> Book<M> {
         ensures ok { IfOk result (λ place. (self.new ≡ self.old ++ entry ∷ []) × (place ≡ length self.old) × O.offered outlet.old entry outlet.new) }
         ensures err { OnErr result ((self.new ≡ self.old) × O.kept outlet.old outlet.new) }
     {
-        let session = tag.session as usize;
         make_ready::<M>(
             self.alloc,
             &mut self.journal,
             &mut self.calls,
             &mut self.world,
             &entry,
-            session,
+            tag.session,
         )?;
         let kept = offer_copy::<M, O>(self.alloc, &entry, outlet)?;
         let place = self.journal.len() as u64;
         M::apply(&mut self.world, entry);
         self.journal.push_reserved(kept);
-        self.calls[session] = tag.call;
+        set_count(&mut self.calls, tag.session, tag.call);
         Ok(place)
     }
 
@@ -179,17 +177,17 @@ impl<M: Machine> Book<M> {
 fn make_ready<M: Machine>(
     alloc: Global,
     journal: &mut Vec<M::Entry>,
-    calls: &mut Vec<u64>,
+    calls: &mut BTreeMap<u32, u64>,
     world: &mut M::World,
     entry: &M::Entry,
-    session: usize,
+    session: u32,
 ) -> Result<(), Memory>
     requires { M.rules.takes (M.state world.old) entry.now ≡ true }
     ensures journal { journal.new.items ≡ journal.old.items }
-    ensures calls { (other : ℕ) → slice_index_or calls.new.items other 0 ≡ slice_index_or calls.old.items other 0 }
+    ensures calls { (other : ℕ) → count_of calls.new other ≡ count_of calls.old other }
     ensures world { M.state world.new ≡ M.state world.old }
     ensures journal_room { OnOk result (vec_len journal.new < vec_capacity journal.new) }
-    ensures calls_room { OnOk result (session < length calls.new.items) }
+    ensures calls_room { OnOk result (ContainsKey nat_cmp calls.new session) }
     ensures world_room { OnOk result (M.has_room world.new entry.now) }
 {
     journal.reserve(1)?;
@@ -198,14 +196,24 @@ fn make_ready<M: Machine>(
 }
 
 // Gives a session a place among the counts.
-fn make_place(calls: &mut Vec<u64>, session: usize) -> Result<(), Memory>
-    ensures same { (other : ℕ) → slice_index_or calls.new.items other 0 ≡ slice_index_or calls.old.items other 0 }
-    ensures there { OnOk result (session < length calls.new.items) }
+fn make_place(calls: &mut BTreeMap<u32, u64>, session: u32) -> Result<(), Memory>
+    ensures same { (other : ℕ) → count_of calls.new other ≡ count_of calls.old other }
+    ensures there { OnOk result (ContainsKey nat_cmp calls.new session) }
 {
-    while calls.len() <= session {
-        calls.push(0)?;
+    if !calls.contains_key(&session) {
+        calls.insert(session, 0)?;
     }
     Ok(())
+}
+
+// Sets the count of a session that has a place.
+fn set_count(calls: &mut BTreeMap<u32, u64>, session: u32, count: u64)
+    requires { ContainsKey nat_cmp calls.old session }
+    ensures { Updates nat_cmp calls.old calls.new session (Some count) }
+{
+    if let Some(place) = calls.get_mut(&session) {
+        *place = count;
+    }
 }
 
 // Offers a copy of an entry, and returns another.

@@ -54,8 +54,11 @@ impl<E: Drop> ListOutlet<E> {
 }
 
 impl<E: Drop> Outlet<E> for ListOutlet<E> {
-    ghost use Rattle.std.proofs.Common.{inl, refl};
+    ghost use Rattle.std.proofs.Common.{Some, inl, refl, ap};
     ghost use Rattle.hub_core.specs.Outlets.{IsTaken, IsKept};
+    ghost use mathlib.Core.Logic.{⊎_elim};
+
+    ghost holds = { λ outlet. Some outlet.held };
 
     ghost welcomes = { λ outlet entry. Unit {0} };
 
@@ -75,6 +78,10 @@ impl<E: Drop> Outlet<E> for ListOutlet<E> {
         self.entries.push(entry)?;
         Ok(())
     }
+
+    ghost appends = { λ before entry after taken. ap (λ outlet. Some outlet.held) taken.0 };
+
+    ghost holds_on = { λ before after left. ⊎_elim (λ same. ap (λ outlet. Some outlet.held) same) (λ counts. ap (λ outlet. Some outlet.held) counts) left };
 
     ghost keeps_itself = { λ outlet. inl refl };
 }

@@ -9,7 +9,7 @@ use Rattle.http_link.specs.declared.end.LinkEnd.TheVariants.{Ended, Closed, Budg
 use Rattle.link_workers.specs.Back.{take_all}
 use Rattle.user_table.specs.Rows.{Row}
 use Rattle.user_table.specs.Users.{table_of}
-use Rattle.osm_words.specs.declared.words.Load.{Load}
+use Rattle.osm_words.specs.declared.words.LoadOptions.{LoadOptions}
 use Rattle.osm_words.specs.Words.{Reading, pipe, serve, measure, export, replay}
 use Rattle.osm_serve.specs.Serve.{ServesPipe}
 use Rattle.osm_serve.specs.ServeAll.{ServesPorts}
@@ -136,12 +136,12 @@ pub record RunsServe (path address : List ℕ) (workers : ℕ) (host host' : Hos
   pub comes_to : ServesUsers path address workers host host' status ⊎ LacksUsersToServe path host host' before after status
 
 -- what `measure` comes to, with the host left alone
-pub record RunsMeasure (load : Load) (host host' : HostTold) (before after : Told) (status : ℕ) : Type 0 where
+pub record RunsMeasure (load : LoadOptions) (host host' : HostTold) (before after : Told) (status : ℕ) : Type 0 where
   pub host_stays : host' ≡ host
   pub tells : Tells (AreLines load) before after status
 
 -- what `export` comes to, with the host left alone
-pub record RunsExport (load : Load) (host host' : HostTold) (before after : Told) (status : ℕ) : Type 0 where
+pub record RunsExport (load : LoadOptions) (host host' : HostTold) (before after : Told) (status : ℕ) : Type 0 where
   pub host_stays : host' ≡ host
   pub tells : Tells (IsExport load.seed load.sessions load.uploads) before after status
 

@@ -9,13 +9,18 @@ use crate::tell::tell;
 use api_desk::MapMachine;
 use hub_core::Book;
 use osm_outside::{Link, Outside};
-use osm_words::Load;
+use osm_words::LoadOptions;
 use std::alloc::Global;
 
 /// Writes the text of the journal of a run of the load, over a book that is empty at first, to the
 /// link, and answers the status: 0 where it was written whole, 4 for a fault, and 5 for want of
 /// memory, in a reply or elsewhere, with nothing written.
-pub fn export<L: Link>(alloc: Global, book: &mut Book<MapMachine>, load: Load, link: &mut L) -> u8
+pub fn export<L: Link>(
+    alloc: Global,
+    book: &mut Book<MapMachine>,
+    load: LoadOptions,
+    link: &mut L,
+) -> u8
     requires some { 0 < load.sessions }
     requires few { load.sessions ≤ SESSION_LIMIT }
     requires empty { book.old ≡ [] }

@@ -12,12 +12,7 @@ use std::alloc::Global;
 use std::marker::{Brand, Model};
 use std::sync::ledger::{Blank, Ledger};
 
-/// How many sessions may stand in a text. A book has a place for each session up to the greatest, so
-/// one line could ask for many gigabytes.
-const SESSION_PLACES: u32 = 16_777_216;
-
-/// A book that keeps entries which were made before, each where the map accepts it. Sessions from
-/// `SESSION_PLACES` on are want of memory.
+/// A book that keeps entries which were made before, each where the map accepts it.
 #[derive(Drop)]
 pub struct BookKeeper {
     book: Book<MapMachine>,
@@ -56,9 +51,6 @@ impl Keeper for BookKeeper {
     fn keep(&mut self, alloc: Global, entry: Entry) -> Result<bool, Memory> {
         if !is_in_turn(&self.book, &entry) {
             return Ok(false);
-        }
-        if entry.session >= SESSION_PLACES {
-            return Err(Memory);
         }
         take::<Brand>(alloc, &mut self.book, entry, Blank::new(1))
     }

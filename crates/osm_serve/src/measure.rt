@@ -11,11 +11,11 @@ use hub_core::Book;
 use load_summary::{Run, summary};
 use osm_base::{Memory, Text};
 use osm_outside::{Link, Outside};
-use osm_words::Load;
+use osm_words::LoadOptions;
 use std::alloc::Global;
 
 /// The lines of a run of the load over a book that is empty at first.
-fn lines_of(alloc: Global, book: &mut Book<MapMachine>, load: Load) -> Result<Text, Memory>
+fn lines_of(alloc: Global, book: &mut Book<MapMachine>, load: LoadOptions) -> Result<Text, Memory>
     requires some { 0 < load.sessions }
     requires few { load.sessions ≤ SESSION_LIMIT }
     requires empty { book.old ≡ [] }
@@ -35,7 +35,12 @@ fn lines_of(alloc: Global, book: &mut Book<MapMachine>, load: Load) -> Result<Te
 /// Writes the lines of a run of the load to the link, and answers the status: 0 where they were
 /// written whole, 4 for a fault, and 5 for want of memory, with nothing written. The book is empty
 /// at first.
-pub fn measure<L: Link>(alloc: Global, book: &mut Book<MapMachine>, load: Load, link: &mut L) -> u8
+pub fn measure<L: Link>(
+    alloc: Global,
+    book: &mut Book<MapMachine>,
+    load: LoadOptions,
+    link: &mut L,
+) -> u8
     requires some { 0 < load.sessions }
     requires few { load.sessions ≤ SESSION_LIMIT }
     requires empty { book.old ≡ [] }

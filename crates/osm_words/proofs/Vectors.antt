@@ -1,10 +1,10 @@
 -- Worked words: both forms of an option, each refusal.
 use Rattle.std.proofs.Common.{◌≡◌, ℕ, [], ◌∷◌, Some, None, codes, refl}
 use Rattle.clap.proofs.OnLiterals.{clap_on_literals}
-use Rattle.osm_words.specs.declared.words.Load.{Load}
+use Rattle.osm_words.specs.declared.words.LoadOptions.{LoadOptions}
 use Rattle.osm_words.specs.Words.{reading_of, pipe, serve, measure, export, replay}
 
-abbrev load : ℕ → ℕ → ℕ → Load
+abbrev load : ℕ → ℕ → ℕ → LoadOptions
 load seed sessions uploads = record { seed = seed; sessions = sessions; uploads = uploads }
 
 apart : reading_of (codes "osm" ∷ codes "pipe" ∷ codes "--users" ∷ codes "u.txt" ∷ codes "--at" ∷ codes "7" ∷ []) ≡ Some (pipe (codes "u.txt") (Some 7))

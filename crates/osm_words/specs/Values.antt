@@ -5,7 +5,7 @@ use Rattle.std.specs.List.{list_all}
 use Rattle.std.specs.Char.{is_ascii_digit}
 use Rattle.std.specs.Str.Parse.{digits_value}
 use Rattle.osm_words.specs.declared.words.TheConstants.{UPLOADS_A_SESSION}
-use Rattle.osm_words.specs.declared.words.Load.{Load}
+use Rattle.osm_words.specs.declared.words.LoadOptions.{LoadOptions}
 
 -- any text that isn't empty and doesn't begin with `-`
 abbrev pub is_text : List ℕ → Bool
@@ -30,7 +30,7 @@ abbrev pub number_in : ℕ → ℕ → List ℕ → Option ℕ
 number_in least most text = option_and_then (checked least most) (number_of text)
 
 -- the load, where none of its changesets is filled
-abbrev pub fitting : ℕ → ℕ → ℕ → Option Load
+abbrev pub fitting : ℕ → ℕ → ℕ → Option LoadOptions
 fitting seed sessions uploads =
     if nat_le uploads (UPLOADS_A_SESSION * sessions)
     then Some (record { seed = seed; sessions = sessions; uploads = uploads }) else None

@@ -6,7 +6,7 @@ use Rattle.std.specs.Str.{bytes_eq}
 use Rattle.clap.specs.Words.{Row, Text, first_of}
 use Rattle.osm_base.specs.declared.limits.TheConstants.{SESSION_LIMIT}
 use Rattle.osm_words.specs.declared.words.TheConstants.{UPLOAD_LIMIT}
-use Rattle.osm_words.specs.declared.words.Load.{Load}
+use Rattle.osm_words.specs.declared.words.LoadOptions.{LoadOptions}
 use Rattle.osm_words.specs.declared.words.Words.{Words}
 use Rattle.osm_words.specs.declared.words.Words.TheVariants.{Pipe, Serve, Measure, Export, Replay}
 use Rattle.osm_words.specs.declared.words.WordsFault.{WordsFault}
@@ -20,8 +20,8 @@ pub data Reading : Type 0 where
   pipe : Text → Option ℕ → Reading
   -- the path of the users text, the address where links come, and the number of workers
   serve : Text → Text → ℕ → Reading
-  measure : Load → Reading
-  export : Load → Reading
+  measure : LoadOptions → Reading
+  export : LoadOptions → Reading
   replay : Reading
 
 -- what was read, without where it lies in memory
@@ -51,7 +51,7 @@ serve_of rows =
     (option_and_then text_of (first_of (codes "listen") rows)))
     (option_and_then text_of (first_of (codes "users") rows))
 
-abbrev pub load_of : List Row → Option Load
+abbrev pub load_of : List Row → Option LoadOptions
 load_of rows =
     option_and_then (λ seed. option_and_then (λ sessions. option_and_then (λ uploads. fitting seed sessions uploads)
     (option_and_then (number_in 0 UPLOAD_LIMIT) (first_of (codes "uploads") rows)))
@@ -67,7 +67,7 @@ pipe_reading words = option_and_then pipe_of (found pipe_app words)
 abbrev pub serve_reading : List Text → Option Reading
 serve_reading words = option_and_then serve_of (found serve_app words)
 
-abbrev pub load_reading : Text → List Text → Option Load
+abbrev pub load_reading : Text → List Text → Option LoadOptions
 load_reading name words = option_and_then load_of (found (load_app name) words)
 
 abbrev pub replay_reading : List Text → Option Reading
@@ -104,13 +104,13 @@ Gives expected (Ok words) = expected ≡ Some (shown words)
 Gives expected (Err NoReading) = expected ≡ None
 Gives expected (Err Memory) = ⊤
 
-abbrev pub GivesLoad : Option Load → Result Load WordsFault → Type 0
+abbrev pub GivesLoad : Option LoadOptions → Result LoadOptions WordsFault → Type 0
 GivesLoad expected (Ok load) = expected ≡ Some load
 GivesLoad expected (Err NoReading) = expected ≡ None
 GivesLoad expected (Err Memory) = ⊤
 
 -- A load has a session at least, and no more than there may be.
-pub record HasSessions (load : Load) : Type 0 where
+pub record HasSessions (load : LoadOptions) : Type 0 where
   pub some : 0 < load.sessions
   pub few : load.sessions ≤ SESSION_LIMIT
 

@@ -9,4 +9,4 @@ mod values;
 mod words;
 
 pub use reading::read_words;
-pub use words::{Load, UPLOAD_LIMIT, UPLOADS_A_SESSION, Words, WordsFault};
+pub use words::{LoadOptions, UPLOAD_LIMIT, UPLOADS_A_SESSION, Words, WordsFault};

@@ -5,7 +5,7 @@ ghost use Rattle.osm_words.specs.Values.{text_of, number_of, number_in};
 ghost use Rattle.osm_words.specs.Words.{HasSessions, HaveSessions, shown, pipe_of, serve_of, load_of};
 
 use crate::values::{checked, fitting, is_text, number_of};
-use crate::words::{Load, UPLOAD_LIMIT, Words};
+use crate::words::{LoadOptions, UPLOAD_LIMIT, Words};
 use clap::ArgMatches;
 use osm_base::SESSION_LIMIT;
 
@@ -66,7 +66,7 @@ pub fn serve_of<'a>(matches: &ArgMatches<'a>) -> Option<Words<'a>>
 }
 
 /// The load that is asked for.
-pub fn load_of(matches: &ArgMatches<'_>) -> Option<Load>
+pub fn load_of(matches: &ArgMatches<'_>) -> Option<LoadOptions>
     ensures value { result ≡ load_of (rows_of (found_of matches.now)) }
     ensures sessions { IfSome result HasSessions }
 {

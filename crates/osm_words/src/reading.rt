@@ -4,7 +4,7 @@ ghost use Rattle.osm_words.specs.Words.{Gives, GivesLoad, HasSessions, HaveSessi
 
 use crate::commands::{find, load, pipe, plain, serve};
 use crate::matches::{load_of, pipe_of, serve_of};
-use crate::words::{Load, Words, WordsFault};
+use crate::words::{LoadOptions, Words, WordsFault};
 use std::alloc::Global;
 
 fn read_pipe<'a>(alloc: Global, words: &'a [String]) -> Result<Words<'a>, WordsFault>
@@ -23,7 +23,11 @@ fn read_serve<'a>(alloc: Global, words: &'a [String]) -> Result<Words<'a>, Words
     serve_of(&matches).ok_or(WordsFault::NoReading)
 }
 
-fn read_load<'a>(alloc: Global, name: &'a str, words: &'a [String]) -> Result<Load, WordsFault>
+fn read_load<'a>(
+    alloc: Global,
+    name: &'a str,
+    words: &'a [String],
+) -> Result<LoadOptions, WordsFault>
     ensures gives { GivesLoad (load_reading name.entry.now (map string_bytes words.entry.now)) result }
     ensures sessions { IfOk result HasSessions }
 {

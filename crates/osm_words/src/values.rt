@@ -4,7 +4,7 @@ ghost use Rattle.std.specs.List.{list_all};
 ghost use Rattle.std.specs.Char.{is_ascii_digit};
 ghost use Rattle.osm_words.specs.Values.{is_text, is_digits, number_of, checked, fitting};
 
-use crate::words::{Load, UPLOADS_A_SESSION};
+use crate::words::{LoadOptions, UPLOADS_A_SESSION};
 
 /// A path or an address: any text that isn't empty and doesn't begin with `-`.
 pub fn is_text(text: &str) -> bool
@@ -63,12 +63,12 @@ pub fn checked(number: u64, least: u32, most: u32) -> Option<u32>
 }
 
 /// The load, where none of its changesets is filled.
-pub fn fitting(seed: u64, sessions: u32, uploads: u32) -> Option<Load>
+pub fn fitting(seed: u64, sessions: u32, uploads: u32) -> Option<LoadOptions>
     ensures value { result ≡ fitting seed sessions uploads }
     ensures sessions { IfSome result (λ load. load.sessions ≡ sessions) }
 {
     if u64::from(uploads) <= u64::from(UPLOADS_A_SESSION) * u64::from(sessions) {
-        Some(Load {
+        Some(LoadOptions {
             seed,
             sessions,
             uploads,

@@ -17,7 +17,7 @@ const _: () = prove!(UPLOAD_LIMIT == SESSION_LIMIT * UPLOADS_A_SESSION);
 /// A generated load: what its positions begin with, how many sessions send it, and how many uploads
 /// they send in all, at most `UPLOADS_A_SESSION` for each session.
 #[derive(Clone, Copy)]
-pub struct Load {
+pub struct LoadOptions {
     pub seed: u64,
     pub sessions: u32,
     pub uploads: u32,
@@ -40,9 +40,9 @@ pub enum Words<'a> {
         workers: u32,
     },
     /// To send a load and tell what came of it.
-    Measure(Load),
+    Measure(LoadOptions),
     /// To send a load and write the journal's text.
-    Export(Load),
+    Export(LoadOptions),
     /// To read a journal's text and tell of its map.
     Replay,
 }

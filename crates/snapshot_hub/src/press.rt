@@ -93,9 +93,12 @@ impl<N: HubName, M: Machine, S: Snapshot<N, M>, R: Wait + Drop> Press<N, M, S, R
 
 impl<N: HubName, M: Machine, S: Snapshot<N, M>, R: Wait + Drop> Outlet<M::Entry>
     for Press<N, M, S, R> {
-    ghost use Rattle.std.specs.Prelude.{◌≡◌, ◌++◌, ◌∷◌, [], true, refl};
+    ghost use Rattle.std.specs.Prelude.{◌≡◌, ◌++◌, ◌∷◌, [], true, Some, refl};
+    ghost use Rattle.std.proofs.Common.{ap};
     ghost use Rattle.machine_law.specs.Rules.{replay};
     ghost use Rattle.snapshot_hub.specs.Editions.{edition};
+
+    ghost holds = { λ press. Some press.journal };
 
     ghost welcomes = { λ press entry. M.rules.takes (replay M.rules press.journal) entry ≡ true };
 
@@ -118,6 +121,10 @@ impl<N: HubName, M: Machine, S: Snapshot<N, M>, R: Wait + Drop> Outlet<M::Entry>
         self.front = front;
         Ok(())
     }
+
+    ghost appends = { λ before entry after taken. ap (λ press. Some press.journal) taken };
+
+    ghost holds_on = { λ before after left. ap (λ press. Some press.journal) left };
 
     ghost keeps_itself = { λ press. refl };
 }

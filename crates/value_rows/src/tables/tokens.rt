@@ -59,6 +59,28 @@ fn a_line_twice_is_a_double_id(alloc: Global) -> bool {
     fault == Some(UsersFault::DoubleId { line: 2 })
 }
 
+/// Users texts of one comment: how many bytes, and whether they are too many.
+const LENGTHS: [(&str, usize, bool); 2] = [
+    ("a users text of 1,048,576 bytes", 1_048_576, false),
+    ("a users text of one byte more", 1_048_577, true),
+];
+
+/// Whether a text of so many bytes is refused as too long, or read where it isn't.
+fn is_judged_by_length(alloc: Global, length: usize, long: bool) -> Result<bool, Memory> {
+    let text = vec![in alloc; b'#'; length]?;
+    match UserTable::read(alloc, text.as_slice()) {
+        Ok(_) => Ok(!long),
+        Err(UsersFault::Memory) => Err(Memory),
+        Err(fault) => Ok(long && fault == UsersFault::Long),
+    }
+}
+
+fn play_lengths<R: Print>(rt: &R, alloc: Global, tally: &mut Tally) {
+    for (name, length, long) in &LENGTHS {
+        tally.note(rt, name, is_judged_by_length(alloc, *length, *long));
+    }
+}
+
 pub fn play<R: Print>(rt: &R, alloc: Global, tally: &mut Tally) {
     for (name, header, who) in &HEADERS {
         tally.note(rt, name, sends(alloc, *header, *who));
@@ -69,4 +91,5 @@ pub fn play<R: Print>(rt: &R, alloc: Global, tally: &mut Tally) {
         "a line twice is a double id",
         Ok(a_line_twice_is_a_double_id(alloc)),
     );
+    play_lengths(rt, alloc, tally);
 }

@@ -1,12 +1,12 @@
 use Rattle.std.proofs.Common.{◌≡◌, ◌∙◌, ap, sym, map, string_bytes, Option, Some, None}
 use Rattle.std.specs.Option.{ok_or, option_and_then}
-use Rattle.osm_words.specs.declared.words.Load.{Load}
+use Rattle.osm_words.specs.declared.words.LoadOptions.{LoadOptions}
 use Rattle.osm_words.specs.declared.words.WordsFault.TheVariants.{NoReading}
 use Rattle.osm_words.specs.Commands.{found}
 use Rattle.osm_words.specs.Words.{GivesLoad, load_of}
 use Rattle.osm_words.proofs.reading.read_load.Goals as goal
 
-made : (expected made_of : Option Load) → expected ≡ made_of → GivesLoad expected (ok_or made_of NoReading)
+made : (expected made_of : Option LoadOptions) → expected ≡ made_of → GivesLoad expected (ok_or made_of NoReading)
 made expected None same = same
 made expected (Some load) same = same
 

@@ -16,9 +16,9 @@ invariant_of-self-2 g c =
     let taken : rules.takes (replay rules journal) entry ≡ true = rw c.self.view_is c.requires.taken in
     let next : tag.call ≡ calls_of rules.tag_of tag.session journal + 1 = rw c.self.view_is c.requires.next in
     let next_of : (rules.tag_of entry).call ≡ calls_of rules.tag_of (rules.tag_of entry).session journal + 1 = rw c.requires.tagged next in
-    let counted : AreCounted rules.tag_of c.make_ready.new.calls.items journal = λ session. c.make_ready.ensures.calls session ∙ c.self.invariant.2 session in
+    let counted : AreCounted rules.tag_of c.make_ready.new.calls journal = λ session. c.make_ready.ensures.calls session ∙ c.self.invariant.2 session in
     rw items (
       rw (c.apply.ensures, c.make_ready.ensures.world, c.self.invariant.0) (sym (fold_push rules.after rules.start journal entry)),
       journal_push rules g.met.M.Machine.after_consistent journal entry c.self.invariant.1 taken next_of,
-      counted_push rules.tag_of c.make_ready.new.calls.items journal entry tag counted c.requires.tagged c.in_ok-make_ready.ensures.calls_room next,
+      counted_push rules.tag_of c.make_ready.new.calls c.set_count.new.calls journal entry tag counted c.requires.tagged c.set_count.ensures next,
     )
