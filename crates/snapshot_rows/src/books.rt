@@ -24,15 +24,19 @@ fn commit<L: Ledger>(
     Ok(done.place)
 }
 
+// Whether a world has the numbers of these entries.
+fn has_numbers(numbers: &[u64], entries: &[Noted]) -> bool {
+    for (number, entry) in numbers.iter().zip(entries.iter()) {
+        if *number != entry.wish.number {
+            return false;
+        }
+    }
+    numbers.len() == entries.len()
+}
+
 // Whether journal, outlet, world and count are those of these entries.
 fn has(book: &Book<Listing>, outlet: &ListOutlet<Noted>, entries: &[Noted]) -> bool {
-    let numbers = book.world().numbers.as_slice();
-    let are_same = numbers.len() == entries.len()
-        && numbers
-            .iter()
-            .zip(entries.iter())
-            .all(|(number, entry)| *number == entry.wish.number);
-    are_same
+    has_numbers(book.world().numbers.as_slice(), entries)
         && book.journal() == entries
         && outlet.held() == entries
         && book.calls(0) == entries.len() as u64
