@@ -1,5 +1,6 @@
 #!/usr/bin/python3
-"""Draws a box of the map: examples/draw.py --server URL --box WEST,SOUTH,EAST,NORTH [--credit TEXT] PICTURE
+"""Draws a box of the map: examples/draw.py --server URL --box WEST,SOUTH,EAST,NORTH [--credit TEXT] [--inches 8]
+    PICTURE
 
 The box is in degrees; PICTURE ends in .png, .svg or .pdf. Needs Debian's python3-matplotlib and python3-pyosmium. Closed
 ways and multipolygons are filled by their tags, other ways are lines, nodes are points. Data of OpenStreetMap
@@ -109,7 +110,9 @@ class Drawing:
         aspect = 1 / math.cos(math.radians((south + north) / 2e7))
         self.figure, self.axes = pyplot.subplots(figsize=(inches, inches * (north - south) * aspect / (east - west)))
         self.axes.set_position((0, 0, 1, 1))
-        self.axes.set(xlim=(0, east - west), ylim=(0, north - south), xticks=[], yticks=[], facecolor="#f3f0ea", aspect=aspect)
+        self.axes.set(xlim=(0, east - west), ylim=(0, north - south), xticks=[], yticks=[])
+        self.axes.set(facecolor="#f3f0ea", aspect=aspect)
+        self.axes.spines[:].set_visible(False)
 
     def place(self, number: int) -> Place:
         """East and north of the corner of the box, in units of 1e-7 degrees."""

@@ -268,20 +268,20 @@ def load(it: argparse.Namespace) -> None:
     begun = time.monotonic()
     table: Table = read_table(it.ids) if it.ids else {}
     digest = digest_of(it.file, table, it.size)
-    notes = Notes(f"{it.file}.sent", digest)
-    check_notes(notes, it.server, digest)
     operations, left = import_plan.plan(osm_file.read(it.file), table)
     uploads = import_plan.cut(operations, it.size)
     planned = time.monotonic()
+    notes = Notes(f"{it.file}.sent", digest)
+    check_notes(notes, it.server, digest)
     tags = {"comment": f"import of {os.path.basename(it.file)[:200]}", "created_by": "import_osm.py", "import": digest[:16]}
     with tqdm.tqdm(total=len(operations), unit=" elements", disable=not sys.stderr.isatty()) as progress:
         board = Board(uploads, table, notes, progress)
-        already = progress.n
+        count = sum(len(uploads[number].operations) for number in board.left)
         send_all(board, it.links, lambda: Sender(board, it.server, it.token, tags))
     sent = time.monotonic()
     write_table(f"{it.file}.ids", table)
     tell(operations, left, table)
-    count, seconds = len(operations) - already, sent - planned
+    seconds = sent - planned
     print(f"{count} operations in {seconds:.1f} s, {count / seconds:.0f} a second, after {planned - begun:.1f} s of reading")
     print(f"new ids: {it.file}.ids")
 

@@ -9,6 +9,7 @@ from typing import Any, NamedTuple
 
 from map_client import KINDS, Element, Key, key, references
 
+BODY = 33_000_000  # bytes; the server reads 33,554,432
 # Of an element of the file: its id and its version at the server.
 Table = dict[Key, tuple[int, int]]
 
@@ -113,12 +114,12 @@ def deletions(gone: list[Key]) -> Iterator[Operation]:
 
 
 def cut(operations: list[Operation], size: int) -> list[Upload]:
-    """Uploads of at most so many operations. An upload waits for those that wrote what it names, and a deletion
-    for all before it."""
+    """Uploads of at most so many operations, and of no more bytes than a body may have. An upload waits for those
+    that wrote what it names, and a deletion for all before it."""
     uploads: list[Upload] = []
     writer: dict[Key, int] = {}
-    for start in range(0, len(operations), size):
-        part, number = operations[start : start + size], len(uploads)
+    for part in parts(operations, size):
+        number = len(uploads)
         named = {name for _, it in part for name in (key(it), *references(it))}
         after = {writer[name] for name in named if name in writer}
         if any(action == "delete" for action, _ in part):
@@ -126,6 +127,27 @@ def cut(operations: list[Operation], size: int) -> list[Upload]:
         writer.update((key(it), number) for _, it in part)
         uploads.append(Upload(part, after))
     return uploads
+
+
+def parts(operations: list[Operation], size: int) -> Iterator[list[Operation]]:
+    part: list[Operation] = []
+    left = BODY
+    for operation in operations:
+        need = most_bytes(operation.element)
+        if part and (len(part) == size or need > left):
+            yield part
+            part, left = [], BODY
+        part.append(operation)
+        left -= need
+    if part:
+        yield part
+
+
+def most_bytes(it: Element) -> int:
+    """No fewer than the element has in a body: a character may have six, and an id twenty."""
+    texts = sum(len(name) + len(value) for name, value in it.get("tags", {}).items())
+    texts += sum(len(member["role"]) for member in it.get("members", ()))
+    return 200 + 6 * texts + 10 * len(it.get("tags", ())) + 22 * len(it.get("nodes", ())) + 60 * len(it.get("members", ()))
 
 
 def body(operations: list[Operation], table: Table) -> Any:
@@ -138,8 +160,8 @@ def body(operations: list[Operation], table: Table) -> Any:
         known = {} if action == "create" else {"version": version}
         shown = {} if action == "delete" else content(it, here, table)
         written.append((action, {"type": it["type"], "id": number, **known, **shown}))
-    parts = itertools.groupby(written, lambda it: it[0])
-    return {"osmChange": [{action: [it for _, it in some]} for action, some in parts]}
+    blocks = itertools.groupby(written, lambda it: it[0])
+    return {"osmChange": [{action: [it for _, it in some]} for action, some in blocks]}
 
 
 def content(it: Element, here: Table, table: Table) -> Element:

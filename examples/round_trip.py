@@ -1,11 +1,12 @@
 #!/usr/bin/python3
 """Files there and back: examples/round_trip.py [--program ./osm] [--blocks 5] [PART ..]
 
-Starts `PROGRAM serve` on a free port for each part, and compares what comes by same_osm.py. Needs what import_osm.py
-needs. Status 0 where all parts are as they must be:
+Starts `PROGRAM serve` on a free port for each part, and compares what comes by same_osm.py. Needs Debian's
+python3-pyosmium and python3-tqdm, and for `drawn` python3-matplotlib. Status 0 where all parts are as they must be:
 
 - apart: same_osm.py tells a map from others that differ little;
 - whole: a made-up town is imported and exported, all of it, and by a box that is too large for one call;
+- drawn: the picture of the town has the colours of what the town has;
 - killed: the importer is killed on its way, twice, and started again;
 - lost: requests come half, and replies don't come;
 - changed: a .osc is applied by the table of an import;
@@ -172,6 +173,21 @@ def whole(server: Server, town: str, folder: str) -> None:
     run("same_osm.py", small, town, status=1)
 
 
+def drawn(server: Server, town: str, folder: str) -> None:
+    """An area has the colour of its fill, whether a way or a multipolygon is filled, and a line that of its stroke."""
+    run("import_osm.py", *importing(server.port, town))
+    picture = os.path.join(folder, "town.svg")
+    run("draw.py", "--server", url(server.port), "--box=-30.003,44.998,-29.993,45.006", picture)
+    with open(picture, encoding="utf-8") as file:
+        text = file.read()
+    fills = {"house": "#c9b8ab", "water": "#9cc5e0", "park": "#bfe0a8", "wood": "#93bf86", "islet": "#b9d9a0", "tree": "#4f8a45"}
+    strokes = {"primary": "#e8925a", "secondary": "#f4d06f", "footway": "#c08457", "coastline": "#5b93b8"}
+    wanted = {name: f"fill: {it}" for name, it in fills.items()} | {name: f"stroke: {it}" for name, it in strokes.items()}
+    missing = [name for name, it in wanted.items() if it not in text]
+    if missing:
+        raise Wrong(f"the picture has no {', '.join(missing)}")
+
+
 def killed(server: Server, town: str, folder: str) -> None:
     """Ends the importer behind its second and its fifth upload, and starts it again."""
     notes = f"{town}.sent"
@@ -264,7 +280,7 @@ def met(server: Server, town: str, folder: str) -> None:
     check_map(server.port, town, folder)
 
 
-PARTS = {it.__name__: it for it in (apart, whole, killed, lost, changed, met)}
+PARTS = {it.__name__: it for it in (apart, whole, drawn, killed, lost, changed, met)}
 
 
 def main() -> int:
