@@ -287,8 +287,10 @@ def main() -> int:
     parser = argparse.ArgumentParser(usage=(__doc__ or "").split("\n\n")[0].partition(": ")[2])
     parser.add_argument("--program", default=serving.OSM)
     parser.add_argument("--blocks", type=int, default=5)
-    parser.add_argument("parts", nargs="*", choices=PARTS, metavar="PART")
+    parser.add_argument("parts", nargs="*", metavar="PART")
     it = parser.parse_args()
+    if not PARTS.keys() >= set(it.parts):
+        parser.error(f"the parts are {', '.join(PARTS)}")
     faults = 0
     for name in it.parts or PARTS:
         begun = time.monotonic()
