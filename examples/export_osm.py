@@ -1,0 +1,103 @@
+#!/usr/bin/python3
+"""Writes a map as a file: examples/export_osm.py --server URL [--box WEST,SOUTH,EAST,NORTH] FILE
+
+FILE is a .osm, .osm.pbf or the like, and new; needs Debian's python3-pyosmium. Without a box it is the whole map, read by
+id to the last one; then nobody should be editing. With a box, in degrees, it is what the server's map call tells of it,
+in parts where the box is too large for one: relations come without those of their members that are elsewhere.
+"""
+
+from __future__ import annotations
+
+import argparse
+import os
+import sys
+from collections.abc import Iterator
+
+import osm_file
+from map_client import KINDS, Client, Element, Key, Lost, Refused, key
+
+MANY = 500  # ids in a request
+Box = tuple[int, int, int, int]  # west, south, east, north, in units of 1e-7 degrees
+
+
+def read_box(client: Client, box: Box) -> dict[Key, Element]:
+    """The map of a box, in quarters where the server says that it is too large."""
+    west, south, east, north = box
+    try:
+        found = client.ask("GET", "map?bbox=" + ",".join(degrees(it) for it in box))["elements"]
+        return {key(it): it for it in found}
+    except Refused as why:
+        if why.error not in ("map_area", "map_nodes") or (west == east and south == north):
+            raise
+    middle, centre = (west + east) // 2, (south + north) // 2
+    parts: dict[Key, Element] = {}
+    for part in {
+        (west, south, middle, centre),
+        (min(middle + 1, east), south, east, centre),
+        (west, min(centre + 1, north), middle, north),
+        (min(middle + 1, east), min(centre + 1, north), east, north),
+    }:
+        parts.update(read_box(client, part))
+    return parts
+
+
+def degrees(units: int) -> str:
+    return f"{'-' if units < 0 else ''}{abs(units) // 10**7}.{abs(units) % 10**7:07}"
+
+
+def read_all(client: Client) -> dict[Key, Element]:
+    """Each visible element of the map."""
+    return {key(it): it for kind in KINDS for it in read_kind(client, kind) if it["visible"]}
+
+
+def read_kind(client: Client, kind: str) -> Iterator[Element]:
+    """The elements of a kind, deleted ones too. Ids go from 1 up without gaps, so the first one that never was ends them."""
+    first = 1
+    while True:
+        part = read_many(client, kind, first, first + MANY)
+        yield from part
+        if len(part) < MANY:
+            return
+        first += MANY
+
+
+def read_many(client: Client, kind: str, first: int, end: int) -> list[Element]:
+    """Those with an id from `first` to before `end`, up to the first that never was."""
+    if first == end:
+        return []
+    try:
+        return client.ask("GET", f"{kind}s?{kind}s=" + ",".join(map(str, range(first, end))))["elements"]
+    except Refused as why:
+        if why.error != "no_element":
+            raise
+        return read_many(client, kind, first, int(why.why["id"]))
+
+
+def box_of(text: str) -> Box:
+    """`WEST,SOUTH,EAST,NORTH` in degrees."""
+    west, south, east, north = (round(float(it) * 1e7) for it in text.split(","))
+    return west, south, east, north
+
+
+def main() -> int:
+    parser = argparse.ArgumentParser(usage=(__doc__ or "").split("\n\n")[0].partition(": ")[2])
+    parser.add_argument("--server", required=True)
+    parser.add_argument("--box", type=box_of)
+    parser.add_argument("file")
+    it = parser.parse_args()
+    if os.path.exists(it.file):
+        sys.exit(f"export_osm.py: {it.file} is there already")
+    client = Client(it.server)
+    try:
+        elements = read_box(client, it.box) if it.box else read_all(client)
+        osm_file.write(it.file, elements.values())
+    except (Refused, Lost, RuntimeError) as why:
+        print(f"export_osm.py: {why}", file=sys.stderr)
+        return 1
+    counts = ", ".join(f"{sum(name[0] == kind for name in elements)} {kind}s" for kind in KINDS)
+    print(f"{it.file}: {counts}")
+    return 0
+
+
+if __name__ == "__main__":
+    sys.exit(main())
