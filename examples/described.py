@@ -30,6 +30,10 @@ class Operation(NamedTuple):
     def name(self) -> str:
         return str(self.said["operationId"])
 
+    def parameters(self) -> list[str]:
+        """The names of the query's parameters."""
+        return [it["name"] for it in self.said.get("parameters", ()) if it["in"] == "query"]
+
 
 def operation_of(method: str, path: str, said: Schema) -> Operation:
     return Operation(method.upper(), path, re.compile(re.sub("{([a-z]+)}", r"(?P<\1>[^/]+)", path)), said)

@@ -37,13 +37,15 @@ def specification(top: str, schema: str) -> str:
     return f"OpenAPI {written['openapi']} by the specification's own schema"
 
 
+def source(top: str, name: str) -> str:
+    with open(os.path.join(top, "crates", "route_table", "src", name), encoding="utf-8") as file:
+        return file.read()
+
+
 def table(top: str) -> set[tuple[str, str]]:
     """The methods and paths of crates/route_table, as its source has them."""
-    folder = os.path.join(top, "crates", "route_table", "src")
-    with open(os.path.join(folder, "resources.rt"), encoding="utf-8") as file:
-        paths = re.findall(r'\(\s*"(/api/[^"]*)",\s*Resource::(\w+)', file.read())
-    with open(os.path.join(folder, "calls.rt"), encoding="utf-8") as file:
-        parts = re.split(r"\nfn (\w+)", file.read())
+    paths = re.findall(r'\(\s*"(/api/[^"]*)",\s*Resource::(\w+)', source(top, "resources.rt"))
+    parts = re.split(r"\nfn (\w+)", source(top, "calls.rt"))
     methods = collections.defaultdict(set)
     for name, body in zip(parts[1::2], parts[2::2], strict=True):
         for resource in re.findall(r"Resource::(\w+)", body) if name in METHODS else ():
@@ -56,10 +58,12 @@ def routes(top: str) -> str:
     here, there = {(it.method, it.path) for it in operations}, table(top)
     if here != there or not there:
         raise Unfit(f"only in the file: {sorted(here - there)}; only in route_table: {sorted(there - here)}")
-    names = {it.name() for it in operations}
-    if len(names) != len(operations):
+    if len({it.name() for it in operations}) != len(operations):
         raise Unfit("two operations have one name")
-    return f"{len(operations)} operations on {len({it.path for it in operations})} paths, those of route_table"
+    named = {name for it in operations for name in it.parameters()}
+    if named != set(re.findall(r'"(\w+)"', source(top, "calls.rt"))):
+        raise Unfit(f"other parameters than route_table has: {sorted(named)}")
+    return f"{len(operations)} operations on {len({it.path for it in operations})} paths and {len(named)} parameters, those of route_table"
 
 
 def examples(top: str) -> str:
@@ -80,16 +84,15 @@ def answered(program: str, row: Row) -> bytes:
 
 
 class Sessions:
-    """What was found of replies so far."""
+    """What was found so far: which operations were answered with 200, and which errors came."""
 
     def __init__(self, described: Description) -> None:
         self.described = described
-        self.replies = 0
         self.operations: set[str] = set()
         self.errors: set[str] = set()
 
-    def look(self, row: Row, replies: bytes) -> None:
-        """Looks at a row's requests with these replies."""
+    def look(self, row: Row, replies: bytes) -> int:
+        """Looks at a row's requests with these replies, and counts them."""
         asked, came = list(requests_of(row.sent)), list(replies_of(replies))
         for request, reply in zip(asked, came, strict=False):
             why = self.described.reply_fault(request, reply) or self.request_fault(request, reply)
@@ -98,14 +101,16 @@ class Sessions:
                 raise Unfit(f"row {row.name}: {what}: {why}")
         if len(came) > len(asked):
             raise Unfit(f"row {row.name}: more replies than requests")
-        self.replies += len(came)
+        return len(came)
 
     def request_fault(self, request: Asked, reply: Came) -> str:
         """Why a request that was accepted isn't one that is described, or nothing. Counts what came."""
-        if reply.status != 200:
-            self.errors.add(reply.read()["error"])
-            return ""
         operation = self.described.operation(request)
+        if reply.status != 200:
+            why = reply.read()
+            self.errors.add(why["error"])
+            is_other = operation is not None and why.get("name", "") not in ("", *operation.parameters())
+            return "it has no such parameter" if is_other else ""
         if operation is None:
             return "there is no such operation"
         self.operations.add(operation.name())
@@ -121,16 +126,17 @@ class Sessions:
 
 def sessions(top: str, program: str) -> str:
     rows = [it for it in rows_of(os.path.join(top, "crates", "session_rows", "stdin")) if it.is_session()]
-    found = Sessions(description(top))
+    found, count = Sessions(description(top)), 0
     with ThreadPoolExecutor(os.cpu_count()) as pool:
         for row, replies in zip(rows, pool.map(lambda row: answered(program, row), rows), strict=True):
             if not row.moments and replies != row.wanted:
                 raise Unfit(f"row {row.name}: other replies than it wants: {replies[:300]!r}")
-            for each in dict.fromkeys((row.wanted, replies)):
-                found.look(row, each)
+            if row.moments:
+                found.look(row, row.wanted)
+            count += found.look(row, replies)
     if unseen := found.unseen():
         raise Unfit(f"never answered: {unseen}")
     return (
-        f"{len(rows)} sessions, {found.replies:,} replies; each fits, and so does each request that was accepted; "
+        f"{len(rows)} sessions, {count:,} replies; each fits, and so does each request that was accepted; "
         f"each operation was answered with 200, and each error came but {' and '.join(sorted(UNSEEN))}"
     )

@@ -2,8 +2,8 @@
 """Tries nginx.conf: examples/deploy/through_nginx.py [--program PROGRAM] [--seconds 0]
 
 Starts `PROGRAM serve` with four workers and nginx with the site in front of it, on free ports of the loopback and with a
-certificate of its own making; sends by curl and by links of its own what the site is for, and, for so many seconds each, GETs by
-wrk, straight to the server and through nginx. Needs Debian's curl, nginx-light and openssl, and wrk where there are seconds. PROGRAM
+certificate of its own making, and sends by curl and by links of its own what the site is for. Then, for so many seconds each, GETs
+by wrk to a server with 64 workers, straight and through nginx. Needs Debian's curl, nginx-light and openssl, and wrk where there are seconds. PROGRAM
 is crates/osm/out/osm where none is named. Status 0 where all is as it should be.
 """
 
@@ -77,10 +77,10 @@ def run(*words: str) -> bytes:
     return done.stdout
 
 
-def site(folder: str, server: int, port: int) -> str:
-    """The site with other ports, files and links kept: two workers of the server stay free."""
+def site(folder: str, server: int, port: int, kept: int) -> str:
+    """The site with other ports and files, and so many links kept by each process of nginx."""
     with open(os.path.join(HERE, "nginx.conf"), encoding="utf-8") as file:
-        text = file.read().replace("/etc/hegunsap/tls", folder).replace("keepalive 8;", "keepalive 1;")
+        text = file.read().replace("/etc/hegunsap/tls", folder).replace("keepalive 8;", f"keepalive {kept};")
     text = text.replace("127.0.0.1:8080;", f"127.0.0.1:{server};").replace("listen 443", f"listen 127.0.0.1:{port}")
     return re.sub(r".*listen \[::\].*\n", "", text)
 
@@ -111,14 +111,14 @@ class Front:
 
 
 @contextmanager
-def front(program: str) -> Iterator[Front]:
-    with tempfile.TemporaryDirectory() as folder, Server(program, WORKERS, USERS) as server:
+def front(program: str, workers: int, kept: int) -> Iterator[Front]:
+    with tempfile.TemporaryDirectory() as folder, Server(program, workers, USERS) as server:
         os.chmod(folder, 0o755)
         key, certificate = f"{folder}/key.pem", f"{folder}/certificate.pem"
         name = ["-subj", f"/CN={NAME}", "-addext", f"subjectAltName=DNS:{NAME}"]
         run("openssl", "req", "-x509", "-newkey", "ec", "-pkeyopt", "ec_paramgen_curve:P-256", "-nodes", "-keyout", key, "-out", certificate, *name)
         it = Front(folder, server)
-        for path, text in (("site.conf", site(folder, server.port, it.port)), ("main.conf", MAIN.format(folder=folder))):
+        for path, text in (("site.conf", site(folder, server.port, it.port, kept)), ("main.conf", MAIN.format(folder=folder))):
             with open(os.path.join(folder, path), "w", encoding="utf-8") as file:
                 file.write(text)
         run(NGINX, "-t", "-q", "-e", f"{folder}/error.log", "-c", f"{folder}/main.conf")
@@ -202,8 +202,15 @@ def requests_and_links(it: Front) -> str:
     return f"2,500 GETs on {links} links; beside 100 idle links a GET by curl takes {1000 * took:.0f} ms"
 
 
+def upload(it: Front, count: int) -> None:
+    """So many nodes, from 48.1 degrees north on, in a new changeset."""
+    nodes = b",".join(b'{"type":"node","id":-%d,"lat7":%d,"lon7":115000000}' % (i, 481000000 + i) for i in range(1, count + 1))
+    changeset = it.ask("PUT", "changeset/create")[1].decode()
+    want("an upload", 200, it.ask("POST", f"changeset/{changeset}/upload", b'{"osmChange":[{"create":[%s]}]}' % nodes)[0])
+
+
 def half_sent(stream: socket.socket) -> socket.socket:
-    stream.sendall(b"POST /api/0.6/changeset/2/upload HTTP/1.1\r\nHost: x\r\nContent-Length: 1000\r\n\r\n{")
+    stream.sendall(b"POST /api/0.6/changeset/1/upload HTTP/1.1\r\nHost: x\r\nContent-Length: 1000\r\n\r\n{")
     return stream
 
 
@@ -229,9 +236,7 @@ def is_answered(port: int, wait: float = 1) -> bool:
 
 def slow_clients(it: Front) -> str:
     """Clients that send or read slowly hold no worker; straight at the server they do."""
-    nodes = b",".join(b'{"type":"node","id":-%d,"lat7":%d,"lon7":115000000}' % (i, 481000000 + i) for i in range(1, NODES + 1))
-    it.ask("PUT", "changeset/create")
-    want("an upload of many nodes", 200, it.ask("POST", "changeset/2/upload", b'{"osmChange":[{"create":[%s]}]}' % nodes)[0])
+    upload(it, NODES)
     slow = [half_sent(connect(it.server.port)) for _ in range(WORKERS)]
     want("a GET beside slow clients of the server is answered", False, is_answered(it.server.port))
     for link in slow:
@@ -266,11 +271,12 @@ def wrk(url: str, links: int, seconds: int) -> str:
 
 
 def figures(it: Front, seconds: int) -> None:
+    upload(it, 200)
     straight, through = f"http://127.0.0.1:{it.server.port}/api/0.6", f"https://127.0.0.1:{it.port}/api/0.6"
-    for path in ("node/1", "map?bbox=11.4999,48.0999,11.5001,48.10002"):
-        print(f"GET {path.partition('?')[0]}, straight, {WORKERS} links: {wrk(f'{straight}/{path}', WORKERS, seconds)}")
-        for links in (WORKERS, 64):
-            print(f"GET {path.partition('?')[0]}, through nginx and TLS, {links} links: {wrk(f'{through}/{path}', links, seconds)}")
+    for what, path in (("a node", "node/1"), ("a map of 200 nodes", "map?bbox=11.4,48,11.6,48.2")):
+        print(f"{what}, straight, 4 links: {wrk(f'{straight}/{path}', 4, seconds)}")
+        for links in (4, 64):
+            print(f"{what}, through nginx and TLS, {links} links: {wrk(f'{through}/{path}', links, seconds)}")
 
 
 def main() -> int:
@@ -279,10 +285,11 @@ def main() -> int:
     parser.add_argument("--seconds", type=int, default=0)
     it = parser.parse_args()
     try:
-        with front(it.program) as found:
+        with front(it.program, WORKERS, 1) as found:
             for part in (calls, limits, requests_and_links, slow_clients, small_replies):
                 print(part(found), flush=True)
-            if it.seconds:
+        if it.seconds:
+            with front(it.program, 64, 8) as found:
                 figures(found, it.seconds)
     except Wrong as why:
         print(f"wrong: {why}")
