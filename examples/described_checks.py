@@ -13,10 +13,18 @@ from concurrent.futures import ThreadPoolExecutor
 import jsonschema
 from described import Description, fault
 from messages import Asked, Came, replies_of, requests_of
-from session_rows import Row, rows_of
+from session_rows import Row, row_of, rows_of
 
-# What no session of these rows brings about: the first takes 50,001 nodes, the second a machine without memory.
-UNSEEN = {"map_nodes", "memory"}
+# What isn't brought about here: it takes a machine without memory.
+UNSEEN = {"memory"}
+# A session as in a row, whose last request asks for a box with more nodes than it may have.
+NODES = '{"osmChange":[{"create":[$8334,({"type":"node","id":-#,"lat7":5,"lon7":6})]}]}'
+CROWDED = "\n".join(
+    ["a box with 50,004 nodes"]
+    + [f"alice PUT changeset/create\nalice POST changeset/{number}/upload {NODES}" for number in range(1, 7)]
+    + ["nobody GET map?bbox=0,0,0.1,0.1"]
+)
+TOO_MANY = {"error": "map_nodes", "limit": 50000, "nodes": 50004}
 METHODS = {"get_call": "GET", "put_call": "PUT", "post_call": "POST", "delete_call": "DELETE"}
 
 
@@ -95,13 +103,16 @@ class Sessions:
         """Looks at a row's requests with these replies, and counts them."""
         asked, came = list(requests_of(row.sent)), list(replies_of(replies))
         for request, reply in zip(asked, came, strict=False):
-            why = self.described.reply_fault(request, reply) or self.request_fault(request, reply)
-            if why:
-                what = f"{request.method} {request.target[:100]} is answered {reply.status} {reply.body[:200]!r}"
-                raise Unfit(f"row {row.name}: {what}: {why}")
+            self.look_at(row.name, request, reply)
         if len(came) > len(asked):
             raise Unfit(f"row {row.name}: more replies than requests")
         return len(came)
+
+    def look_at(self, name: str, request: Asked, reply: Came) -> None:
+        why = self.described.reply_fault(request, reply) or self.request_fault(request, reply)
+        if why:
+            what = f"{request.method} {request.target[:100]} is answered {reply.status} {reply.body[:200]!r}"
+            raise Unfit(f"row {name}: {what}: {why}")
 
     def request_fault(self, request: Asked, reply: Came) -> str:
         """Why a request that was accepted isn't one that is described, or nothing. Counts what came."""
@@ -124,6 +135,16 @@ class Sessions:
         return ", ".join(sorted(names - self.operations) + sorted(errors - self.errors - UNSEEN))
 
 
+def crowded(program: str, found: Sessions) -> None:
+    """Looks at the refusal of a box with too many nodes."""
+    row = row_of(CROWDED)
+    *_, request = requests_of(row.sent)
+    *_, reply = replies_of(answered(program, row))
+    if reply.read() != TOO_MANY:
+        raise Unfit(f"{row.name}: {reply.status} {reply.body[:200]!r}")
+    found.look_at(row.name, request, reply)
+
+
 def sessions(top: str, program: str) -> str:
     rows = [it for it in rows_of(os.path.join(top, "crates", "session_rows", "stdin")) if it.is_session()]
     found, count = Sessions(description(top)), 0
@@ -134,9 +155,10 @@ def sessions(top: str, program: str) -> str:
             if row.moments:
                 found.look(row, row.wanted)
             count += found.look(row, replies)
+    crowded(program, found)
     if unseen := found.unseen():
         raise Unfit(f"never answered: {unseen}")
     return (
         f"{len(rows)} sessions, {count:,} replies; each fits, and so does each request that was accepted; "
-        f"each operation was answered with 200, and each error came but {' and '.join(sorted(UNSEEN))}"
+        f"each operation was answered with 200, and each error came but {', '.join(UNSEEN)}"
     )
