@@ -1,0 +1,164 @@
+"""What examples/check holds docs/openapi.yaml against: the specification, the table of routes, and the sessions of rows."""
+
+from __future__ import annotations
+
+import collections
+import json
+import os
+import re
+import subprocess
+import tempfile
+from concurrent.futures import ThreadPoolExecutor
+
+import jsonschema
+from described import Description, fault
+from messages import Asked, Came, replies_of, requests_of
+from session_rows import Row, row_of, rows_of
+
+# What isn't brought about here: it takes a machine without memory.
+UNSEEN = {"memory"}
+# A session as in a row, whose last request asks for a box with more nodes than it may have.
+NODES = '{"osmChange":[{"create":[$8334,({"type":"node","id":-#,"lat7":5,"lon7":6})]}]}'
+CROWDED = "\n".join(
+    ["a box with 50,004 nodes"]
+    + [f"alice PUT changeset/create\nalice POST changeset/{number}/upload {NODES}" for number in range(1, 7)]
+    + ["nobody GET map?bbox=0,0,0.1,0.1"]
+)
+TOO_MANY = {"error": "map_nodes", "limit": 50000, "nodes": 50004}
+METHODS = {"get_call": "GET", "put_call": "PUT", "post_call": "POST", "delete_call": "DELETE"}
+
+
+class Unfit(Exception):
+    """What doesn't fit."""
+
+
+def description(top: str) -> Description:
+    return Description(os.path.join(top, "docs", "openapi.yaml"))
+
+
+def specification(top: str, schema: str) -> str:
+    with open(schema, encoding="utf-8") as file:
+        rules = jsonschema.Draft4Validator(json.load(file))
+    written = description(top).written
+    for error in rules.iter_errors(written):
+        raise Unfit(f"{'/'.join(map(str, error.absolute_path))}: {error.message[:300]}")
+    return f"OpenAPI {written['openapi']} by the specification's own schema"
+
+
+def source(top: str, name: str) -> str:
+    with open(os.path.join(top, "crates", "route_table", "src", name), encoding="utf-8") as file:
+        return file.read()
+
+
+def table(top: str) -> set[tuple[str, str]]:
+    """The methods and paths of crates/route_table, as its source has them."""
+    paths = re.findall(r'\(\s*"(/api/[^"]*)",\s*Resource::(\w+)', source(top, "resources.rt"))
+    parts = re.split(r"\nfn (\w+)", source(top, "calls.rt"))
+    methods = collections.defaultdict(set)
+    for name, body in zip(parts[1::2], parts[2::2], strict=True):
+        for resource in re.findall(r"Resource::(\w+)", body) if name in METHODS else ():
+            methods[resource].add(METHODS[name])
+    return {(method, path) for path, resource in paths for method in methods[resource]}
+
+
+def routes(top: str) -> str:
+    operations = description(top).operations
+    here, there = {(it.method, it.path) for it in operations}, table(top)
+    if here != there or not there:
+        raise Unfit(f"only in the file: {sorted(here - there)}; only in route_table: {sorted(there - here)}")
+    if len({it.name() for it in operations}) != len(operations):
+        raise Unfit("two operations have one name")
+    named = {name for it in operations for name in it.parameters()}
+    if named != set(re.findall(r'"(\w+)"', source(top, "calls.rt"))):
+        raise Unfit(f"other parameters than route_table has: {sorted(named)}")
+    return f"{len(operations)} operations on {len({it.path for it in operations})} paths and {len(named)} parameters, those of route_table"
+
+
+def examples(top: str) -> str:
+    found = list(description(top).examples())
+    for where, schema, value in found:
+        if why := fault(schema, value):
+            raise Unfit(f"the example of {where}: {why}")
+    return f"{len(found)} examples fit"
+
+
+def answered(program: str, row: Row) -> bytes:
+    """What the program answers to all that a row sends, with the clock at the row's first moment."""
+    with tempfile.NamedTemporaryFile() as users:
+        users.write(row.users)
+        users.flush()
+        words = [program, "pipe", "--users", users.name, "--at", str(row.moment())]
+        return subprocess.run(words, input=row.sent, capture_output=True, timeout=60, check=False).stdout
+
+
+class Sessions:
+    """What was found so far: which operations were answered with 200, and which errors came."""
+
+    def __init__(self, described: Description) -> None:
+        self.described = described
+        self.operations: set[str] = set()
+        self.errors: set[str] = set()
+
+    def look(self, row: Row, replies: bytes) -> int:
+        """Looks at a row's requests with these replies, and counts them."""
+        asked, came = list(requests_of(row.sent)), list(replies_of(replies))
+        for request, reply in zip(asked, came, strict=False):
+            self.look_at(row.name, request, reply)
+        if len(came) > len(asked):
+            raise Unfit(f"row {row.name}: more replies than requests")
+        return len(came)
+
+    def look_at(self, name: str, request: Asked, reply: Came) -> None:
+        why = self.described.reply_fault(request, reply) or self.request_fault(request, reply)
+        if why:
+            what = f"{request.method} {request.target[:100]} is answered {reply.status} {reply.body[:200]!r}"
+            raise Unfit(f"row {name}: {what}: {why}")
+
+    def request_fault(self, request: Asked, reply: Came) -> str:
+        """Why a request that was accepted isn't one that is described, or nothing. Counts what came."""
+        operation = self.described.operation(request)
+        if reply.status != 200:
+            why = reply.read()
+            self.errors.add(why["error"])
+            is_other = operation is not None and why.get("name", "") not in ("", *operation.parameters())
+            return "it has no such parameter" if is_other else ""
+        if operation is None:
+            return "there is no such operation"
+        self.operations.add(operation.name())
+        return self.described.request_fault(operation, request)
+
+    def unseen(self) -> str:
+        """Which operations and errors of the file never came, past those that can't."""
+        schemas = self.described.written["components"]["schemas"]
+        errors = {it["properties"]["error"]["enum"][0] for name, it in schemas.items() if name.endswith("Error")}
+        names = {it.name() for it in self.described.operations}
+        return ", ".join(sorted(names - self.operations) + sorted(errors - self.errors - UNSEEN))
+
+
+def crowded(program: str, found: Sessions) -> None:
+    """Looks at the refusal of a box with too many nodes."""
+    row = row_of(CROWDED)
+    *_, request = requests_of(row.sent)
+    *_, reply = replies_of(answered(program, row))
+    if reply.read() != TOO_MANY:
+        raise Unfit(f"{row.name}: {reply.status} {reply.body[:200]!r}")
+    found.look_at(row.name, request, reply)
+
+
+def sessions(top: str, program: str) -> str:
+    rows = [it for it in rows_of(os.path.join(top, "crates", "session_rows", "stdin")) if it.is_session()]
+    found, count = Sessions(description(top)), 0
+    with ThreadPoolExecutor(os.cpu_count()) as pool:
+        for row, replies in zip(rows, pool.map(lambda row: answered(program, row), rows), strict=True):
+            if not row.moments and replies != row.wanted:
+                raise Unfit(f"row {row.name}: other replies than it wants: {replies[:300]!r}")
+            if row.moments:
+                found.look(row, row.wanted)
+            count += found.look(row, replies)
+    crowded(program, found)
+    if unseen := found.unseen():
+        raise Unfit(f"never answered: {unseen}")
+    return (
+        f"{len(rows)} sessions, {count:,} replies; each fits, and so does each request that was accepted; "
+        f"each operation was answered with 200, and each error came but {', '.join(UNSEEN)}"
+    )
