@@ -1,17 +1,14 @@
 -- One element's standing changed.
-use Rattle.std.proofs.Common.{◌≡◌, ℕ, ◌+◌, length, List, Bool, true, false, refl, sym, ap, ◌∙◌, ⊎_elim, Some}
+use Rattle.std.proofs.Common.{◌≡◌, ℕ, ◌+◌, List, Bool, true, false, refl, sym, ap, ◌∙◌, ⊎_elim, Some}
 use Rattle.std.specs.Prelude.{Option, unwrap_or, if◌then◌else◌}
 use Rattle.std.proofs.lemmas.Bool.{cases_Bool}
 use Rattle.osm_base.specs.Key.{key_eq}
 use Rattle.osm_base.specs.declared.keys.Key.{Key}
 use Rattle.osm_base.proofs.KeyOrder.{key_eq-same}
 use Rattle.osm_element.specs.declared.elements.Elements.{Elements}
-use Rattle.osm_element.specs.Elements.{refs_in}
-use Rattle.osm_change.specs.declared.operations.Op.{Op}
-use Rattle.osm_world.specs.Beds.{content_of_op}
-use Rattle.upload_check.specs.Overlay.{Notes, Sight, noted, standing_before, standing_in, content_now}
-use Rattle.upload_check.specs.Effects.{user_counts, SameElements, IsSet, IsRevised, IsApplied, holds_of}
-use Rattle.upload_check.specs.Users.{others, one_if, AreLowered, AreRaised}
+use Rattle.upload_check.specs.Overlay.{Notes, noted, standing_before, standing_in}
+use Rattle.upload_check.specs.Effects.{user_counts, SameElements, IsSet, IsRevised, IsMade}
+use Rattle.upload_check.specs.Users.{AreLowered, AreRaised}
 use Rattle.upload_check.specs.declared.standings.Holds.{Holds}
 use Rattle.upload_check.specs.declared.standings.Standing.{Standing}
 
@@ -70,29 +67,19 @@ same_after E a b c first next = record {
   holds = λ k. next.holds k ∙ first.holds k;
 }
 
--- fewer users of the old references, more of the new ones, and a version more
-pub applied-is :
-    (s : Sight) (o : Op) (k : Key) (h : Holds) (ks : List Key) (place : ℕ) (a b c : Notes)
-    → ks ≡ s.over.keys
-    → h ≡ holds_of place o
-    → place ≡ length s.over.keys
-    → AreLowered k (refs_in (content_now s k)) (user_counts s.before s.over.notes) (user_counts s.before a)
-    → SameElements s.before s.over.notes a
-    → AreRaised k (refs_in (content_of_op ks o)) (user_counts s.before a) (user_counts s.before b)
-    → SameElements s.before a b
-    → IsRevised s.before k h b c
-    → IsApplied s o k c
-applied-is s o k h ks place a b c keys held at lowered first raised second revised = record {
-  counts = user_counts s.before a;
-  lowered = lowered;
-  raised = λ x.
-      revised.users x ∙ raised x
-      ∙ ap (λ (l : List Key). user_counts s.before a x + one_if (others k (refs_in (content_of_op l o)) x)) keys;
-  versions = λ x.
-      revised.versions x
-      ∙ ap (λ (n : ℕ). if key_eq x k then n + 1 else n) (second.versions x ∙ first.versions x);
-  holds = λ x.
-      revised.held x
-      ∙ ap (λ (q : Holds). if key_eq x k then q else (standing_in s.before b x).holds) (held ∙ ap (λ (n : ℕ). holds_of n o) at)
-      ∙ ap (λ (q : Holds). if key_eq x k then holds_of (length s.over.keys) o else q) (second.holds x ∙ first.holds x);
+-- a version more, then fewer users of some elements, and more of others
+pub made_is :
+    (E : Elements) (k : Key) (holds : Holds) (ended begun : List Key) (a b c d : Notes)
+    → IsRevised E k holds a b
+    → AreLowered k ended (user_counts E b) (user_counts E c)
+    → SameElements E b c
+    → AreRaised k begun (user_counts E c) (user_counts E d)
+    → SameElements E c d
+    → IsMade E k holds ended begun a d
+made_is E k holds ended begun a b c d revised lowered first raised second = record {
+  counts = user_counts E c;
+  lowered = λ x. lowered x ∙ revised.users x;
+  raised = raised;
+  versions = λ x. second.versions x ∙ first.versions x ∙ revised.versions x;
+  held = λ x. second.holds x ∙ first.holds x ∙ revised.held x;
 }

@@ -3,9 +3,11 @@ mod Users
 mod FirstUser
 mod Named
 mod Changed
+mod Kept
 mod Agrees
 mod Given
 mod Entered
+mod Alike
 mod SoFar
 mod Made
 mod Settled

@@ -1,6 +1,6 @@
 -- What is noted of one kind's elements, after one of them is set.
 use Rattle.std.proofs.Common.{◌≡◌, ℕ, ◌-◌, ◌<◌, ◌≤◌, Bool, true, false, refl, sym, ap, ◌∙◌, List, length, Some, None, subst, arith}
-use Rattle.std.specs.Prelude.{Option, slice_get, nat_lt, ◌==◌, if◌then◌else◌}
+use Rattle.std.specs.Prelude.{Option, is_some, slice_get, nat_lt, ◌==◌, if◌then◌else◌}
 use Rattle.std.specs.Map.{lookup}
 use Rattle.std.specs.Option.{option_or}
 use Rattle.std.specs.Ordering.{nat_cmp}
@@ -45,6 +45,19 @@ set-older old new id at first created none older i =
     here : (i == id) ≡ true → created_at old i ≡ None
     here e = subst (λ (n : ℕ). created_at old n ≡ None) (sym (equal i id e)) none
 
+created-early : (n : KindNotes) (id : ℕ) → id < n.first → created_at n id ≡ None
+created-early n id early = ap (λ (p : Bool). if p then None else slice_get n.created (id - n.first)) (before id n.first early)
+  where
+    before : (m n : ℕ) → m < n → nat_lt m n ≡ true
+    before m n h = grind (arith, nat_tests)
+
+created-past : (n : KindNotes) (id : ℕ) → length n.created ≤ id - n.first → created_at n id ≡ None
+created-past n id past = along (nat_lt id n.first)
+  where
+    along : (p : Bool) → (if p then None else slice_get n.created (id - n.first)) ≡ None
+    along true = refl
+    along false = slice_get_past n.created (id - n.first) past
+
 pub set_early :
     (old new : KindNotes) (id : ℕ) (at : Standing)
     → new.first ≡ old.first
@@ -52,10 +65,16 @@ pub set_early :
     → id < old.first
     → SetsOlder old new id at
     → Sets old new id at
-set_early old new id at first created early older = set-older old new id at first created (ap (λ (p : Bool). if p then None else slice_get old.created (id - old.first)) (before id old.first early)) older
-  where
-    before : (m n : ℕ) → m < n → nat_lt m n ≡ true
-    before m n h = grind (arith, nat_tests)
+set_early old new id at first created early older = set-older old new id at first created (created-early old id early) older
+
+pub set_past :
+    (old new : KindNotes) (id : ℕ) (at : Standing)
+    → new.first ≡ old.first
+    → new.created ≡ old.created
+    → length old.created ≤ id - old.first
+    → SetsOlder old new id at
+    → Sets old new id at
+set_past old new id at first created past older = set-older old new id at first created (created-past old id past) older
 
 pub set_beyond :
     (old new : KindNotes) (id : ℕ) (at : Standing)
@@ -64,14 +83,14 @@ pub set_beyond :
     → length old.created < id - old.first
     → SetsOlder old new id at
     → Sets old new id at
-set_beyond old new id at first created beyond older = set-older old new id at first created (along (nat_lt id old.first)) older
-  where
-    past : (m n : ℕ) → m < n → m ≤ n
-    past m n h = omega (arith, h)
+set_beyond old new id at first created beyond older = set_past old new id at first created (omega (arith, beyond)) older
 
-    along : (p : Bool) → (if p then None else slice_get old.created (id - old.first)) ≡ None
-    along true = refl
-    along false = slice_get_past old.created (id - old.first) (past (length old.created) (id - old.first) beyond)
+-- what is noted of such an element is noted among the older ones
+pub noted_early : (n : KindNotes) (id : ℕ) → id < n.first → is_some (noted_at n id) ≡ true → is_some (older_at n id) ≡ true
+noted_early n id early there = sym (ap (λ (o : Option Standing). is_some (option_or o (older_at n id))) (created-early n id early)) ∙ there
+
+pub noted_past : (n : KindNotes) (id : ℕ) → length n.created ≤ id - n.first → is_some (noted_at n id) ≡ true → is_some (older_at n id) ≡ true
+noted_past n id past there = sym (ap (λ (o : Option Standing). is_some (option_or o (older_at n id))) (created-past n id past)) ∙ there
 
 -- a created one
 pub set_created :

@@ -168,7 +168,7 @@ listed-used E a b listed other = used E a b (ap (λ (p : Bool). p && not (key_eq
 
 -- ---- one at a time, along a list in order
 
-lists-at : (ks : List Key) (i : ℕ) (d : Key) → i < length ks → lists_key ks (get_or ks i d) ≡ true
+pub lists-at : (ks : List Key) (i : ℕ) (d : Key) → i < length ks → lists_key ks (get_or ks i d) ≡ true
 lists-at [] i d within = absurd (omega (arith, within))
 lists-at (x ∷ xs) zero d within = ap (λ (p : Bool). p || lists_key xs x) (key_eq-refl x)
 lists-at (x ∷ xs) (suc i) d within =
@@ -259,6 +259,13 @@ raise_next k once i d was now next within up so_far step b =
     sum n true true apart = absurd (true≢false (apart refl))
     sum n true false apart = omega arith
     sum n false q apart = omega arith
+
+-- what comes next wasn't raised
+pub raise_fresh : (k : Key) (once : List Key) (i : ℕ) (d : Key) (was now : Key → ℕ) → i < length once → IsRising once → AreRaised k (take i once) was now → now (get_or once i d) ≡ was (get_or once i d)
+raise_fresh k once i d was now within up so_far =
+    let here = get_or once i d in
+    let same : now here ≡ was here + 0 = so_far here ∙ ap (λ (p : Bool). was here + one_if p) (others-fresh k once i d within up) in
+    omega (arith, same)
 
 -- another list of the same keys
 pub raised-same : (k : Key) (once refs : List Key) (was now : Key → ℕ) → ((b : Key) → lists_key once b ≡ lists_key refs b) → AreRaised k once was now → AreRaised k refs was now

@@ -1,6 +1,6 @@
 -- What an operation that is passed makes of the overlay.
-use Rattle.std.specs.Prelude.{◌≡◌, ℕ, ◌+◌, ◌<◌, Bool, true, false, if◌then◌else◌, [], ◌∷◌, ◌++◌, length}
-use Rattle.osm_base.specs.Key.{key_eq}
+use Rattle.std.specs.Prelude.{◌≡◌, ℕ, ◌+◌, ◌<◌, ◌^◌, Bool, true, false, if◌then◌else◌, List, [], ◌∷◌, ◌++◌, length}
+use Rattle.osm_base.specs.Key.{key_eq, lists_key}
 use Rattle.osm_base.specs.declared.keys.Key.{Key}
 use Rattle.osm_element.specs.Elements.{refs_in}
 use Rattle.osm_element.specs.declared.elements.Elements.{Elements}
@@ -10,7 +10,7 @@ use Rattle.osm_change.specs.declared.operations.Op.TheVariants.{Create, Modify, 
 use Rattle.osm_change.specs.declared.operations.OpDone.{OpDone}
 use Rattle.osm_change.specs.declared.operations.OpDone.TheVariants.{Applied, Skipped}
 use Rattle.osm_world.specs.Beds.{content_of_op}
-use Rattle.upload_check.specs.Overlay.{Notes, Overlaid, Sight, standing_in, standing, content_now}
+use Rattle.upload_check.specs.Overlay.{Notes, Overlaid, Sight, IsNoted, standing_in, standing, content_now}
 use Rattle.upload_check.specs.Users.{others, AreLowered, AreRaised}
 use Rattle.upload_check.specs.declared.standings.Holds.{Holds}
 use Rattle.upload_check.specs.declared.standings.Standing.{Standing}
@@ -30,6 +30,23 @@ pub record SameElements (E : Elements) (old new : Notes) : Type 0 where
   pub versions : (b : Key) → (standing_in E new b).versions ≡ (standing_in E old b).versions
   pub holds : (b : Key) → (standing_in E new b).holds ≡ (standing_in E old b).holds
 
+-- each element stands in the new notes as in the old, which may have less
+abbrev pub AreAsBefore : Elements → Notes → Notes → Type 0
+AreAsBefore E old new = (b : Key) → standing_in E new b ≡ standing_in E old b
+
+-- something is still noted of each element of which something was
+abbrev pub StayNoted : Notes → Notes → Type 0
+StayNoted old new = (b : Key) → IsNoted old b → IsNoted new b
+
+-- one user more or less of an element takes no memory, and its number has a next
+pub record IsReady (E : Elements) (n : Notes) (k : Key) : Type 0 where
+  pub noted : IsNoted n k
+  pub room : user_counts E n k + 1 < 2 ^ 64
+
+-- the same of each of a list
+abbrev pub AreReady : Elements → Notes → List Key → Type 0
+AreReady E n ks = (b : Key) → lists_key ks b ≡ true → IsReady E n b
+
 -- where the content of an operation stands
 abbrev pub holds_of : ℕ → Op → Holds
 holds_of place (Create placeholder content tags) = FromOperation place
@@ -45,6 +62,14 @@ pub record IsRevised (E : Elements) (k : Key) (holds : Holds) (old new : Notes) 
   pub versions : (b : Key) → (standing_in E new b).versions ≡ (if key_eq b k then (standing_in E old b).versions + 1 else (standing_in E old b).versions)
   pub held : (b : Key) → (standing_in E new b).holds ≡ (if key_eq b k then holds else (standing_in E old b).holds)
   pub users : (b : Key) → (standing_in E new b).users ≡ (standing_in E old b).users
+
+-- the same, while each of some elements has a user less, and each of others then a user more
+pub record IsMade (E : Elements) (k : Key) (holds : Holds) (ended begun : List Key) (old new : Notes) : Type 0 where
+  pub counts : Key → ℕ
+  pub lowered : AreLowered k ended (user_counts E old) counts
+  pub raised : AreRaised k begun counts (user_counts E new)
+  pub versions : (b : Key) → (standing_in E new b).versions ≡ (if key_eq b k then (standing_in E old b).versions + 1 else (standing_in E old b).versions)
+  pub held : (b : Key) → (standing_in E new b).holds ≡ (if key_eq b k then holds else (standing_in E old b).holds)
 
 -- the element's old references are one user less, its new ones one more
 pub record IsApplied (s : Sight) (o : Op) (k : Key) (new : Notes) : Type 0 where

@@ -1,5 +1,5 @@
 -- What an upload has come to after some of its operations, beside the elements of before.
-use Rattle.std.specs.Prelude.{◌≡◌, ℕ, ◌-◌, ◌<◌, ◌≤◌, nat_lt, if◌then◌else◌, Bool, false, not, ◌&&◌, List, [], length, take, slice_get, Option, Some, None, is_some, option_and_then, unwrap_or}
+use Rattle.std.specs.Prelude.{◌≡◌, ℕ, ◌-◌, ◌<◌, ◌≤◌, nat_lt, if◌then◌else◌, Bool, true, false, not, ◌&&◌, List, [], length, take, slice_get, Option, Some, None, is_some, option_and_then, unwrap_or}
 use Rattle.std.specs.Map.{lookup}
 use Rattle.std.specs.Option.{option_or}
 use Rattle.std.specs.Ordering.{nat_cmp}
@@ -52,6 +52,10 @@ notes_of n kind.Relation = n.relations
 
 abbrev pub noted : Notes → Key → Option Standing
 noted n k = noted_at (notes_of n k.kind) k.id
+
+-- something is noted of an element, so another standing of it takes no memory
+abbrev pub IsNoted : Notes → Key → Type 0
+IsNoted n k = is_some (noted n k) ≡ true
 
 -- the elements of the operations so far, the ids that come next, and what is noted
 pub record Overlaid : Type 0 where
@@ -115,3 +119,10 @@ pub record StandsFor (s : Sight) (g : Progress) : Type 0 where
   -- the elements of the operations so far have ids that were given, and none was taken back
   pub given : (place : ℕ) (k : Key) → slice_get s.over.keys place ≡ Some k → (0 < k.id) × (k.id < next_id g.elements k.kind)
   pub grown : (q : Kind) → next_id s.before q ≤ next_id g.elements q
+
+-- Two overlays that stand for the same, whatever it is: they have the same elements and the same ids
+-- that come next, and each element stands alike. What is noted may differ.
+pub record StandsAlike (E : Elements) (old new : Overlaid) : Type 0 where
+  pub keys : new.keys ≡ old.keys
+  pub next : new.next ≡ old.next
+  pub standings : (k : Key) → standing_in E new.notes k ≡ standing_in E old.notes k

@@ -1,10 +1,11 @@
 //! One operation judged.
-ghost use Rattle.std.specs.Prelude.{◌≡◌, ℕ, ◌+◌, ◌<◌, ◌^◌, length, slice_get, Some, IfOk, OnOk};
+ghost use Rattle.std.specs.Prelude.{◌≡◌, ℕ, ◌+◌, ◌<◌, ◌^◌, length, slice_get, Some, IfOk, OnOk, OnErr};
 ghost use Rattle.osm_change.specs.declared.operations.Op.{Op};
+ghost use Rattle.osm_model.specs.declared.uploads.Progress.{Progress};
 ghost use Rattle.osm_world.specs.World.{state_of};
 ghost use Rattle.upload_check.specs.Effects.{HasUsers, IsEntered, done_of};
 ghost use Rattle.upload_check.specs.Judged.{IsAt, IsJudged, Leaves};
-ghost use Rattle.upload_check.specs.Overlay.{sight};
+ghost use Rattle.upload_check.specs.Overlay.{sight, StandsAlike, StandsFor};
 
 use crate::checks::Step;
 use crate::overlays::Overlay;
@@ -23,8 +24,8 @@ pub enum Judged {
 }
 
 /// Judges the operation at a place, counted from 0, on what those before it left, for which the
-/// overlay stands. Where it is passed, the overlay then stands for what it left; after `Memory` it
-/// stands for nothing. It counts one step.
+/// overlay stands. Where it is passed, the overlay then stands for what it left; after a refusal or
+/// `Memory` for what it stood for before. It counts one step.
 pub fn check_op<L: Ledger>(
     alloc: Global,
     world: &World,
@@ -37,6 +38,8 @@ pub fn check_op<L: Ledger>(
     requires stands { IsAt (sight (state_of world.now).elements change.now over.old) place }
     ensures judged { IfOk result (λ judged. (o : Op) → slice_get change.now place ≡ Some o → IsJudged (state_of world.now).elements change.now o over.old over.new judged) }
     ensures goes { IfOk result (λ judged. (o : Op) → slice_get change.now place ≡ Some o → Leaves o over.old over.new judged) }
+    ensures memory { OnErr result (StandsAlike (state_of world.now).elements over.old over.new) }
+    ensures still { OnErr result ((g : Progress) → StandsFor (sight (state_of world.now).elements change.now over.old) g → StandsFor (sight (state_of world.now).elements change.now over.new) g) }
     ensures step { steps.new ≡ steps.old + 1 }
 {
     steps.tick();
@@ -58,6 +61,7 @@ pub fn check_op<L: Ledger>(
 }
 
 /// Enters an operation that is passed, and tells what it did.
+#[tactic(auto, using(crate::proofs::Alike::all_alike))]
 fn pass(
     alloc: Global,
     world: &World,
@@ -70,6 +74,7 @@ fn pass(
     requires users { HasUsers (sight (state_of world.now).elements operations.now over.old) step.key }
     ensures entered { OnOk result (IsEntered (sight (state_of world.now).elements operations.now over.old) operation.now step over.new) }
     ensures done { IfOk result (λ done. done ≡ done_of (sight (state_of world.now).elements operations.now over.old) step) }
+    ensures memory { OnErr result (StandsAlike (state_of world.now).elements over.old over.new) }
 {
     let done = View {
         world,

@@ -1,5 +1,5 @@
 //! Where the elements of one kind stand.
-ghost use Rattle.std.specs.Prelude.{◌≡◌, ℕ, ◌≤◌, ◌==◌, [], Option, None, Some, if◌then◌else◌, length, slice_get, OnOk};
+ghost use Rattle.std.specs.Prelude.{◌≡◌, ℕ, ◌<◌, ◌≤◌, ◌==◌, true, [], Option, None, Some, is_some, if◌then◌else◌, length, slice_get, OnOk, OnErr};
 ghost use Rattle.std.specs.Map.{lookup};
 ghost use Rattle.std.specs.Ordering.{nat_cmp};
 ghost use Rattle.std.specs.BTreeMap.{is_at};
@@ -63,10 +63,11 @@ impl KindStandings {
         }
     }
 
-    /// Notes where an element stands now.
+    /// Notes where an element stands now. `Memory` leaves what is noted.
     #[tactic(auto, using(crate::proofs::Noted::set_created, crate::proofs::Noted::set_early, crate::proofs::Noted::set_beyond))]
     pub fn set(&mut self, id: u64, standing: Standing) -> Result<(), Memory>
-        ensures { OnOk result ((i : ℕ) → noted_at self.new i ≡ (if i == id then Some standing else noted_at self.old i)) }
+        ensures set { OnOk result ((i : ℕ) → noted_at self.new i ≡ (if i == id then Some standing else noted_at self.old i)) }
+        ensures memory { OnErr result (self.new ≡ self.old) }
     {
         if id < self.first {
             return set_older(&mut self.older, id, standing);
@@ -77,12 +78,31 @@ impl KindStandings {
         }
         set_created(&mut self.created, place, standing)
     }
+
+    /// Notes where an element stands now of which something is noted. It takes no memory.
+    #[tactic(auto, using(crate::proofs::Noted::set_created, crate::proofs::Noted::set_early, crate::proofs::Noted::set_past, crate::proofs::Noted::noted_early, crate::proofs::Noted::noted_past))]
+    pub fn change(&mut self, id: u64, standing: Standing)
+        requires { is_some (noted_at self.old id) ≡ true }
+        ensures { (i : ℕ) → noted_at self.new i ≡ (if i == id then Some standing else noted_at self.old i) }
+    {
+        if id < self.first {
+            change_older(&mut self.older, id, standing);
+            return;
+        }
+        let place = (id - self.first) as usize;
+        if place >= self.created.len() {
+            change_older(&mut self.older, id, standing);
+            return;
+        }
+        change_created(&mut self.created, place, standing);
+    }
 }
 
 /// Sets what stands at a place of a list, or adds it at the end.
 fn set_created(created: &mut Vec<Standing>, place: usize, standing: Standing) -> Result<(), Memory>
     requires { place ≤ length created.old.items }
-    ensures { OnOk result ((i : ℕ) → slice_get created.new.items i ≡ (if i == place then Some standing else slice_get created.old.items i)) }
+    ensures set { OnOk result ((i : ℕ) → slice_get created.new.items i ≡ (if i == place then Some standing else slice_get created.old.items i)) }
+    ensures memory { OnErr result (created.new.items ≡ created.old.items) }
 {
     if place < created.len() {
         created[place] = standing;
@@ -93,8 +113,24 @@ fn set_created(created: &mut Vec<Standing>, place: usize, standing: Standing) ->
 }
 
 fn set_older(older: &mut BTreeMap<u64, Standing>, id: u64, standing: Standing) -> Result<(), Memory>
-    ensures { OnOk result ((i : ℕ) → lookup (is_at (nat_cmp i)) older.new.entries ≡ (if i == id then Some standing else lookup (is_at (nat_cmp i)) older.old.entries)) }
+    ensures set { OnOk result ((i : ℕ) → lookup (is_at (nat_cmp i)) older.new.entries ≡ (if i == id then Some standing else lookup (is_at (nat_cmp i)) older.old.entries)) }
+    ensures memory { OnErr result (older.new.entries ≡ older.old.entries) }
 {
     older.insert(id, standing)?;
     Ok(())
+}
+
+fn change_created(created: &mut Vec<Standing>, place: usize, standing: Standing)
+    requires { place < length created.old.items }
+    ensures { (i : ℕ) → slice_get created.new.items i ≡ (if i == place then Some standing else slice_get created.old.items i) }
+{
+    created[place] = standing;
+}
+
+/// Only an entry that is new takes memory.
+fn change_older(older: &mut BTreeMap<u64, Standing>, id: u64, standing: Standing)
+    requires { is_some (lookup (is_at (nat_cmp id)) older.old.entries) ≡ true }
+    ensures { (i : ℕ) → lookup (is_at (nat_cmp i)) older.new.entries ≡ (if i == id then Some standing else lookup (is_at (nat_cmp i)) older.old.entries) }
+{
+    let _always = older.insert(id, standing).is_ok();
 }

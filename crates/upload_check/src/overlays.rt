@@ -1,17 +1,18 @@
 //! What an upload has come to so far, beside the map of before.
-ghost use Rattle.std.specs.Prelude.{◌≡◌, ℕ, ◌<◌, ◌^◌, [], List, length, IfOk, OnOk};
+ghost use Rattle.std.specs.Prelude.{◌≡◌, ℕ, ◌<◌, ◌^◌, [], ◌∷◌, ◌++◌, List, length, IfOk, OnOk, OnErr};
+ghost use Rattle.osm_base.specs.Key.{lists_key, IsRising};
+ghost use Rattle.osm_base.specs.declared.keys.Key.{Key};
 ghost use Rattle.osm_element.specs.Elements.{refs_in};
 ghost use Rattle.osm_change.specs.declared.operations.Op.{Op};
 ghost use Rattle.diff_result.specs.Counted.{HasNumbers};
 ghost use Rattle.osm_model.specs.Fold.{start};
 ghost use Rattle.osm_world.specs.Beds.{first_ids, content_of_op};
 ghost use Rattle.osm_world.specs.World.{state_of};
-ghost use Rattle.upload_check.specs.Effects.{user_counts, SameElements, holds_of, HasUsers, IsApplied, AreNotesOf, IsEntered};
-ghost use Rattle.upload_check.specs.Overlay.{content_now, sight, StandsFor};
-ghost use Rattle.upload_check.specs.Users.{AreRaised, AreLowered};
+ghost use Rattle.upload_check.specs.Effects.{holds_of, HasUsers, IsApplied, IsEntered};
+ghost use Rattle.upload_check.specs.Overlay.{content_now, sight, StandsAlike, StandsFor};
 
 use crate::checks::Step;
-use crate::counts::{lower_each, raise_each, revise};
+use crate::counts::make;
 use crate::references::add_given;
 use crate::sights::View;
 use crate::standings::{Holds, Standings};
@@ -24,14 +25,15 @@ use std::marker::Model;
 use std::mem;
 
 /// What the operations of an upload have come to so far, beside the map of before: their elements,
-/// the ids that come next, and where each element stands of which they changed anything. The list
-/// `scratch` serves one operation after the other.
+/// the ids that come next, and where each element stands of which they changed anything. The lists
+/// `ended` and `begun` serve one operation after the other.
 #[derive(Drop)]
 pub struct Overlay {
     keys: Vec<Key>,
     next: FirstIds,
     standings: Standings,
-    scratch: Vec<Key>,
+    ended: Vec<Key>,
+    begun: Vec<Key>,
 }
 
 impl Model for Overlay {
@@ -56,7 +58,8 @@ impl Overlay {
             keys,
             next,
             standings: Standings::new(alloc, next),
-            scratch: Vec::new(alloc),
+            ended: Vec::new(alloc),
+            begun: Vec::new(alloc),
         })
     }
 
@@ -81,7 +84,7 @@ impl Overlay {
         &self.standings
     }
 
-    /// Enters an operation that is passed. After `Memory` the overlay stands for nothing.
+    /// Enters an operation that is passed. After `Memory` the overlay stands for what it did.
     pub(crate) fn enter(
         &mut self,
         alloc: Global,
@@ -92,37 +95,29 @@ impl Overlay {
     ) -> Result<(), Memory>
         requires few { length self.old.keys < 2 ^ 32 }
         requires users { HasUsers (sight (state_of world.now).elements operations.now self.old) step.key }
-        ensures { OnOk result (IsEntered (sight (state_of world.now).elements operations.now self.old) operation.now step self.new) }
+        ensures entered { OnOk result (IsEntered (sight (state_of world.now).elements operations.now self.old) operation.now step self.new) }
+        ensures memory { OnErr result (StandsAlike (state_of world.now).elements self.old self.new) }
     {
-        self.note(alloc, world, operations, operation, step)?;
-        self.next = self.next.after(operation)?;
-        self.keys.push(step.key)?;
-        Ok(())
-    }
-
-    /// Notes what an operation changes, if it makes a version.
-    fn note(
-        &mut self,
-        alloc: Global,
-        world: &World,
-        operations: &[Op],
-        operation: &Op,
-        step: Step,
-    ) -> Result<(), Memory>
-        requires few { length self.old.keys < 2 ^ 32 }
-        requires users { HasUsers (sight (state_of world.now).elements operations.now self.old) step.key }
-        ensures keys { self.new.keys ≡ self.old.keys }
-        ensures next { self.new.next ≡ self.old.next }
-        ensures notes { OnOk result (AreNotesOf step.applies (sight (state_of world.now).elements operations.now self.old) operation.now step.key self.new.notes) }
-    {
+        let next = self.next.after(operation)?;
         if step.applies {
-            self.apply(alloc, world, operations, operation, step.key)
+            self.apply(alloc, world, operations, operation, step.key, next)
         } else {
-            Ok(())
+            self.skip(step.key, next)
         }
     }
 
-    /// Makes a version of an element, and counts the users of what it listed and of what it lists.
+    /// Enters an operation that leaves its element as it is.
+    fn skip(&mut self, key: Key, next: FirstIds) -> Result<(), Memory>
+        ensures entered { OnOk result (self.new ≡ record self.old { keys = self.old.keys ++ key ∷ []; next = next }) }
+        ensures memory { OnErr result (self.new ≡ self.old) }
+    {
+        self.keys.push(key)?;
+        self.next = next;
+        Ok(())
+    }
+
+    /// Enters an operation that makes a version of an element, and counts the users of what it
+    /// listed and of what it lists. All memory is taken before anything is entered.
     fn apply(
         &mut self,
         alloc: Global,
@@ -130,35 +125,47 @@ impl Overlay {
         operations: &[Op],
         operation: &Op,
         key: Key,
+        next: FirstIds,
     ) -> Result<(), Memory>
         requires few { length self.old.keys < 2 ^ 32 }
         requires users { HasUsers (sight (state_of world.now).elements operations.now self.old) key }
-        ensures keys { self.new.keys ≡ self.old.keys }
-        ensures next { self.new.next ≡ self.old.next }
+        ensures keys { OnOk result (self.new.keys ≡ self.old.keys ++ key ∷ []) }
+        ensures next { OnOk result (self.new.next ≡ next) }
         ensures notes { OnOk result (IsApplied (sight (state_of world.now).elements operations.now self.old) operation.now key self.new.notes) }
+        ensures memory { OnErr result (StandsAlike (state_of world.now).elements self.old self.new) }
     {
-        self.end_uses(alloc, world, operations, key)?;
-        self.begin_uses(alloc, world, operation, key)?;
+        let ended = self.ended_uses(alloc, world, operations, key)?;
+        let begun = self.begun_uses(alloc, operation)?;
         let holds = holds_of(self.keys().len() as u32, operation);
-        revise(world, &mut self.standings, key, holds)?;
+        self.keys.reserve(1)?;
+        make(
+            world,
+            &mut self.standings,
+            key,
+            holds,
+            ended.as_slice(),
+            begun.as_slice(),
+        )?;
+        self.keys.push_reserved(key);
+        self.next = next;
+        self.ended = ended;
+        self.begun = begun;
         Ok(())
     }
 
-    /// Each other element that this one lists has a user less.
-    fn end_uses(
+    /// What an element lists, in order, in the list of the last operation.
+    fn ended_uses(
         &mut self,
         alloc: Global,
         world: &World,
         operations: &[Op],
         key: Key,
-    ) -> Result<(), Memory>
-        requires { HasUsers (sight (state_of world.now).elements operations.now self.old) key }
-        ensures keys { self.new.keys ≡ self.old.keys }
-        ensures next { self.new.next ≡ self.old.next }
-        ensures lowered { OnOk result (AreLowered key (refs_in (content_now (sight (state_of world.now).elements operations.now self.old) key)) (user_counts (state_of world.now).elements self.old.notes) (user_counts (state_of world.now).elements self.new.notes)) }
-        ensures same { OnOk result (SameElements (state_of world.now).elements self.old.notes self.new.notes) }
+    ) -> Result<Vec<Key>, Memory>
+        ensures same { self.new ≡ self.old }
+        ensures rising { IfOk result (λ listed. IsRising listed.items) }
+        ensures listed { IfOk result (λ listed. (b : Key) → lists_key listed.items b ≡ lists_key (refs_in (content_now (sight (state_of world.now).elements operations.now self.old) key)) b) }
     {
-        let mut listed = mem::replace(&mut self.scratch, Vec::new(alloc));
+        let mut listed = mem::replace(&mut self.ended, Vec::new(alloc));
         listed.clear();
         let view = View {
             world,
@@ -166,32 +173,19 @@ impl Overlay {
             over: self,
         };
         view.add_listed(key, &mut listed)?;
-        let listed = keys_sorted_once(listed);
-        let lowered = lower_each(world, &mut self.standings, key, listed.as_slice());
-        self.scratch = listed;
-        lowered
+        Ok(keys_sorted_once(listed))
     }
 
-    /// Each other element that an operation's content lists has a user more.
-    fn begin_uses(
-        &mut self,
-        alloc: Global,
-        world: &World,
-        operation: &Op,
-        key: Key,
-    ) -> Result<(), Memory>
-        ensures keys { self.new.keys ≡ self.old.keys }
-        ensures next { self.new.next ≡ self.old.next }
-        ensures raised { OnOk result (AreRaised key (refs_in (content_of_op self.old.keys operation.now)) (user_counts (state_of world.now).elements self.old.notes) (user_counts (state_of world.now).elements self.new.notes)) }
-        ensures same { OnOk result (SameElements (state_of world.now).elements self.old.notes self.new.notes) }
+    /// What an operation's content lists, in order, in the list of the last operation.
+    fn begun_uses(&mut self, alloc: Global, operation: &Op) -> Result<Vec<Key>, Memory>
+        ensures same { self.new ≡ self.old }
+        ensures rising { IfOk result (λ listed. IsRising listed.items) }
+        ensures listed { IfOk result (λ listed. (b : Key) → lists_key listed.items b ≡ lists_key (refs_in (content_of_op self.old.keys operation.now)) b) }
     {
-        let mut listed = mem::replace(&mut self.scratch, Vec::new(alloc));
+        let mut listed = mem::replace(&mut self.begun, Vec::new(alloc));
         listed.clear();
         add_given(self.keys.as_slice(), operation, &mut listed)?;
-        let listed = keys_sorted_once(listed);
-        let raised = raise_each(world, &mut self.standings, key, listed.as_slice());
-        self.scratch = listed;
-        raised
+        Ok(keys_sorted_once(listed))
     }
 }
 

@@ -1,8 +1,8 @@
 //! Where elements stand.
-ghost use Rattle.std.specs.Prelude.{◌≡◌, None, Some, if◌then◌else◌, OnOk};
+ghost use Rattle.std.specs.Prelude.{◌≡◌, None, Some, if◌then◌else◌, OnOk, OnErr};
 ghost use Rattle.osm_base.specs.Key.{key_eq};
 ghost use Rattle.osm_base.specs.declared.keys.Key.{Key};
-ghost use Rattle.upload_check.specs.Overlay.{noted};
+ghost use Rattle.upload_check.specs.Overlay.{noted, IsNoted};
 
 use crate::kind_standings::KindStandings;
 use osm_base::{Key, Kind, Memory};
@@ -70,9 +70,10 @@ impl Standings {
         }
     }
 
-    /// Notes where an element stands now.
+    /// Notes where an element stands now. `Memory` leaves what is noted.
     pub fn set(&mut self, key: Key, standing: Standing) -> Result<(), Memory>
-        ensures { OnOk result ((k : Key) → noted self.new k ≡ (if key_eq k key then Some standing else noted self.old k)) }
+        ensures set { OnOk result ((k : Key) → noted self.new k ≡ (if key_eq k key then Some standing else noted self.old k)) }
+        ensures memory { OnErr result (self.new ≡ self.old) }
     {
         match key.kind {
             Kind::Node => self.nodes.set(key.id, standing),
@@ -80,10 +81,33 @@ impl Standings {
             Kind::Relation => self.relations.set(key.id, standing),
         }
     }
+
+    /// Notes where an element stands now of which something is noted. It takes no memory.
+    pub fn change(&mut self, key: Key, standing: Standing)
+        requires { IsNoted self.old key }
+        ensures { (k : Key) → noted self.new k ≡ (if key_eq k key then Some standing else noted self.old k) }
+    {
+        match key.kind {
+            Kind::Node => self.nodes.change(key.id, standing),
+            Kind::Way => self.ways.change(key.id, standing),
+            Kind::Relation => self.relations.change(key.id, standing),
+        }
+    }
 }
 
 ghost use Rattle.osm_world.specs.World.{state_of};
-ghost use Rattle.upload_check.specs.Overlay.{standing_in};
+ghost use Rattle.upload_check.specs.Overlay.{standing_before, standing_in};
+
+/// Where an element stands before the upload.
+pub fn standing_before(world: &World, key: Key) -> Standing
+    ensures { result ≡ standing_before (state_of world.now).elements key }
+{
+    Standing {
+        versions: world.store().count(key),
+        holds: Holds::AsBefore,
+        users: world.users(key).len() as u64,
+    }
+}
 
 /// Where an element stands: as before the upload, where nothing is noted of it.
 pub fn standing_in(world: &World, standings: &Standings, key: Key) -> Standing
@@ -91,10 +115,6 @@ pub fn standing_in(world: &World, standings: &Standings, key: Key) -> Standing
 {
     match standings.look(key) {
         Some(standing) => standing,
-        None => Standing {
-            versions: world.store().count(key),
-            holds: Holds::AsBefore,
-            users: world.users(key).len() as u64,
-        },
+        None => standing_before(world, key),
     }
 }

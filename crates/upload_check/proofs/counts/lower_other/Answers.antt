@@ -1,5 +1,4 @@
 use Rattle.std.proofs.Common.{sym, ◌∙◌}
-use Rattle.std.proofs.lemmas.Result.{on_ok_weaker}
 use Rattle.osm_world.specs.World.{state_of}
 use Rattle.upload_check.specs.Effects.{user_counts}
 use Rattle.upload_check.proofs.Users.{lower_one}
@@ -9,4 +8,4 @@ pub returns-clause-lowered : goal.returns-clause-lowered
 returns-clause-lowered c =
     let count = user_counts (state_of c.args.world.now).elements in
     let other = sym c.is.ensures ∙ c.if-is.false in
-    on_ok_weaker c.lower.result (λ lowered. lower_one c.args.user c.args.used (count c.args.standings.now) (count c.lower.new.standings) (c.requires other) other lowered) c.lower.ensures.lowered
+    lower_one c.args.user c.args.used (count c.args.standings.now) (count c.lower.new.standings) (c.requires.some other) other c.lower.ensures.lowered

@@ -1,5 +1,4 @@
 use Rattle.std.proofs.Common.{sym, ◌∙◌}
-use Rattle.std.proofs.lemmas.Result.{on_ok_weaker}
 use Rattle.osm_world.specs.World.{state_of}
 use Rattle.upload_check.specs.Effects.{user_counts}
 use Rattle.upload_check.proofs.Users.{raise_one}
@@ -8,6 +7,4 @@ use Rattle.upload_check.proofs.counts.raise_other.Goals as goal
 pub returns-clause-raised : goal.returns-clause-raised
 returns-clause-raised c =
     let count = user_counts (state_of c.args.world.now).elements in
-    on_ok_weaker c.raise.result
-    (λ raised. raise_one c.args.user c.args.used (count c.args.standings.now) (count c.raise.new.standings) (sym c.is.ensures ∙ c.if-is.false) raised)
-    c.raise.ensures.raised
+    raise_one c.args.user c.args.used (count c.args.standings.now) (count c.raise.new.standings) (sym c.is.ensures ∙ c.if-is.false) c.raise.ensures.raised

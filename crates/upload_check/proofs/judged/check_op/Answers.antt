@@ -3,6 +3,7 @@ use Rattle.osm_change.specs.declared.operations.Op.{Op}
 use Rattle.osm_world.specs.World.{state_of}
 use Rattle.upload_check.specs.Effects.{HasUsers}
 use Rattle.upload_check.specs.Overlay.{sight}
+use Rattle.upload_check.proofs.Alike.{still_stands}
 use Rattle.upload_check.proofs.Entered.{has-users, judged-passed, judged-goes, judged-refused}
 use Rattle.upload_check.proofs.judged.check_op.Goals as goal
 
@@ -32,3 +33,7 @@ returns-in-Err-clause-judged g c = λ o asked.
     judged-refused (state_of c.args.world.now).elements c.args.change.now c.operations-operations.result.now c.args.over.now c.args.place o c.op-operation.result.now c.in-Err.refusal
     (record { all = c.operations-operations.ensures.all; counted = c.requires.stands.counted; at = c.op-operation.ensures; asked = asked })
     (sym c.check.ensures ∙ c.in-Err.is)
+
+pub returns-in_err-done-in-Ok-clause-still : goal.returns-in_err-done-in-Ok-clause-still
+returns-in_err-done-in-Ok-clause-still g c =
+    still_stands c.from_residual.result (state_of c.args.world.now).elements c.args.change.now c.args.over.now c.pass.new.over c.in_err-done-in-Ok.ensures.memory
