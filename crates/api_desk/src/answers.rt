@@ -68,7 +68,8 @@ pub(crate) fn reply_to(alloc: Global, answer: &Answer<'_>) -> Result<Reply, Memo
 /// Tells why a message is no request. Whatever the session stands at, it stays there.
 pub(crate) fn refuse(alloc: Global, fault: RequestFault) -> Result<Reply, Memory>
     requires { HasShownFault fault }
-    ensures answers { (users : List Row) (session : ℕ) (F : List Entry) (place : Place) (message : Message) (moment : ℕ) → GivesRequest (request_of users message) (Err fault)
+    ensures answers { (users : List Row) (session : ℕ) (F : List Entry) (place : Place) (message : Message) (moment : ℕ)
+        → GivesRequest (request_of users message) (Err fault)
         → Answers users session F place message moment (counted_reply result) place }
     ensures status { IfOk result (λ reply. IsStatus reply.status) }
 {

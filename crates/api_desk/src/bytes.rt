@@ -1,3 +1,4 @@
+//! Pieces of a message's bytes.
 ghost use Rattle.std.specs.Prelude.{◌≡◌, ◌==◌, position, option_copied};
 
 use osm_base::Bytes;

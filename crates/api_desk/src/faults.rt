@@ -1,3 +1,4 @@
+//! Why a message asks for nothing, and the refusal that tells it.
 ghost use Rattle.std.specs.Prelude.{◌≡◌};
 ghost use Rattle.api_desk.specs.Faults.{of_tags};
 

@@ -1,3 +1,4 @@
+//! Why a load gives no events.
 use osm_base::Memory;
 
 /// Why a load has no events.

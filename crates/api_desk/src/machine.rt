@@ -163,7 +163,8 @@ fn bytes_from(alloc: Global, answer: Answer<'_>) -> Result<Bytes, Memory>
 
 /// The entry of a user's command, as that call, at a stamp.
 fn entry_by(alloc: Global, asked: &Asked, tag: Tag, at: Stamp) -> Result<Entry, Memory>
-    ensures { IfOk result (λ entry. entry ≡ record { session = tag.session; call = tag.call; user = asked.now.user; stamp = at; command = asked.now.command }) }
+    ensures { IfOk result (λ entry. entry
+        ≡ record { session = tag.session; call = tag.call; user = asked.now.user; stamp = at; command = asked.now.command }) }
 {
     let user = asked.user.copy(alloc)?;
     let command = asked.command.copy(alloc)?;
@@ -185,7 +186,8 @@ fn accepted(
     answer: Answer<'_>,
 ) -> Result<Settled<Entry>, Memory>
     requires { HasShownMoments answer }
-    ensures { IfOk result (λ s. s ≡ record { answer = bytes_of answer.entry; entry = Some (record { session = tag.session; call = tag.call; user = asked.now.user; stamp = at; command = asked.now.command }) }) }
+    ensures { IfOk result (λ s. s
+        ≡ record { answer = bytes_of answer.entry; entry = Some (record { session = tag.session; call = tag.call; user = asked.now.user; stamp = at; command = asked.now.command }) }) }
 {
     let answer = bytes_from(alloc, answer)?;
     let entry = entry_by(alloc, asked, tag, at)?;
@@ -204,7 +206,8 @@ fn accepted_upload(
     answer: Answer<'_>,
 ) -> Result<Settled<Entry>, Memory>
     requires { HasShownMoments answer }
-    ensures { IfOk result (λ s. s ≡ record { answer = bytes_of answer.entry; entry = Some (record { session = tag.session; call = tag.call; user = plan.now.asked.user; stamp = at; command = command_of plan.now.asked }) }) }
+    ensures { IfOk result (λ s. s
+        ≡ record { answer = bytes_of answer.entry; entry = Some (record { session = tag.session; call = tag.call; user = plan.now.asked.user; stamp = at; command = command_of plan.now.asked }) }) }
 {
     let answer = bytes_from(alloc, answer)?;
     let entry = upload_entry(alloc, plan, tag, at)?;
@@ -255,7 +258,8 @@ fn settle_plan(
 ) -> Result<Settled<Entry>, Memory>
     requires stands { StandsAs plan.now (state_of world.now) }
     requires foreseen { IsForeseenAs plan.now (state_of world.now) }
-    ensures { (begun : State) (asked : Asked) → IsPlannedAs begun asked plan.now → Later begun (state_of world.now) → IfOk result (λ s. s ≡ act_as (state_of world.now) tag moment asked) }
+    ensures { (begun : State) (asked : Asked) → IsPlannedAs begun asked plan.now → Later begun (state_of world.now)
+        → IfOk result (λ s. s ≡ act_as (state_of world.now) tag moment asked) }
 {
     match plan {
         MapPlan::Upload(plan) => settle_upload(alloc, world, plan, tag, moment),
@@ -273,7 +277,8 @@ fn settle_upload(
 ) -> Result<Settled<Entry>, Memory>
     requires stands { StandsOn (plan_of plan.now) (state_of world.now).elements }
     requires foreseen { IsForeseen plan.now (state_of world.now) }
-    ensures { (begun : State) (asked : Asked) → IsUploadPlan begun asked.user asked.command plan.now → Later begun (state_of world.now) → IfOk result (λ s. s ≡ act_as (state_of world.now) tag moment asked) }
+    ensures { (begun : State) (asked : Asked) → IsUploadPlan begun asked.user asked.command plan.now → Later begun (state_of world.now)
+        → IfOk result (λ s. s ≡ act_as (state_of world.now) tag moment asked) }
 {
     let at = Stamp::after(world.last_stamp(), moment);
     match upload_answer(alloc, world, plan, moment) {
@@ -293,7 +298,8 @@ fn settle_again<L: Ledger>(
     steps: &mut Steps<L>,
 ) -> Result<Settled<Entry>, Memory>
     requires { IsForeseenAs plan.now (state_of world.now) }
-    ensures { (begun : State) (asked : Asked) → IsPlannedAs begun asked plan.now → IfOk result (λ s. s ≡ act_as (state_of world.now) tag moment asked) }
+    ensures { (begun : State) (asked : Asked) → IsPlannedAs begun asked plan.now → IfOk result
+        (λ s. s ≡ act_as (state_of world.now) tag moment asked) }
 {
     match plan {
         MapPlan::Upload(plan) => upload_again(alloc, world, plan, tag, moment, steps),
@@ -309,7 +315,8 @@ fn upload_again<L: Ledger>(
     moment: u64,
     steps: &mut Steps<L>,
 ) -> Result<Settled<Entry>, Memory>
-    ensures { (begun : State) (asked : Asked) → IsUploadPlan begun asked.user asked.command plan.now → IfOk result (λ s. s ≡ act_as (state_of world.now) tag moment asked) }
+    ensures { (begun : State) (asked : Asked) → IsUploadPlan begun asked.user asked.command plan.now → IfOk result
+        (λ s. s ≡ act_as (state_of world.now) tag moment asked) }
 {
     maps_follow_themselves();
     let plan = plan_again(alloc, world, plan, steps)?;

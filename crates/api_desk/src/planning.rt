@@ -75,7 +75,8 @@ pub fn plan_command<L: Ledger>(
 
 /// Whether a plan stands on a world, or else where they differ.
 pub fn command_still(world: &World, plan: &MapPlan) -> Result<(), Look>
-    ensures { MatchResult result (λ _. StandsAs plan.now (state_of world.now)) (λ look. ¬ StandsAs plan.now (state_of world.now) × DiffersAs look plan.now (state_of world.now)) }
+    ensures { MatchResult result (λ _. StandsAs plan.now (state_of world.now))
+        (λ look. ¬ StandsAs plan.now (state_of world.now) × DiffersAs look plan.now (state_of world.now)) }
 {
     match plan {
         MapPlan::Upload(plan) => still(world, plan),
@@ -133,7 +134,8 @@ pub fn upload_answer(
 ) -> Result<Answer<'static>, Fault>
     requires stands { StandsOn (plan_of plan.now) (state_of world.now).elements }
     requires foreseen { IsForeseen plan.now (state_of world.now) }
-    ensures judged { (begun : State) (asked : Asked) → IsUploadPlan begun asked.user asked.command plan.now → Later begun (state_of world.now) → Judges (judge (state_of world.now) asked.user (stamp_after (state_of world.now).last moment) asked.command) result }
+    ensures judged { (begun : State) (asked : Asked) → IsUploadPlan begun asked.user asked.command plan.now → Later begun (state_of world.now)
+        → Judges (judge (state_of world.now) asked.user (stamp_after (state_of world.now).last moment) asked.command) result }
     ensures shown { IsShown result }
 {
     match settle(alloc, world, plan, moment)? {
@@ -144,7 +146,8 @@ pub fn upload_answer(
 
 /// The entry of a plan's upload, as that call, at a stamp. Of the plan this is the one copy.
 pub fn upload_entry(alloc: Global, plan: &Plan, tag: Tag, at: Stamp) -> Result<Entry, Memory>
-    ensures { IfOk result (λ entry. entry ≡ record { session = tag.session; call = tag.call; user = plan.now.asked.user; stamp = at; command = command_of plan.now.asked }) }
+    ensures { IfOk result (λ entry. entry
+        ≡ record { session = tag.session; call = tag.call; user = plan.now.asked.user; stamp = at; command = command_of plan.now.asked }) }
 {
     let cmd = plan.cmd();
     let user = cmd.user.copy(alloc)?;

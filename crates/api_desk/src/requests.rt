@@ -34,7 +34,8 @@ pub enum Request {
 
 /// The caller: nobody who says who it is, or a user. Another is refused.
 fn caller_of<'a>(message: &Message, users: &'a UserTable) -> Result<Option<&'a User>, Refusal>
-    ensures { MatchResult result (λ caller. caller_of users.now message.now ≡ Ok (option_copied caller)) (λ r. caller_of users.now message.now ≡ Err r) }
+    ensures { MatchResult result (λ caller. caller_of users.now message.now ≡ Ok (option_copied caller))
+        (λ r. caller_of users.now message.now ≡ Err r) }
 {
     match users.who(value_of(&message.authorization)) {
         Who::Known(place) => Ok(Some(users.user(place))),
@@ -53,13 +54,15 @@ fn is_moderator(caller: Option<&User>) -> bool
 }
 
 fn known_user(caller: Option<&User>) -> Result<&User, Refusal>
-    ensures { MatchResult result (λ user. known_user (option_copied caller.entry) ≡ Ok user.now) (λ r. known_user (option_copied caller.entry) ≡ Err r) }
+    ensures { MatchResult result (λ user. known_user (option_copied caller.entry) ≡ Ok user.now)
+        (λ r. known_user (option_copied caller.entry) ≡ Err r) }
 {
     caller.ok_or(Refusal::NoUser)
 }
 
 fn known_moderator(caller: Option<&User>) -> Result<&User, Refusal>
-    ensures { MatchResult result (λ user. known_moderator (option_copied caller.entry) ≡ Ok user.now) (λ r. known_moderator (option_copied caller.entry) ≡ Err r) }
+    ensures { MatchResult result (λ user. known_moderator (option_copied caller.entry) ≡ Ok user.now)
+        (λ r. known_moderator (option_copied caller.entry) ≡ Err r) }
 {
     let user = known_user(caller)?;
     if user.moderator {

@@ -1,3 +1,4 @@
+//! The answer of each query, read off the map with its indexes.
 ghost use Rattle.std.specs.Prelude.{◌≡◌, ◌≢◌, List, Ok, Result, IfOk};
 ghost use Rattle.osm_change.specs.Moments.{HasShownMoments};
 ghost use Rattle.osm_change.specs.declared.answers.Answer.TheVariants as answers;
@@ -115,7 +116,8 @@ fn read_answer<'a>(
     world: &'a World,
     read: Result<Items<Shown>, ReadFault>,
 ) -> Result<Answer<'a>, Memory>
-    ensures { (expected : Result (List Shown) ReadFault) → IsRead expected read → IfOk result (λ answer. answer ≡ read_answer (state_of world.now) expected) }
+    ensures { (expected : Result (List Shown) ReadFault) → IsRead expected read → IfOk result
+        (λ answer. answer ≡ read_answer (state_of world.now) expected) }
 {
     match read {
         Ok(shown) => elements_answer(alloc, world, &shown),
@@ -129,7 +131,8 @@ fn users_answer<'a>(
     world: &'a World,
     users: Result<Items<Shown>, Memory>,
 ) -> Result<Answer<'a>, Memory>
-    ensures { (expected : List Shown) → IfOk users (λ shown. shown ≡ expected) → IfOk result (λ answer. answer ≡ elements_answer (state_of world.now) expected) }
+    ensures { (expected : List Shown) → IfOk users (λ shown. shown ≡ expected) → IfOk result
+        (λ answer. answer ≡ elements_answer (state_of world.now) expected) }
 {
     match users {
         Ok(shown) => elements_answer(alloc, world, &shown),

@@ -1,3 +1,4 @@
+//! Rows of elements and of selections, borrowed from the map.
 ghost use Rattle.std.specs.Prelude.{◌≡◌, ◌++◌, ◌∷◌, [], filter_map, map, IfOk};
 ghost use Rattle.osm_element.specs.Elements.{key};
 ghost use Rattle.osm_model.specs.Ask.{element_row, element_rows};
@@ -71,7 +72,8 @@ fn add_current<'a>(
     ids: &[u64],
     rows: &mut Vec<ElementRow<'a>>,
 ) -> Result<(), Memory>
-    ensures { IfOk result (λ _. rows.new.items ≡ rows.old.items ++ element_rows (state_of world.now) (map (λ id. current_shown (state_of world.now).elements (key kind id)) ids.now)) }
+    ensures { IfOk result (λ _. rows.new.items ≡ rows.old.items ++ element_rows (state_of world.now) (map
+        (λ id. current_shown (state_of world.now).elements (key kind id)) ids.now)) }
 {
     for id in ids {
         let shown = current(world, Key { kind, id: *id });

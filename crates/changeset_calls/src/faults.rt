@@ -1,3 +1,4 @@
+//! Why a call on a changeset has no result.
 use osm_base::Memory;
 
 /// Why a call on a changeset has no result.

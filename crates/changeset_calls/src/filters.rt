@@ -1,3 +1,4 @@
+//! The query of changesets: its filters, the newest first.
 ghost use Rattle.std.specs.Prelude.{◌≡◌, ◌++◌, ◌∷◌, [], true, not, ◌&&◌, ◌||◌, ◌==◌, filter, filter_map, IfOk};
 ghost use Rattle.std.specs.Option.{option_map_or};
 ghost use Rattle.osm_model.specs.ChangesetReads.{touches, passes, passes_at, row_at, query_changesets};
@@ -70,7 +71,8 @@ fn add_row(
     id: u64,
     rows: &mut Vec<ChangesetRow>,
 ) -> Result<(), Memory>
-    ensures { IfOk result (λ _. rows.new.items ≡ rows.old.items ++ filter_map (row_at (state_of world.now) at) (filter (passes_at (state_of world.now) (passes filters.now.user filters.now.only_open filters.now.only_closed filters.now.within at)) (id ∷ []))) }
+    ensures { IfOk result (λ _. rows.new.items ≡ rows.old.items
+        ++ filter_map (row_at (state_of world.now) at) (filter (passes_at (state_of world.now) (passes filters.now.user filters.now.only_open filters.now.only_closed filters.now.within at)) (id ∷ []))) }
 {
     let Some(kept) = world.changeset(id) else {
         return Ok(());
@@ -88,7 +90,8 @@ fn newest_rows(
     at: Stamp,
     filters: &Filters,
 ) -> Result<Items<ChangesetRow>, Memory>
-    ensures { IfOk result (λ rows. rows ≡ query_changesets (state_of world.now) at filters.now.user filters.now.only_open filters.now.only_closed filters.now.within) }
+    ensures { IfOk result (λ rows. rows
+        ≡ query_changesets (state_of world.now) at filters.now.user filters.now.only_open filters.now.only_closed filters.now.within) }
 {
     let mut rows = Vec::new(alloc);
     let mut id = world.changesets().len() as u64;

@@ -1,3 +1,4 @@
+//! A changeset as a client is told of it.
 ghost use Rattle.std.specs.Prelude.{◌≡◌, IfOk};
 ghost use Rattle.changeset_core.specs.Changeset.{closed_at};
 ghost use Rattle.osm_model.specs.Changeset.{changeset_row};

@@ -1,3 +1,4 @@
+//! The download of a changeset: what it made.
 ghost use Rattle.std.specs.Prelude.{◌≡◌, ◌++◌, ◌∷◌, [], filter, map, IfOk};
 ghost use Rattle.osm_model.specs.ChangesetReads.{is_unmarked, download};
 ghost use Rattle.osm_model.specs.Reads.{shown};
@@ -23,7 +24,8 @@ fn is_unmarked(store: &Store, work: &Work) -> bool
 
 /// Adds a version that was made, if it has no mark.
 fn add_work(store: &Store, work: &Work, found: &mut Vec<Shown>) -> Result<(), Memory>
-    ensures { IfOk result (λ _. found.new.items ≡ found.old.items ++ map (λ w. shown w.key w.version) (filter (is_unmarked store.now.elements) (work.now ∷ []))) }
+    ensures { IfOk result (λ _. found.new.items ≡ found.old.items ++ map
+        (λ w. shown w.key w.version) (filter (is_unmarked store.now.elements) (work.now ∷ []))) }
 {
     if is_unmarked(store, work) {
         found.push(Shown {

@@ -1,3 +1,4 @@
+//! Boxes that grow.
 ghost use Rattle.std.specs.Prelude.{◌≡◌};
 ghost use Rattle.changeset_core.specs.Changeset.{join_areas, widen};
 

@@ -1,3 +1,4 @@
+//! A changeset with promised room for its work.
 ghost use Rattle.std.specs.Prelude.{◌≡◌, ◌+◌, ◌-◌, ◌<◌, ◌≤◌, ◌∷◌, [], ◌++◌, length, Some, None, true, is_ok, if◌then◌else◌};
 ghost use Rattle.osm_base.specs.declared.limits.TheConstants.{MOMENT_LIMIT};
 ghost use Rattle.changeset_core.specs.Changeset.{closes, first_record, is_open, retagged, ended_at, widen, join_areas};
@@ -156,7 +157,13 @@ impl Changeset {
     /// Enters a version that it made, which counts as one change. It takes no memory.
     pub fn worked(&mut self, key: Key, version: u64)
         requires { 0 < self.old.free }
-        ensures { self.new ≡ record self.old { kept = record self.old.kept { did = self.old.kept.did ++ record { key = key; version = version } ∷ [] }; free = self.old.free - 1 } }
+        ensures { self.new ≡ record self.old {
+          kept = record self.old.kept {
+            did = self.old.kept.did
+                ++ record { key = key; version = version } ∷ [];
+          };
+          free = self.old.free - 1;
+        } }
     {
         self.did.push(Work { key, version });
     }

@@ -24,7 +24,9 @@ pub fn ends_are_bounded()
 /// What is done at a moment that is told apart leaves such moments.
 pub fn records_stay_timely()
     ensures opened { (owner : Owner) (tags : List Tag) (t : ℕ) → IsTimelyMoment t → IsTimelyRecord (first_record owner tags t) }
-    ensures retagged { (r : ChangesetRecord) (tags : List Tag) (t : ℕ) → IsTimelyRecord r → IsTimelyMoment t → IsTimelyRecord (retagged r tags t) }
+    ensures retagged { (r : ChangesetRecord) (tags : List Tag) (t : ℕ) → IsTimelyRecord r → IsTimelyMoment t
+        → IsTimelyRecord (retagged r tags t) }
     ensures ended { (r : ChangesetRecord) (t : ℕ) → IsTimelyRecord r → IsTimelyMoment t → IsTimelyRecord (ended_at r t) }
-    ensures worked { (r : ChangesetRecord) (works : List Work) (area : Option Area) (t : ℕ) → IsTimelyRecord r → IsTimelyMoment t → IsTimelyRecord (worked_by r works area t) }
+    ensures worked { (r : ChangesetRecord) (works : List Work) (area : Option Area) (t : ℕ) → IsTimelyRecord r
+        → IsTimelyMoment t → IsTimelyRecord (worked_by r works area t) }
 {}

@@ -1,3 +1,4 @@
+//! When a changeset closes.
 ghost use Rattle.std.specs.Prelude.{◌≡◌, ◌≤◌, ◌+◌, nat_lt, if◌then◌else◌, Some, None};
 ghost use Rattle.std.specs.Option.{ForSome};
 ghost use Rattle.osm_base.specs.declared.limits.TheConstants.{MOMENT_LIMIT};

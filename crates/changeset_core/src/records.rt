@@ -1,3 +1,4 @@
+//! A changeset as a plain record, and what it did.
 use crate::areas::join_boxes;
 use crate::lives::{closed_at, closes};
 use osm_base::{Box7, CHANGE_LIMIT, Items, Key, Memory, Owner, Stamp};

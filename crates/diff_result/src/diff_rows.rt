@@ -1,3 +1,4 @@
+//! The rows of an upload whose first ids are given.
 ghost use Rattle.std.specs.Prelude.{◌≡◌, length, IfOk};
 ghost use Rattle.osm_change.specs.Keys.{keys_of};
 ghost use Rattle.osm_change.specs.Rows.{rows};

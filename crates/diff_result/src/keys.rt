@@ -1,3 +1,4 @@
+//! The elements of an upload's operations.
 ghost use Rattle.std.specs.Prelude.{◌≡◌, length, IfOk};
 ghost use Rattle.osm_change.specs.Keys.{next_of, one_more, ids_after, key_of, keys_of};
 ghost use Rattle.diff_result.specs.Counted.{HasNumbers};

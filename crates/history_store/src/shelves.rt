@@ -1,3 +1,4 @@
+//! The histories of one kind, with promised room.
 ghost use Rattle.std.specs.Prelude.{◌≡◌, ℕ, ◌==◌, ◌+◌, ◌-◌, ◌<◌, ◌≤◌, [], length, slice_get, slice_set, slice_index, slice_index_or, option_copied, OnOk, OnErr, is_ok, if◌then◌else◌, ◌^◌};
 ghost use Rattle.osm_element.specs.Elements.{add_version, history_in, mark_in};
 ghost use Rattle.history_store.specs.Shelf.{HasMore};
@@ -143,7 +144,8 @@ impl Shelf {
         requires there { place < length self.old.histories }
         requires counted { 0 < number }
         requires made { number ≤ length (slice_index_or self.old.histories place []) }
-        ensures histories { self.new.histories ≡ slice_set self.old.histories place (mark_in (slice_index_or self.old.histories place []) number redaction) }
+        ensures histories { self.new.histories
+            ≡ slice_set self.old.histories place (mark_in (slice_index_or self.old.histories place []) number redaction) }
         ensures free { self.new.free ≡ self.old.free }
     {
         mark_row(alloc, &mut self.rows[place], number, redaction);

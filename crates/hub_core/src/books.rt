@@ -1,3 +1,4 @@
+//! The journal with its world, and the commit.
 ghost use Rattle.std.specs.Prelude.{◌≡◌, ◌+◌, ◌<◌, ℕ, true, Some, [], ◌∷◌, ◌++◌, length, IfOk, OnOk, OnErr, IfSome, MatchOption, List, vec_len, vec_capacity};
 ghost use Rattle.std.specs.BTreeMap.{ContainsKey, Updates};
 ghost use Rattle.std.specs.Ordering.{nat_cmp};
@@ -34,7 +35,8 @@ impl<M: Machine> Model for Book<M> {
 
     ghost view = { λ b. b.journal.items };
 
-    ghost invariant = { λ b. (M.state b.world ≡ replay M.rules b.journal.items) × IsJournal M.rules b.journal.items × AreCounted M.rules.tag_of b.calls b.journal.items };
+    ghost invariant = { λ b. (M.state b.world ≡ replay M.rules b.journal.items) × IsJournal M.rules b.journal.items
+        × AreCounted M.rules.tag_of b.calls b.journal.items };
 }
 
 impl<M: Machine> Book<M> {
@@ -99,7 +101,8 @@ impl<M: Machine> Book<M> {
         requires tagged { M.rules.tag_of entry ≡ tag }
         requires next { tag.call ≡ calls_of M.rules.tag_of tag.session self.old + 1 }
         requires welcome { O.welcomes outlet.old entry }
-        ensures ok { IfOk result (λ place. (self.new ≡ self.old ++ entry ∷ []) × (place ≡ length self.old) × O.offered outlet.old entry outlet.new) }
+        ensures ok { IfOk result (λ place. (self.new ≡ self.old ++ entry ∷ []) × (place ≡ length self.old)
+            × O.offered outlet.old entry outlet.new) }
         ensures err { OnErr result ((self.new ≡ self.old) × O.kept outlet.old outlet.new) }
     {
         make_ready::<M>(
@@ -130,7 +133,9 @@ impl<M: Machine> Book<M> {
         requires welcome { (entry : M.Entry) → M.rules.takes (replay M.rules self.old) entry ≡ true → O.welcomes outlet.old entry }
         ensures entered { OnOk result (self.new ≡ extended self.old entry) }
         ensures placed { IfOk result (λ place. place ≡ place_of self.old entry) }
-        ensures offers { IfOk result (λ place. MatchOption place ((self.new ≡ self.old) × (outlet.new ≡ outlet.old)) (λ place. (entry : M.Entry) × (self.new ≡ self.old ++ entry ∷ []) × (M.rules.tag_of entry ≡ tag) × O.offered outlet.old entry outlet.new)) }
+        ensures offers { IfOk result (λ place. MatchOption place ((self.new ≡ self.old) × (outlet.new ≡ outlet.old))
+            (λ place. (entry : M.Entry) × (self.new ≡ self.old ++ entry ∷ []) × (M.rules.tag_of entry ≡ tag)
+            × O.offered outlet.old entry outlet.new)) }
         ensures err { OnErr result ((self.new ≡ self.old) × O.kept outlet.old outlet.new) }
     {
         match entry {
@@ -155,8 +160,11 @@ impl<M: Machine> Book<M> {
         requires made { IsMadeBefore M.rules plan self.old }
         requires next { tag.call ≡ calls_of M.rules.tag_of tag.session self.old + 1 }
         requires welcome { (entry : M.Entry) → M.rules.takes (replay M.rules self.old) entry ≡ true → O.welcomes outlet.old entry }
-        ensures acts { (made : List M.Entry) (command : M.Command) → IsPrefix made self.old → M.rules.planned (replay M.rules made) command plan → IfOk result (λ done. IsDone (M.rules.act (replay M.rules self.old) tag moment command) self.old self.new done.answer done.place) }
-        ensures offers { IfOk result (λ done. MatchOption done.place ((self.new ≡ self.old) × (outlet.new ≡ outlet.old)) (λ place. (entry : M.Entry) × (self.new ≡ self.old ++ entry ∷ []) × (M.rules.tag_of entry ≡ tag) × O.offered outlet.old entry outlet.new)) }
+        ensures acts { (made : List M.Entry) (command : M.Command) → IsPrefix made self.old → M.rules.planned (replay M.rules made) command plan
+            → IfOk result (λ done. IsDone (M.rules.act (replay M.rules self.old) tag moment command) self.old self.new done.answer done.place) }
+        ensures offers { IfOk result (λ done. MatchOption done.place ((self.new ≡ self.old) × (outlet.new ≡ outlet.old))
+            (λ place. (entry : M.Entry) × (self.new ≡ self.old ++ entry ∷ []) × (M.rules.tag_of entry ≡ tag)
+            × O.offered outlet.old entry outlet.new)) }
         ensures path { IfOk result (λ done. IsPath M.rules plan (replay M.rules self.old) done.path) }
         ensures fast { IfOk result (λ done. MatchPath done.path (steps.new ≡ steps.old) (λ look. Unit {0})) }
         ensures err { OnErr result ((self.new ≡ self.old) × O.kept outlet.old outlet.new) }
@@ -254,7 +262,8 @@ fn settle_by<M: Machine, L: Ledger>(
 ) -> Result<Settled<M::Entry>, Memory>
     requires foreseen { IsForeseen M.rules plan.now (M.state world.now) }
     requires path { IsPath M.rules plan.now (M.state world.now) path.now }
-    ensures acts { (begun : M.State) (command : M.Command) → M.rules.planned begun command plan.now → Later M.rules begun (M.state world.now) → IfOk result (λ s. s ≡ M.rules.act (M.state world.now) tag moment command) }
+    ensures acts { (begun : M.State) (command : M.Command) → M.rules.planned begun command plan.now → Later M.rules begun (M.state world.now)
+        → IfOk result (λ s. s ≡ M.rules.act (M.state world.now) tag moment command) }
     ensures entry { IfOk result (λ s. IfSome s.entry (λ e. (M.rules.takes (M.state world.now) e ≡ true) × (M.rules.tag_of e ≡ tag))) }
     ensures fast { MatchPath path.now (steps.new ≡ steps.old) (λ look. Unit {0}) }
 {

@@ -1,3 +1,4 @@
+//! What a commit gives.
 use osm_base::Bytes;
 
 /// Which way a plan was settled.

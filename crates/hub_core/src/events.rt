@@ -1,3 +1,4 @@
+//! What may come at the core, and what it then gives.
 use crate::dones::Done;
 use osm_base::Bytes;
 

@@ -9,5 +9,6 @@ use machine_law::Machine;
 /// After any events the core is sound, and the next event makes no length fall.
 pub fn core_law<M: Machine>()
     ensures sound { (count : ℕ) (events : List (Event M.Command M.Query)) → IsSound M.rules (core_after M.rules count events) }
-    ensures grows { (count : ℕ) (events : List (Event M.Command M.Query)) (event : Event M.Command M.Query) → Grows (core_after M.rules count events) (core_step M.rules (core_after M.rules count events) event) }
+    ensures grows { (count : ℕ) (events : List (Event M.Command M.Query)) (event : Event M.Command M.Query)
+        → Grows (core_after M.rules count events) (core_step M.rules (core_after M.rules count events) event) }
 {}

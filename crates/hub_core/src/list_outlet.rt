@@ -81,7 +81,8 @@ impl<E: Drop> Outlet<E> for ListOutlet<E> {
 
     ghost appends = { λ before entry after taken. ap (λ outlet. Some outlet.held) taken.0 };
 
-    ghost holds_on = { λ before after left. ⊎_elim (λ same. ap (λ outlet. Some outlet.held) same) (λ counts. ap (λ outlet. Some outlet.held) counts) left };
+    ghost holds_on = { λ before after left. ⊎_elim (λ same. ap (λ outlet. Some outlet.held) same)
+        (λ counts. ap (λ outlet. Some outlet.held) counts) left };
 
     ghost keeps_itself = { λ outlet. inl refl };
 }

@@ -1,3 +1,4 @@
+//! Where entries are offered as they are taken.
 ghost use Rattle.std.specs.Prelude.{◌≡◌, Option, List, MatchResult, IsOk};
 ghost use Rattle.hub_core.specs.Outlets.{with_offer};
 

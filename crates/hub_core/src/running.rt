@@ -43,7 +43,8 @@ impl<M: Machine> Model for Core<M> {
 
     ghost view = { λ c. stage c.book c.published c.callers.items };
 
-    ghost invariant = { λ c. (M.state c.shown ≡ replay M.rules (take c.published c.book)) × (c.published ≤ length c.book) × ArePlansKept M.rules c.book c.callers.items };
+    ghost invariant = { λ c. (M.state c.shown ≡ replay M.rules (take c.published c.book)) × (c.published ≤ length c.book)
+        × ArePlansKept M.rules c.book c.callers.items };
 }
 
 impl<M: Machine> Core<M> {
@@ -79,7 +80,8 @@ impl<M: Machine> Core<M> {
     fn saw(&mut self, session: usize, seen: usize)
         requires { session < length self.old.callers }
         ensures same { (self.new.journal ≡ self.old.journal) × (self.new.published ≡ self.old.published) }
-        ensures saw { (core : CoreState M.Command M.Entry) → StandsFor M.rules core self.old → StandsFor M.rules (saw core session seen) self.new }
+        ensures saw { (core : CoreState M.Command M.Entry) → StandsFor M.rules core self.old
+            → StandsFor M.rules (saw core session seen) self.new }
     {
         self.callers[session].seen = seen;
     }
@@ -90,7 +92,9 @@ impl<M: Machine> Core<M> {
         command: M::Command,
         steps: &mut Steps<L>,
     ) -> Result<Seen<M::Look>, Memory>
-        ensures { (core : CoreState M.Command M.Entry) → StandsFor M.rules core self.old → IfOk result (λ seen. StandsFor M.rules (core_step M.rules core (Plan session command)) self.new × IsTold M.rules (core_tells M.rules core (Plan session command)) seen) }
+        ensures { (core : CoreState M.Command M.Entry) → StandsFor M.rules core self.old → IfOk result
+            (λ seen. StandsFor M.rules (core_step M.rules core (Plan session command)) self.new
+            × IsTold M.rules (core_tells M.rules core (Plan session command)) seen) }
     {
         let session = session as usize;
         if !self.can_read(session) {
@@ -111,7 +115,9 @@ impl<M: Machine> Core<M> {
         moment: u64,
         steps: &mut Steps<L>,
     ) -> Result<Seen<M::Look>, Memory>
-        ensures { (core : CoreState M.Command M.Entry) → StandsFor M.rules core self.old → IfOk result (λ seen. StandsFor M.rules (core_step M.rules core (Ask session query moment)) self.new × IsTold M.rules (core_tells M.rules core (Ask session query moment)) seen) }
+        ensures { (core : CoreState M.Command M.Entry) → StandsFor M.rules core self.old → IfOk result
+            (λ seen. StandsFor M.rules (core_step M.rules core (Ask session query moment)) self.new
+            × IsTold M.rules (core_tells M.rules core (Ask session query moment)) seen) }
     {
         let session = session as usize;
         if !self.can_read(session) {
@@ -164,7 +170,8 @@ impl<M: Machine> Core<M> {
     }
 
     fn freshen(&mut self, session: u32) -> Result<(), Memory>
-        ensures { (core : CoreState M.Command M.Entry) → StandsFor M.rules core self.old → OnOk result (StandsFor M.rules (core_step M.rules core (Freshen session)) self.new) }
+        ensures { (core : CoreState M.Command M.Entry) → StandsFor M.rules core self.old
+            → OnOk result (StandsFor M.rules (core_step M.rules core (Freshen session)) self.new) }
     {
         let session = session as usize;
         if session < self.callers.len() {
@@ -181,7 +188,9 @@ impl<M: Machine> Core<M> {
         moment: u64,
         steps: &mut Steps<L>,
     ) -> Result<Seen<M::Look>, Memory>
-        ensures { (core : CoreState M.Command M.Entry) → StandsFor M.rules core self.old → IfOk result (λ seen. StandsFor M.rules (core_step M.rules core (Commit session moment)) self.new × IsTold M.rules (core_tells M.rules core (Commit session moment)) seen) }
+        ensures { (core : CoreState M.Command M.Entry) → StandsFor M.rules core self.old → IfOk result
+            (λ seen. StandsFor M.rules (core_step M.rules core (Commit session moment)) self.new
+            × IsTold M.rules (core_tells M.rules core (Commit session moment)) seen) }
     {
         let index = session as usize;
         let Some(plan) = take_plan(&mut self.callers, index) else {
@@ -203,7 +212,8 @@ impl<M: Machine> Core<M> {
         event: Event<M::Command, M::Query>,
         steps: &mut Steps<L>,
     ) -> Result<Seen<M::Look>, Memory>
-        ensures { (core : CoreState M.Command M.Entry) → StandsFor M.rules core self.old → IfOk result (λ seen. StandsFor M.rules (core_step M.rules core event) self.new × IsTold M.rules (core_tells M.rules core event) seen) }
+        ensures { (core : CoreState M.Command M.Entry) → StandsFor M.rules core self.old → IfOk result
+            (λ seen. StandsFor M.rules (core_step M.rules core event) self.new × IsTold M.rules (core_tells M.rules core event) seen) }
     {
         match event {
             Event::Plan { session, command } => self.plan(session, command, steps),
@@ -231,7 +241,10 @@ impl<M: Machine> Core<M> {
         replies: &mut Vec<Seen<M::Look>>,
         steps: &mut Steps<L>,
     ) -> Result<(), Memory>
-        ensures { (core : CoreState M.Command M.Entry) → StandsFor M.rules core self.old → OnOk result (StandsFor M.rules (core_step M.rules core event) self.new × ((seen : Seen M.Look) × (replies.new.items ≡ replies.old.items ++ seen ∷ []) × IsTold M.rules (core_tells M.rules core event) seen)) }
+        ensures { (core : CoreState M.Command M.Entry) → StandsFor M.rules core self.old
+            → OnOk result (StandsFor M.rules (core_step M.rules core event) self.new
+            × ((seen : Seen M.Look) × (replies.new.items ≡ replies.old.items ++ seen ∷ [])
+            × IsTold M.rules (core_tells M.rules core event) seen)) }
     {
         let seen = self.step(event, steps)?;
         replies.push(seen)?;
@@ -244,7 +257,9 @@ impl<M: Machine> Core<M> {
         events: Vec<Event<M::Command, M::Query>>,
         steps: &mut Steps<L>,
     ) -> Result<Vec<Seen<M::Look>>, Memory>
-        ensures { (core : CoreState M.Command M.Entry) → StandsFor M.rules core self.old → IfOk result (λ replies. StandsFor M.rules (fold (core_step M.rules) core events.items) self.new × AreTold M.rules (all_told M.rules core events.items) replies.items) }
+        ensures { (core : CoreState M.Command M.Entry) → StandsFor M.rules core self.old → IfOk result
+            (λ replies. StandsFor M.rules (fold (core_step M.rules) core events.items) self.new
+            × AreTold M.rules (all_told M.rules core events.items) replies.items) }
     {
         let mut replies = Vec::with_capacity(self.alloc, events.len())?;
         for event in events {
@@ -282,7 +297,11 @@ fn follow<M: Machine>(alloc: Global, world: &mut M::World, entry: M::Entry) -> R
 
 // Takes the plan of a caller, if it is there and has one.
 fn take_plan<P>(callers: &mut Vec<Caller<P>>, index: usize) -> Option<P>
-    ensures { MatchOption result ((callers.new.items ≡ callers.old.items) × ((other : Caller P) → index < length callers.old.items → (slice_index_or callers.old.items index other).plan ≡ None)) (λ plan. (index < length callers.old.items) × ((old : Caller P) × (old ≡ slice_index_or callers.old.items index old) × (old.plan ≡ Some plan) × (callers.new.items ≡ slice_set callers.old.items index (record old { plan = None })))) }
+    ensures { MatchOption result ((callers.new.items ≡ callers.old.items)
+        × ((other : Caller P) → index < length callers.old.items → (slice_index_or callers.old.items index other).plan ≡ None))
+        (λ plan. (index < length callers.old.items)
+        × ((old : Caller P) × (old ≡ slice_index_or callers.old.items index old) × (old.plan ≡ Some plan)
+        × (callers.new.items ≡ slice_set callers.old.items index (record old { plan = None })))) }
 {
     if index >= callers.len() || callers[index].plan.is_none() {
         return None;

@@ -1,3 +1,4 @@
+//! The elements with their users and their cells, kept in step.
 ghost use Rattle.std.specs.Prelude.{◌≡◌, ◌^◌, ◌+◌, ◌<◌, ◌≤◌, if◌then◌else◌, OnOk};
 ghost use Rattle.osm_base.specs.Key.{key_eq};
 ghost use Rattle.osm_base.specs.Place.{Position};
@@ -175,7 +176,8 @@ impl IndexedMap {
         ensures elements { self.new.elements ≡ push_version self.old.elements key version }
         ensures versions { (k : Key) → free self.new.versions k + (if key_eq k key then 1 else 0) ≡ free self.old.versions k }
         ensures users { (b : Key) → free_in self.old.users b ≤ free_in self.new.users b + times_listed listed.now b }
-        ensures cells { (p : Position) → free_at self.old.cells p ≤ free_at self.new.cells p + (if enters p (new_position version.content) then 1 else 0) }
+        ensures cells { (p : Position)
+            → free_at self.old.cells p ≤ free_at self.new.cells p + (if enters p (new_position version.content) then 1 else 0) }
     {
         move_node(&self.store, &mut self.grid, key, &version);
         end_uses(&self.store, &mut self.users, key, listed);

@@ -1,3 +1,4 @@
+//! Room that is promised for one entry, and taken back.
 ghost use Rattle.std.specs.Prelude.{◌≡◌, false, ℕ, ◌+◌, ◌<◌, if◌then◌else◌, OnOk};
 ghost use Rattle.std.specs.List.{list_any};
 ghost use Rattle.osm_base.specs.Key.{key_eq, lists_key};
@@ -26,7 +27,8 @@ pub fn promise_version(
     requires { 0 < key.id }
     ensures elements { store.new.elements ≡ store.old.elements }
     ensures room { OnOk result ((k : Key) → free store.new.room k ≡ free store.old.room k + (if key_eq k key then 1 else 0)) }
-    ensures noted { (k : Key) → lists_key noted.new.items k ≡ false → (lists_key noted.old.items k ≡ false) × (free store.new.room k ≡ free store.old.room k) }
+    ensures noted { (k : Key) → lists_key noted.new.items k ≡ false → (lists_key noted.old.items k ≡ false)
+        × (free store.new.room k ≡ free store.old.room k) }
 {
     noted.push(key)?;
     store.promise(alloc, Want { key, versions: 1 })
@@ -41,7 +43,8 @@ pub fn promise_uses(
 ) -> Result<(), Memory>
     ensures users { (b : Key) → users_in users.new b ≡ users_in users.old b }
     ensures room { OnOk result ((b : Key) → free_in users.new b ≡ free_in users.old b + times_listed listed.now b) }
-    ensures noted { (b : Key) → lists_key noted.new.items b ≡ false → (lists_key noted.old.items b ≡ false) × (free_in users.new b ≡ free_in users.old b) }
+    ensures noted { (b : Key) → lists_key noted.new.items b ≡ false → (lists_key noted.old.items b ≡ false)
+        × (free_in users.new b ≡ free_in users.old b) }
 {
     for used in listed {
         noted.push(*used)?;
@@ -59,7 +62,8 @@ pub fn promise_place(
 ) -> Result<(), Memory>
     ensures nodes { (c : Cell) (n : ℕ) → times grid.new c n ≡ times grid.old c n }
     ensures room { OnOk result ((p : Position) → free_at grid.new p ≡ free_at grid.old p + (if enters p at then 1 else 0)) }
-    ensures noted { (p : Position) → list_any (same_cell p) noted.new.items ≡ false → (list_any (same_cell p) noted.old.items ≡ false) × (free_at grid.new p ≡ free_at grid.old p) }
+    ensures noted { (p : Position) → list_any (same_cell p) noted.new.items ≡ false → (list_any (same_cell p) noted.old.items ≡ false)
+        × (free_at grid.new p ≡ free_at grid.old p) }
 {
     match at {
         Some(at) => promise_at(alloc, grid, at, noted),
@@ -75,7 +79,8 @@ fn promise_at(
 ) -> Result<(), Memory>
     ensures nodes { (c : Cell) (n : ℕ) → times grid.new c n ≡ times grid.old c n }
     ensures room { OnOk result ((p : Position) → free_at grid.new p ≡ free_at grid.old p + (if same_cell p at then 1 else 0)) }
-    ensures noted { (p : Position) → list_any (same_cell p) noted.new.items ≡ false → (list_any (same_cell p) noted.old.items ≡ false) × (free_at grid.new p ≡ free_at grid.old p) }
+    ensures noted { (p : Position) → list_any (same_cell p) noted.new.items ≡ false → (list_any (same_cell p) noted.old.items ≡ false)
+        × (free_at grid.new p ≡ free_at grid.old p) }
 {
     noted.push(at)?;
     grid.room(alloc, &[at])

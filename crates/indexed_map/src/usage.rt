@@ -1,3 +1,4 @@
+//! Uses of elements that begin and end with a version.
 ghost use Rattle.std.specs.Prelude.{◌≡◌, false, ◌+◌, ◌<◌, ◌≤◌, ◌&&◌, ◌||◌, not, if◌then◌else◌, option_copied};
 ghost use Rattle.std.specs.List.{list_any};
 ghost use Rattle.osm_base.specs.Key.{key_eq, lists_key, IsRising};
@@ -14,7 +15,9 @@ use reverse_refs::{Pair, UserIndex};
 /// An element no longer uses another, unless that is still listed.
 fn end_use(users: &mut UserIndex, user: Key, used: Key, listed: &[Key])
     requires { IsRising listed.now }
-    ensures users { (a b : Key) → lists_key (users_in users.new b) a ≡ lists_key (users_in users.old b) a && not (key_eq used b && (key_eq user a && not (lists_key listed.now b))) }
+    ensures users { (a b : Key)
+        → lists_key (users_in users.new b) a
+        ≡ lists_key (users_in users.old b) a && not (key_eq used b && (key_eq user a && not (lists_key listed.now b))) }
     ensures room { (b : Key) → free_in users.new b ≡ free_in users.old b }
 {
     if !is_listed(listed, used) && is_listed(users.users(used), user) {
@@ -24,7 +27,8 @@ fn end_use(users: &mut UserIndex, user: Key, used: Key, listed: &[Key])
 
 fn end_node_uses(users: &mut UserIndex, user: Key, nodes: &[u64], listed: &[Key])
     requires { IsRising listed.now }
-    ensures users { (a b : Key) → lists_key (users_in users.new b) a ≡ lists_key (users_in users.old b) a && not (list_any (λ id. key_eq (key Kind.Node id) b) nodes.now && (key_eq user a && not (lists_key listed.now b))) }
+    ensures users { (a b : Key) → lists_key (users_in users.new b) a ≡ lists_key (users_in users.old b) a && not (list_any
+        (λ id. key_eq (key Kind.Node id) b) nodes.now && (key_eq user a && not (lists_key listed.now b))) }
     ensures room { (b : Key) → free_in users.new b ≡ free_in users.old b }
 {
     for id in nodes {
@@ -38,7 +42,8 @@ fn end_node_uses(users: &mut UserIndex, user: Key, nodes: &[u64], listed: &[Key]
 
 fn end_member_uses(users: &mut UserIndex, user: Key, members: &[Member<u64>], listed: &[Key])
     requires { IsRising listed.now }
-    ensures users { (a b : Key) → lists_key (users_in users.new b) a ≡ lists_key (users_in users.old b) a && not (list_any (λ m. key_eq (key_of_member m) b) members.now && (key_eq user a && not (lists_key listed.now b))) }
+    ensures users { (a b : Key) → lists_key (users_in users.new b) a ≡ lists_key (users_in users.old b) a && not (list_any
+        (λ m. key_eq (key_of_member m) b) members.now && (key_eq user a && not (lists_key listed.now b))) }
     ensures room { (b : Key) → free_in users.new b ≡ free_in users.old b }
 {
     for member in members {
@@ -50,7 +55,9 @@ fn end_member_uses(users: &mut UserIndex, user: Key, members: &[Member<u64>], li
 #[tactic(auto, using(osm_element::proofs::Listed::lists_node_mapped, osm_element::proofs::Listed::lists_member_mapped))]
 fn end_uses_in(users: &mut UserIndex, user: Key, content: &Content<u64>, listed: &[Key])
     requires { IsRising listed.now }
-    ensures users { (a b : Key) → lists_key (users_in users.new b) a ≡ lists_key (users_in users.old b) a && not (lists_key (refs content.now) b && (key_eq user a && not (lists_key listed.now b))) }
+    ensures users { (a b : Key)
+        → lists_key (users_in users.new b) a
+        ≡ lists_key (users_in users.old b) a && not (lists_key (refs content.now) b && (key_eq user a && not (lists_key listed.now b))) }
     ensures room { (b : Key) → free_in users.new b ≡ free_in users.old b }
 {
     match content {
@@ -63,7 +70,9 @@ fn end_uses_in(users: &mut UserIndex, user: Key, content: &Content<u64>, listed:
 /// An element no longer uses what it lists now, unless that is still listed.
 pub fn end_uses(store: &Store, users: &mut UserIndex, user: Key, listed: &[Key])
     requires { IsRising listed.now }
-    ensures users { (a b : Key) → lists_key (users_in users.new b) a ≡ lists_key (users_in users.old b) a && not (lists_key (refs_of store.now.elements user) b && (key_eq user a && not (lists_key listed.now b))) }
+    ensures users { (a b : Key)
+        → lists_key (users_in users.new b) a
+        ≡ lists_key (users_in users.old b) a && not (lists_key (refs_of store.now.elements user) b && (key_eq user a && not (lists_key listed.now b))) }
     ensures room { (b : Key) → free_in users.new b ≡ free_in users.old b }
 {
     if let Some(content) = current_content(store, user) {
@@ -84,7 +93,8 @@ pub fn current_content(store: &Store, key: Key) -> Option<&Content<u64>>
 /// An element uses another, which may be itself or used already.
 fn begin_use(users: &mut UserIndex, user: Key, used: Key)
     requires { 0 < free_in users.old used }
-    ensures users { (a b : Key) → lists_key (users_in users.new b) a ≡ (key_eq used b && (key_eq user a && not (key_eq user b))) || lists_key (users_in users.old b) a }
+    ensures users { (a b : Key)
+        → lists_key (users_in users.new b) a ≡ (key_eq used b && (key_eq user a && not (key_eq user b))) || lists_key (users_in users.old b) a }
     ensures room { (b : Key) → free_in users.old b ≤ free_in users.new b + (if key_eq b used then 1 else 0) }
     ensures no_more { (b : Key) → free_in users.new b ≤ free_in users.old b }
 {
@@ -96,7 +106,9 @@ fn begin_use(users: &mut UserIndex, user: Key, used: Key)
 /// An element uses what is listed, itself left out.
 pub fn begin_uses(users: &mut UserIndex, user: Key, listed: &[Key])
     requires { (b : Key) → times_listed listed.now b ≤ free_in users.old b }
-    ensures users { (a b : Key) → lists_key (users_in users.new b) a ≡ (lists_key listed.now b && (key_eq user a && not (key_eq user b))) || lists_key (users_in users.old b) a }
+    ensures users { (a b : Key)
+        → lists_key (users_in users.new b) a
+        ≡ (lists_key listed.now b && (key_eq user a && not (key_eq user b))) || lists_key (users_in users.old b) a }
     ensures room { (b : Key) → free_in users.old b ≤ free_in users.new b + times_listed listed.now b }
     ensures no_more { (b : Key) → free_in users.new b ≤ free_in users.old b }
 {

@@ -1,3 +1,4 @@
+//! Why an input gave no journal.
 use journal_text::JournalFault;
 use osm_outside::Failed;
 use std::alloc::{AllocError, AllocFailed};

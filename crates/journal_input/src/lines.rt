@@ -25,9 +25,11 @@ pub(crate) fn judge_piece<K: Keeper>(
     keeper: &mut K,
 ) -> Result<(), JournalFault>
     requires { lines.old.number + length piece.now < 2 ^ 63 }
-    ensures judged { OnOk result ((bytes : List ℕ) → Stands bytes (K.kept keeper.old) lines.old [] → Stands (bytes ++ piece.now) (K.kept keeper.new) lines.new []) }
+    ensures judged { OnOk result ((bytes : List ℕ) → Stands bytes (K.kept keeper.old) lines.old []
+        → Stands (bytes ++ piece.now) (K.kept keeper.new) lines.new []) }
     ensures number { OnOk result (lines.new.number ≤ lines.old.number + length piece.now) }
-    ensures fault { IfErr result (λ why. (bytes : List ℕ) → Stands bytes (K.kept keeper.old) lines.old [] → LinesFail why (bytes ++ piece.now)) }
+    ensures fault { IfErr result (λ why. (bytes : List ℕ) → Stands bytes (K.kept keeper.old) lines.old []
+        → LinesFail why (bytes ++ piece.now)) }
 {
     lines_are_read_in_turn();
     let mut rest = piece;

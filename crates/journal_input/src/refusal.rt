@@ -20,7 +20,8 @@ pub(crate) fn refuse<S: Source>(
 ) -> InputFault
     requires some { 0 < length room.old }
     requires within { count ≤ TEXT_LIMIT + 1 }
-    ensures { (before : Told) (text : List ℕ) → SoFar before (S.told source.old) text → count ≡ length text → Fails fault text → IsInputFault result before (S.told source.new) }
+    ensures { (before : Told) (text : List ℕ) → SoFar before (S.told source.old) text → count ≡ length text → Fails fault text
+        → IsInputFault result before (S.told source.new) }
 {
     if fault == JournalFault::Memory {
         return InputFault::Text(fault);
@@ -36,7 +37,8 @@ fn throw_away<S: Source>(
 ) -> InputFault
     requires some { 0 < length room.old }
     requires within { count ≤ TEXT_LIMIT + 1 }
-    ensures { (before : Told) (text : List ℕ) → SoFar before (S.told source.old) text → count ≡ length text → Fails fault text → IsInputFault result before (S.told source.new) }
+    ensures { (before : Told) (text : List ℕ) → SoFar before (S.told source.old) text → count ≡ length text → Fails fault text
+        → IsInputFault result before (S.told source.new) }
 {
     let mut total = count;
     'rest: while total <= TEXT_LIMIT {

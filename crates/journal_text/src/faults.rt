@@ -1,3 +1,4 @@
+//! What is wrong with a line, and with a whole text.
 use osm_base::Memory;
 use std::alloc::{AllocError, AllocFailed};
 

@@ -16,10 +16,14 @@ use osm_json::{parts_are_read_again, texts_are_read_again};
 /// text's.
 pub fn lines_are_read_in_turn()
     ensures start { (text : List ℕ) → Reads text [] text }
-    ensures more { (text : List ℕ) (old new : List Entry) (rest bytes behind : List ℕ) → Reads text old rest → parted 10 rest ≡ Some (bytes, behind) → Follows old bytes new → FollowsAlone old bytes new → Reads text new behind }
-    ensures end { (text : List ℕ) (journal : List Entry) → Reads text journal [] → (text ≡ lines journal) × ((es : List Entry) → All IsEntry es → text ≡ lines es → journal ≡ es) }
-    ensures open { (text : List ℕ) (journal : List Entry) (rest : List ℕ) → Reads text journal rest → (rest ≡ [] → ⊥) → parted 10 rest ≡ None → IsLinesFault (Line (length journal + 2)) text × IsRefused (Line (length journal + 2)) text }
-    ensures fault { (f : JournalFault) (text : List ℕ) (journal : List Entry) (rest bytes behind : List ℕ) → Reads text journal rest → parted 10 rest ≡ Some (bytes, behind) → IsLineFault f (length journal + 2) journal bytes → IsLinesFault f text × IsRefused f text }
+    ensures more { (text : List ℕ) (old new : List Entry) (rest bytes behind : List ℕ) → Reads text old rest
+        → parted 10 rest ≡ Some (bytes, behind) → Follows old bytes new → FollowsAlone old bytes new → Reads text new behind }
+    ensures end { (text : List ℕ) (journal : List Entry) → Reads text journal [] → (text ≡ lines journal)
+        × ((es : List Entry) → All IsEntry es → text ≡ lines es → journal ≡ es) }
+    ensures open { (text : List ℕ) (journal : List Entry) (rest : List ℕ) → Reads text journal rest → (rest ≡ [] → ⊥)
+        → parted 10 rest ≡ None → IsLinesFault (Line (length journal + 2)) text × IsRefused (Line (length journal + 2)) text }
+    ensures fault { (f : JournalFault) (text : List ℕ) (journal : List Entry) (rest bytes behind : List ℕ) → Reads text journal rest
+        → parted 10 rest ≡ Some (bytes, behind) → IsLineFault f (length journal + 2) journal bytes → IsLinesFault f text × IsRefused f text }
 {
     texts_are_read_again();
     parts_are_read_again();

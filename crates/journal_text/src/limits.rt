@@ -1,3 +1,4 @@
+//! How long a journal's text may be.
 /// The most bytes of a journal's text.
 pub const TEXT_LIMIT: usize = 268_435_456;
 

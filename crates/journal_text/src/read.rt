@@ -278,7 +278,9 @@ fn session(reader: &mut Reader<'_>) -> Result<u32, LineFault>
 
 /// What stands behind the command of an entry: its session and its user.
 fn behind_command(alloc: Global, reader: &mut Reader<'_>) -> Result<(u32, User), LineFault>
-    ensures { Hears (λ p. p) result (bind (session_next reader.old) (λ session ts. bind (key_next (codes "user") ts) (λ _ ts. bind (user_next ts) (λ user ts. bind (end_next ts) (λ _ ts. Some ((session, user), ts)))))) reader.new }
+    ensures { Hears (λ p. p) result (bind (session_next reader.old)
+        (λ session ts. bind (key_next (codes "user") ts)
+        (λ _ ts. bind (user_next ts) (λ user ts. bind (end_next ts) (λ _ ts. Some ((session, user), ts)))))) reader.new }
 {
     let session = session(reader)?;
     key(reader, "user")?;

@@ -1,3 +1,4 @@
+//! What a machine is: its world, its plans, and the laws that it keeps.
 ghost use Rattle.std.specs.Prelude.{◌≡◌, ℕ, true, IfOk, OnOk, MatchResult, IfSome};
 ghost use Rattle.machine_law.specs.declared.tags.Tag.{Tag};
 ghost use Rattle.machine_law.specs.Rules.{Rules, Later, IsForeseen};
@@ -55,7 +56,8 @@ pub trait Machine {
 
     /// Whether a plan stands on this world, or else where they differ. It takes no memory.
     fn still(world: &Self::World, plan: &Self::Plan) -> Result<(), Self::Look>
-        ensures { MatchResult result (λ _. rules.stands plan.now (state world.now)) (λ look. ¬ rules.stands plan.now (state world.now) × rules.differs look plan.now (state world.now)) };
+        ensures { MatchResult result (λ _. rules.stands plan.now (state world.now))
+            (λ look. ¬ rules.stands plan.now (state world.now) × rules.differs look plan.now (state world.now)) };
 
     /// What the command of a plan that stands comes to on this world, without a step.
     fn settle<L: Ledger>(
@@ -68,7 +70,8 @@ pub trait Machine {
     ) -> Result<Settled<Self::Entry>, Memory>
         requires stands { rules.stands plan.now (state world.now) }
         requires foreseen { IsForeseen rules plan.now (state world.now) }
-        ensures acts { (begun : Self.State) (command : Self.Command) → rules.planned begun command plan.now → Later rules begun (state world.now) → IfOk result (λ s. s ≡ rules.act (state world.now) tag moment command) }
+        ensures acts { (begun : Self.State) (command : Self.Command) → rules.planned begun command plan.now → Later rules begun (state world.now)
+            → IfOk result (λ s. s ≡ rules.act (state world.now) tag moment command) }
         ensures steps { steps.new ≡ steps.old };
 
     /// What a plan's command comes to on this world, whether the plan stands or not.
@@ -81,7 +84,8 @@ pub trait Machine {
         steps: &mut Steps<L>,
     ) -> Result<Settled<Self::Entry>, Memory>
         requires { IsForeseen rules plan.now (state world.now) }
-        ensures { (begun : Self.State) (command : Self.Command) → rules.planned begun command plan.now → Later rules begun (state world.now) → IfOk result (λ s. s ≡ rules.act (state world.now) tag moment command) };
+        ensures { (begun : Self.State) (command : Self.Command) → rules.planned begun command plan.now → Later rules begun (state world.now)
+            → IfOk result (λ s. s ≡ rules.act (state world.now) tag moment command) };
 
     /// A second entry that is equal to this one.
     fn copy(alloc: Global, entry: &Self::Entry) -> Result<Self::Entry, Memory>
@@ -114,11 +118,13 @@ pub trait Machine {
         ensures { IfOk result (λ bytes. bytes ≡ rules.reply (state world.now) query.now moment) };
 
     // The entry of an accepted command may come next, and carries the tag.
-    ghost entry_taken: { (s : Self.State) (tag : Tag) (moment : ℕ) (command : Self.Command) → IfSome (rules.act s tag moment command).entry (λ e. (rules.takes s e ≡ true) × (rules.tag_of e ≡ tag)) };
+    ghost entry_taken: { (s : Self.State) (tag : Tag) (moment : ℕ) (command : Self.Command) → IfSome (rules.act s tag moment command).entry
+        (λ e. (rules.takes s e ≡ true) × (rules.tag_of e ≡ tag)) };
 
     // The first state is consistent.
     ghost start_consistent: { rules.consistent rules.start };
 
     // An entry that may come next leaves a consistent state consistent.
-    ghost after_consistent: { (s : Self.State) (e : Self.Entry) → rules.takes s e ≡ true → rules.consistent s → rules.consistent (rules.after s e) };
+    ghost after_consistent: { (s : Self.State) (e : Self.Entry) → rules.takes s e ≡ true → rules.consistent s
+        → rules.consistent (rules.after s e) };
 }

@@ -1,3 +1,4 @@
+//! Whose call an entry is, and what a command comes to.
 use osm_base::Bytes;
 
 /// Whose call it is: the session, and the number of the call in it, from 1.

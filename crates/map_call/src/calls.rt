@@ -1,3 +1,4 @@
+//! The map of a box.
 ghost use Rattle.std.specs.Prelude.{◌≡◌, ◌⊎◌, ◌+◌, ◌≤◌, length, IfOk, Err};
 ghost use Rattle.osm_model.specs.Selection.{map_of, nodes_within, selection};
 ghost use Rattle.osm_world.specs.World.{state_of};

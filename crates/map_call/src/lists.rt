@@ -1,3 +1,4 @@
+//! Lists of ids by kind, from keys and contents.
 ghost use Rattle.std.specs.Prelude.{◌≡◌, ◌==◌, ◌&&◌, ◌||◌, ℕ, not, OnOk};
 ghost use Rattle.std.specs.List.{list_any};
 ghost use Rattle.std.specs.List.Sorted.{IsStrictlyIncreasing};
@@ -44,8 +45,10 @@ fn list_relations(keys: &[Key], ids: &mut Vec<u64>) -> Result<(), Memory>
 
 /// Adds the ids of the ways and of the relations among some keys.
 fn list_both(keys: &[Key], users: &mut Users) -> Result<(), Memory>
-    ensures ways { OnOk result ((id : ℕ) → lists_id users.new.ways.items id ≡ lists_id users.old.ways.items id || lists_key keys.now (key Kind.Way id)) }
-    ensures relations { OnOk result ((id : ℕ) → lists_id users.new.relations.items id ≡ lists_id users.old.relations.items id || lists_key keys.now (key Kind.Relation id)) }
+    ensures ways { OnOk result ((id : ℕ)
+        → lists_id users.new.ways.items id ≡ lists_id users.old.ways.items id || lists_key keys.now (key Kind.Way id)) }
+    ensures relations { OnOk result ((id : ℕ)
+        → lists_id users.new.relations.items id ≡ lists_id users.old.relations.items id || lists_key keys.now (key Kind.Relation id)) }
 {
     for listed in keys {
         list_key(*listed, Kind::Way, &mut users.ways)?;
@@ -56,8 +59,10 @@ fn list_both(keys: &[Key], users: &mut Users) -> Result<(), Memory>
 
 /// Adds the users of some nodes.
 pub fn list_users(world: &World, nodes: &[u64], found: &mut Users) -> Result<(), Memory>
-    ensures ways { OnOk result ((id : ℕ) → lists_id found.new.ways.items id ≡ lists_id found.old.ways.items id || list_any (λ n. lists_key (users (state_of world.now).elements (key Kind.Node n)) (key Kind.Way id)) nodes.now) }
-    ensures relations { OnOk result ((id : ℕ) → lists_id found.new.relations.items id ≡ lists_id found.old.relations.items id || list_any (λ n. lists_key (users (state_of world.now).elements (key Kind.Node n)) (key Kind.Relation id)) nodes.now) }
+    ensures ways { OnOk result ((id : ℕ) → lists_id found.new.ways.items id ≡ lists_id found.old.ways.items id || list_any
+        (λ n. lists_key (users (state_of world.now).elements (key Kind.Node n)) (key Kind.Way id)) nodes.now) }
+    ensures relations { OnOk result ((id : ℕ) → lists_id found.new.relations.items id ≡ lists_id found.old.relations.items id || list_any
+        (λ n. lists_key (users (state_of world.now).elements (key Kind.Node n)) (key Kind.Relation id)) nodes.now) }
 {
     for id in nodes {
         let node = Key {
@@ -76,7 +81,8 @@ pub fn list_relation_users(
     used: &[u64],
     ids: &mut Vec<u64>,
 ) -> Result<(), Memory>
-    ensures { OnOk result ((id : ℕ) → lists_id ids.new.items id ≡ lists_id ids.old.items id || list_any (λ u. lists_key (users (state_of world.now).elements (key kind u)) (key Kind.Relation id)) used.now) }
+    ensures { OnOk result ((id : ℕ) → lists_id ids.new.items id ≡ lists_id ids.old.items id || list_any
+        (λ u. lists_key (users (state_of world.now).elements (key kind u)) (key Kind.Relation id)) used.now) }
 {
     for id in used {
         let of = Key { kind, id: *id };
@@ -88,7 +94,9 @@ pub fn list_relation_users(
 /// Adds the relations that use a node, where that isn't one of `known`.
 fn list_new_users(world: &World, known: &[u64], id: u64, ids: &mut Vec<u64>) -> Result<(), Memory>
     requires { IsStrictlyIncreasing known.now }
-    ensures { OnOk result ((r : ℕ) → lists_id ids.new.items r ≡ lists_id ids.old.items r || (not (lists_id known.now id) && lists_key (users (state_of world.now).elements (key Kind.Node id)) (key Kind.Relation r))) }
+    ensures { OnOk result ((r : ℕ)
+        → lists_id ids.new.items r
+        ≡ lists_id ids.old.items r || (not (lists_id known.now id) && lists_key (users (state_of world.now).elements (key Kind.Node id)) (key Kind.Relation r))) }
 {
     if has(known, id) {
         return Ok(());
@@ -108,7 +116,8 @@ pub fn list_users_of_new(
     ids: &mut Vec<u64>,
 ) -> Result<(), Memory>
     requires { IsStrictlyIncreasing known.now }
-    ensures { OnOk result ((r : ℕ) → lists_id ids.new.items r ≡ lists_id ids.old.items r || list_any (λ n. not (lists_id known.now n) && lists_key (users (state_of world.now).elements (key Kind.Node n)) (key Kind.Relation r)) nodes.now) }
+    ensures { OnOk result ((r : ℕ) → lists_id ids.new.items r ≡ lists_id ids.old.items r || list_any
+        (λ n. not (lists_id known.now n) && lists_key (users (state_of world.now).elements (key Kind.Node n)) (key Kind.Relation r)) nodes.now) }
 {
     for id in nodes {
         list_new_users(world, known, *id, ids)?;
@@ -127,7 +136,8 @@ pub fn list_ids(listed: &[u64], ids: &mut Vec<u64>) -> Result<(), Memory>
 }
 
 fn list_members(members: &[Member<u64>], ids: &mut Vec<u64>) -> Result<(), Memory>
-    ensures { OnOk result ((id : ℕ) → lists_id ids.new.items id ≡ lists_id ids.old.items id || list_any (λ m. key_eq (key_of_member m) (key Kind.Node id)) members.now) }
+    ensures { OnOk result ((id : ℕ) → lists_id ids.new.items id ≡ lists_id ids.old.items id || list_any
+        (λ m. key_eq (key_of_member m) (key Kind.Node id)) members.now) }
 {
     for member in members {
         let listed = Key {
@@ -142,7 +152,8 @@ fn list_members(members: &[Member<u64>], ids: &mut Vec<u64>) -> Result<(), Memor
 /// Adds the nodes that a content lists.
 #[tactic(auto, using(osm_element::proofs::Listed::lists_node_mapped, osm_element::proofs::Listed::lists_member_mapped))]
 fn list_content(content: &Content<u64>, ids: &mut Vec<u64>) -> Result<(), Memory>
-    ensures { OnOk result ((id : ℕ) → lists_id ids.new.items id ≡ lists_id ids.old.items id || lists_key (refs content.now) (key Kind.Node id)) }
+    ensures { OnOk result ((id : ℕ)
+        → lists_id ids.new.items id ≡ lists_id ids.old.items id || lists_key (refs content.now) (key Kind.Node id)) }
 {
     match content {
         Content::Node(_) => Ok(()),
@@ -166,7 +177,8 @@ fn list_element(store: &Store, of: Key, ids: &mut Vec<u64>) -> Result<(), Memory
 
 /// Adds the nodes that some ways list.
 pub fn list_nodes(store: &Store, ways: &[u64], ids: &mut Vec<u64>) -> Result<(), Memory>
-    ensures { OnOk result ((id : ℕ) → lists_id ids.new.items id ≡ lists_id ids.old.items id || list_any (λ w. lists store.now.elements (key Kind.Way w) (key Kind.Node id)) ways.now) }
+    ensures { OnOk result ((id : ℕ) → lists_id ids.new.items id ≡ lists_id ids.old.items id || list_any
+        (λ w. lists store.now.elements (key Kind.Way w) (key Kind.Node id)) ways.now) }
 {
     for id in ways {
         let way = Key {

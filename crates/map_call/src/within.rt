@@ -1,3 +1,4 @@
+//! The nodes of a box, by the cells that it touches.
 ghost use Rattle.std.specs.Prelude.{◌≡◌, ◌+◌, ◌≤◌, length, IfOk};
 ghost use Rattle.osm_base.specs.Place.{IsArea};
 ghost use Rattle.osm_model.specs.Selection.{nodes_within};

@@ -1,3 +1,4 @@
+//! Why numbers or a text are no box.
 /// Why numbers or a text give no box. The lowest that holds is named.
 #[derive(Clone, Copy)]
 pub enum BoxFault {

@@ -1,3 +1,4 @@
+//! Second, equal values, which may want memory.
 ghost use Rattle.std.specs.Prelude.{◌≡◌, IfOk};
 
 use crate::memory::Memory;

@@ -1,3 +1,4 @@
+//! A list with its items as its value.
 ghost use Rattle.std.specs.Prelude.{◌≡◌, ◌++◌, ◌∷◌, [], length, ◌<◌, slice_set, slice_get, Some, OnOk, OnErr};
 
 use crate::copies::{TryCopy, copy_all};

@@ -1,3 +1,4 @@
+//! Lookup of a key in a list that is in order.
 ghost use Rattle.std.specs.Prelude.{◌≡◌};
 ghost use Rattle.osm_base.specs.Key.{lists_key, IsRising};
 

@@ -1,3 +1,4 @@
+//! Moments, and how the map's go on.
 ghost use Rattle.std.specs.Prelude.{◌≡◌, ℕ};
 ghost use Rattle.osm_base.specs.Stamp.{stamp_after};
 

@@ -1,3 +1,4 @@
+//! A counter of steps that costs nothing when the program runs.
 ghost use Rattle.std.specs.Prelude.{◌≡◌, ◌+◌, ◌<◌};
 
 use std::marker::Model;

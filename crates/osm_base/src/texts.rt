@@ -1,3 +1,4 @@
+//! Texts, and bytes that are owned.
 ghost use Rattle.std.specs.Prelude.{◌≡◌, ℕ, List, [], IfOk, string_bytes};
 
 use crate::copies::TryCopy;

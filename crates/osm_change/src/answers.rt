@@ -1,3 +1,4 @@
+//! What a command or a query is answered.
 use crate::refusals::Refusal;
 use osm_base::{Box7, Items, Key, Kind, Owner, Stamp};
 use osm_element::{Tags, Version};

@@ -1,3 +1,4 @@
+//! From what a body says to operations whose names stand for elements.
 ghost use Rattle.std.specs.Prelude.{◌≡◌, true, ◌+◌, ◌^◌, ◌<◌, length, [], None, Some, Ok, Err, OnOk, MatchOption, ⊤};
 ghost use Rattle.osm_base.specs.Outcome.{unless};
 ghost use Rattle.osm_base.specs.Place.{is_position};

@@ -1,3 +1,4 @@
+//! Why an upload is no change.
 use osm_base::Memory;
 use osm_element::LocalFault;
 use std::alloc::{AllocError, AllocFailed};

@@ -8,7 +8,8 @@ ghost use Rattle.osm_change.specs.declared.operations.Op.{Op};
 
 /// Whatever an operation of a change names can be said.
 pub fn names_are_said()
-    ensures { (ops : List Op) → IsWellFormed ops → (n : ℕ) (o : Op) → slice_get ops n ≡ Some o → All (λ given. IsSaid ops given.name) (names_given o) }
+    ensures { (ops : List Op) → IsWellFormed ops → (n : ℕ) (o : Op) → slice_get ops n ≡ Some o → All
+        (λ given. IsSaid ops given.name) (names_given o) }
 {}
 
 /// Whatever the type of a change allows can be read: its operations, given as a document of any

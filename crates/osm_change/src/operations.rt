@@ -1,3 +1,4 @@
+//! Operations, the names that they use, and what they did.
 use crate::listed::kind_of;
 use osm_base::{Items, Kind, Memory, TryCopy};
 use osm_element::{Content, Tags};

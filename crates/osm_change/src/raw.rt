@@ -1,3 +1,4 @@
+//! Operations as a body gives them.
 use osm_base::Kind;
 use osm_element::{RawContent, Tags};
 

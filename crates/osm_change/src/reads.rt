@@ -1,3 +1,4 @@
+//! What a read selects, and why it shows nothing.
 use crate::answers::Answer;
 use crate::refusals::{Refusal, Said};
 use osm_base::{Ids, Key, Memory};

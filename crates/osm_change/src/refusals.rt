@@ -1,3 +1,4 @@
+//! Why a request is refused.
 use osm_base::{Kind, Stamp, Text};
 use osm_element::LocalFault;
 

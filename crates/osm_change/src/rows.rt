@@ -1,3 +1,4 @@
+//! The rows of an upload.
 ghost use Rattle.std.specs.Prelude.{◌≡◌, length, slice_get, Some, IfOk};
 ghost use Rattle.osm_change.specs.Change.{IsWellFormed};
 ghost use Rattle.osm_change.specs.Rows.{whole_row, deletion_row, row, rows};

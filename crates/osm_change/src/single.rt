@@ -1,3 +1,4 @@
+//! A change of one operation.
 ghost use Rattle.std.specs.Prelude.{◌≡◌, ◌↔◌, length, IsOk, MatchResult};
 
 use crate::changes::Change;

@@ -1,3 +1,4 @@
+//! The limits on an element's own parts.
 ghost use Rattle.std.specs.Prelude.{◌≡◌, length, chars};
 ghost use Rattle.std.specs.List.{list_any};
 ghost use Rattle.osm_element.specs.Limits.{is_long, is_bad_key, check_tags, check_position, check_nodes, check_members, check_content, check_parts};

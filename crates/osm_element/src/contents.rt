@@ -1,3 +1,4 @@
+//! What elements hold: a position, nodes, members.
 use osm_base::{Coord, Items, Kind, Memory, Text, TryCopy};
 use std::alloc::Global;
 

@@ -1,3 +1,4 @@
+//! Versions that are added and marked.
 ghost use Rattle.std.specs.Prelude.{◌≡◌, ◌-◌, ◌<◌, ◌≤◌, length, slice_set, OnOk, OnErr};
 ghost use Rattle.osm_element.specs.Elements.{history_in, count, add_version, push_version, mark_in, mark};
 

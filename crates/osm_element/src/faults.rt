@@ -1,3 +1,4 @@
+//! What of an element is beyond a limit.
 /// What of an element's own parts is beyond a limit. The lowest that holds is named.
 #[derive(Clone, Copy, PartialEq, Eq)]
 pub enum LocalFault {

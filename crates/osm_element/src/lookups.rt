@@ -1,3 +1,4 @@
+//! Versions that are looked up.
 ghost use Rattle.std.specs.Prelude.{◌≡◌, ◌<◌, ◌^◌, option_copied};
 ghost use Rattle.osm_element.specs.Elements.{histories, next_id, history_in, history, count, version, current, content_of, is_visible, position};
 

@@ -1,3 +1,4 @@
+//! Who uses an element, found by going through all.
 ghost use Rattle.std.specs.Prelude.{◌≡◌, ◌++◌, ◌∷◌, [], filter, length, slice_get, IfOk};
 ghost use Rattle.osm_element.specs.Elements.{keys_to, histories, uses, users, first_user};
 
@@ -71,7 +72,8 @@ fn add_user(elements: &Elements, user: Key, used: Key, found: &mut Vec<Key>) -> 
 
 /// Adds the users of one kind, by id.
 fn add_users(elements: &Elements, kind: Kind, used: Key, found: &mut Vec<Key>) -> Result<(), Memory>
-    ensures { IfOk result (λ _. found.new.items ≡ found.old.items ++ filter (λ a. uses elements.now a used) (keys_to kind (length (histories elements.now kind)))) }
+    ensures { IfOk result (λ _. found.new.items ≡ found.old.items ++ filter
+        (λ a. uses elements.now a used) (keys_to kind (length (histories elements.now kind)))) }
 {
     for place in 0..elements.histories(kind).len() {
         let user = Key {

@@ -55,7 +55,8 @@ fn elements(
     action: Action,
     progress: &mut Progress,
 ) -> Result<(), ReadFault>
-    ensures value { Pulled (λ _. sight progress.new) (λ ds. walk_all action ds (sight progress.old)) result (next_items depth reader.old) reader.new }
+    ensures value { Pulled (λ _. sight progress.new)
+        (λ ds. walk_all action ds (sight progress.old)) result (next_items depth reader.old) reader.new }
     ensures shorter { OnOk result (length reader.new ≤ length reader.old) }
 {
     while !reader.take_end_array() {
@@ -72,7 +73,8 @@ fn list(
     action: Action,
     progress: &mut Progress,
 ) -> Result<bool, ReadFault>
-    ensures value { Pulled (λ b. (b, sight progress.new)) (λ d. walk_list action (sight progress.old) (as_array d)) result (next_data depth reader.old) reader.new }
+    ensures value { Pulled (λ b. (b, sight progress.new))
+        (λ d. walk_list action (sight progress.old) (as_array d)) result (next_data depth reader.old) reader.new }
     ensures shorter { OnOk result (length reader.new < length reader.old) }
 {
     match enter_array(reader, depth)? {
@@ -111,7 +113,8 @@ fn listed(
     base: Base,
     progress: &mut Progress,
 ) -> Result<bool, ReadFault>
-    ensures value { Pulled (λ b. (b, sight progress.new)) (λ d. walk_list action (take base.start progress.old.ops.items, base.fault) (as_array d)) result (next_data depth reader.old) reader.new }
+    ensures value { Pulled (λ b. (b, sight progress.new))
+        (λ d. walk_list action (take base.start progress.old.ops.items, base.fault) (as_array d)) result (next_data depth reader.old) reader.new }
     ensures shorter { OnOk result (length reader.new < length reader.old) }
 {
     progress.ops.truncate(base.start);
@@ -145,7 +148,8 @@ fn entry(
     found: &mut Lists,
     progress: &mut Progress,
 ) -> Result<(), ReadFault>
-    ensures value { Pulled (λ _. (found.new, sight progress.new)) (λ d. put_entry name d (take base.start progress.old.ops.items, base.fault) (found.old, sight progress.old)) result (next_data depth reader.old) reader.new }
+    ensures value { Pulled (λ _. (found.new, sight progress.new))
+        (λ d. put_entry name d (take base.start progress.old.ops.items, base.fault) (found.old, sight progress.old)) result (next_data depth reader.old) reader.new }
     ensures shorter { OnOk result (length reader.new < length reader.old) }
 {
     match name {
@@ -181,7 +185,8 @@ fn entries(
     progress: &mut Progress,
 ) -> Result<Lists, ReadFault>
     requires { base.start ≤ length progress.old.ops.items }
-    ensures value { PulledMembers (λ f ms. SeesMembers ms (take base.start progress.old.ops.items, base.fault) (f, sight progress.new)) result (next_members depth reader.old) reader.new }
+    ensures value { PulledMembers
+        (λ f ms. SeesMembers ms (take base.start progress.old.ops.items, base.fault) (f, sight progress.new)) result (next_members depth reader.old) reader.new }
     ensures shorter { OnOk result (length reader.new ≤ length reader.old) }
 {
     let mut found = Lists {

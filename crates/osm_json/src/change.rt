@@ -24,7 +24,8 @@ fn member(
     key: &str,
     found: &mut Option<Progress>,
 ) -> Result<(), ReadFault>
-    ensures value { Pulled (λ _. option_map sight found.new) (λ d. if bytes_eq key.now (codes "osmChange") then walk_value (as_array d) else option_map sight found.old) result (next_data depth reader.old) reader.new }
+    ensures value { Pulled (λ _. option_map sight found.new)
+        (λ d. if bytes_eq key.now (codes "osmChange") then walk_value (as_array d) else option_map sight found.old) result (next_data depth reader.old) reader.new }
     ensures shorter { OnOk result (length reader.new < length reader.old) }
 {
     if key == "osmChange" {
@@ -44,7 +45,8 @@ fn members(
     reader: &mut Reader<'_>,
     depth: usize,
 ) -> Result<Option<Progress>, ReadFault>
-    ensures value { Pulled (λ o. option_map sight o) (λ ms. walk_document (get_member (codes "osmChange") ms)) result (next_members depth reader.old) reader.new }
+    ensures value { Pulled (λ o. option_map sight o)
+        (λ ms. walk_document (get_member (codes "osmChange") ms)) result (next_members depth reader.old) reader.new }
     ensures shorter { OnOk result (length reader.new ≤ length reader.old) }
 {
     let mut found = None;

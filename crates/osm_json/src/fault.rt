@@ -1,3 +1,4 @@
+//! Why a body, or a value of it, was not read.
 ghost use Rattle.std.specs.Prelude.{◌≡◌, Some, Ok, Err, MatchResult};
 
 use json::Invalid;

@@ -30,8 +30,10 @@ pub fn texts_are_read_again()
 pub fn parts_are_read_again()
     ensures tags { (tags : List Tag) → KeysRise tags → IsPlainData (tags_data tags) }
     ensures change { (ops : List Op) → IsChange ops → IsPlainData (change ops) }
-    ensures tags_again { (tags : List Tag) → KeysRise tags → (rest : List Token) → next_as tags_of (tokens_of (tags_data tags) ++ rest) ≡ Some (tags, rest) }
-    ensures change_again { (ops : List Op) → IsChange ops → (rest : List Token) → next_as ops_of (tokens_of (change ops) ++ rest) ≡ Some (document_of ops, rest) }
+    ensures tags_again { (tags : List Tag) → KeysRise tags → (rest : List Token)
+        → next_as tags_of (tokens_of (tags_data tags) ++ rest) ≡ Some (tags, rest) }
+    ensures change_again { (ops : List Op) → IsChange ops → (rest : List Token)
+        → next_as ops_of (tokens_of (change ops) ++ rest) ≡ Some (document_of ops, rest) }
 {
     changes_are_read_again();
 }

@@ -63,7 +63,8 @@ fn part<'a>(
     name: Part,
     found: &mut Parts<'a>,
 ) -> Result<(), ReadFault>
-    ensures value { Pulled (λ _. parts_view found.new) (λ d. put_part name d (parts_view found.old)) result (next_data depth reader.old) reader.new }
+    ensures value { Pulled (λ _. parts_view found.new)
+        (λ d. put_part name d (parts_view found.old)) result (next_data depth reader.old) reader.new }
     ensures shorter { OnOk result (length reader.new < length reader.old) }
 {
     match name {

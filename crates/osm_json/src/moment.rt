@@ -1,3 +1,4 @@
+//! The text of a moment.
 ghost use Rattle.std.specs.Prelude.{◌≡◌, IfOk, string_bytes};
 ghost use Rattle.osm_change.specs.Moments.{IsShownMoment};
 ghost use Rattle.osm_json.specs.Moment.{stamp_text as text_of};

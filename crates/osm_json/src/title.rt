@@ -34,7 +34,8 @@ fn title_member<'a>(
     key: &str,
     found: &mut Option<Option<&'a str>>,
 ) -> Result<(), ReadFault>
-    ensures value { Pulled (λ _. option_map text_in found.new) (λ d. if bytes_eq key.now (codes "title") then Some (as_str d) else option_map text_in found.old) result (next_data depth reader.old) reader.new }
+    ensures value { Pulled (λ _. option_map text_in found.new)
+        (λ d. if bytes_eq key.now (codes "title") then Some (as_str d) else option_map text_in found.old) result (next_data depth reader.old) reader.new }
     ensures shorter { OnOk result (length reader.new < length reader.old) }
 {
     if key == "title" {
@@ -50,7 +51,8 @@ fn title_members<'a>(
     reader: &mut Reader<'a>,
     depth: usize,
 ) -> Result<Option<Option<&'a str>>, ReadFault>
-    ensures value { Pulled (λ o. option_map text_in o) (λ ms. option_map as_str (get_member (codes "title") ms)) result (next_members depth reader.old) reader.new }
+    ensures value { Pulled (λ o. option_map text_in o)
+        (λ ms. option_map as_str (get_member (codes "title") ms)) result (next_members depth reader.old) reader.new }
     ensures shorter { OnOk result (length reader.new ≤ length reader.old) }
 {
     let mut found = None;

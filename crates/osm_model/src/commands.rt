@@ -1,3 +1,4 @@
+//! What a user may ask to change, and what a journal keeps of it.
 use osm_base::{Key, Memory, Stamp, Text, TryCopy, User};
 use osm_change::{Change, OneOp};
 use osm_element::Tags;

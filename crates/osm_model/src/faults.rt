@@ -1,3 +1,4 @@
+//! Why a step of the plain program has no result.
 use osm_base::Memory;
 use osm_change::Refusal;
 

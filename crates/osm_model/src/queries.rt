@@ -1,3 +1,4 @@
+//! What a caller may ask to see.
 use osm_base::{Box7, Ids, Key, Kind};
 
 /// What a caller asks to see (OpenStreetMap wiki, API v0.6). Ids, versions and numbers count from 1.

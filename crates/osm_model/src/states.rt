@@ -1,3 +1,4 @@
+//! The map's state.
 ghost use Rattle.std.specs.Prelude.{◌≡◌, ◌<◌, ◌≤◌, length, option_copied, IfSome};
 ghost use Rattle.osm_model.specs.State.{empty, changeset, HasChangeset};
 

@@ -1,3 +1,4 @@
+//! An upload under way.
 use osm_base::{Box7, Items, Key};
 use osm_change::OpDone;
 use osm_element::Elements;

@@ -116,7 +116,8 @@ impl Host for MemHost {
         workers: u32,
     ) -> Result<Vec<MemPort>, HostFault>
         ensures count { IfOk result (λ ports. vec_len ports ≡ workers) }
-        ensures ports { IfOk result (λ ports. (host_told_of self.new).lent ≡ hand_out (host_told_of self.old).lent (map port_told_of ports.items)) }
+        ensures ports { IfOk result
+            (λ ports. (host_told_of self.new).lent ≡ hand_out (host_told_of self.old).lent (map port_told_of ports.items)) }
         ensures failed { result ≡ Err fault.Failed → Rose (host_told_of self.old).faults (host_told_of self.new).faults }
         ensures err { OnErr result ((host_told_of self.new).lent ≡ (host_told_of self.old).lent) }
         ensures keeps { OnlyPorts address.now (host_told_of self.old) (host_told_of self.new) }

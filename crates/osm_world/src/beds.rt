@@ -1,3 +1,4 @@
+//! What is laid by for an entry.
 ghost use Rattle.std.specs.Prelude.{◌≡◌, []};
 
 use osm_base::{Items, Key, Roomy};

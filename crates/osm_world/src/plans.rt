@@ -1,3 +1,4 @@
+//! What an entry will need, found before it is taken.
 ghost use Rattle.std.specs.Prelude.{◌≡◌, ◌+◌, ◌≤◌, [], ◌∷◌, ◌++◌, if◌then◌else◌, length, map, IfOk, OnOk};
 ghost use Rattle.osm_base.specs.Key.{key_eq, lists_key, IsRising};
 ghost use Rattle.osm_base.specs.Place.{Position};
@@ -193,7 +194,8 @@ fn promise_for(alloc: Global, map: &mut IndexedMap, bed: &Bed, operation: &Op) -
     ensures same { map.new.elements ≡ map.old.elements }
     ensures versions { OnOk result ((k : Key) → free map.new.versions k ≡ free map.old.versions k + (if key_eq k bed.now.key then 1 else 0)) }
     ensures users { OnOk result ((b : Key) → free_in map.new.users b ≡ free_in map.old.users b + times_listed bed.now.listed b) }
-    ensures cells { OnOk result ((p : Position) → free_at map.new.cells p ≡ free_at map.old.cells p + (if enters p (place_of_op operation.now) then 1 else 0)) }
+    ensures cells { OnOk result ((p : Position)
+        → free_at map.new.cells p ≡ free_at map.old.cells p + (if enters p (place_of_op operation.now) then 1 else 0)) }
 {
     if bed.key.id == 0 {
         return Err(Memory);

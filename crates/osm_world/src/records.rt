@@ -1,3 +1,4 @@
+//! The changesets of the map, with promised room.
 ghost use Rattle.std.specs.Prelude.{◌≡◌, ◌+◌, ◌-◌, ◌<◌, ◌≤◌, ◌∷◌, ◌++◌, [], ◌==◌, Some, length, slice_get, slice_set, slice_index, OnOk, ℕ, true, false};
 ghost use Rattle.changeset_core.specs.Changeset.{is_open, retagged, ended_at};
 ghost use Rattle.changeset_core.specs.Timely.{IsTimelyMoment};
@@ -48,7 +49,8 @@ pub fn set_tags(alloc: Global, changesets: &mut Roomy<Changeset>, id: u64, tags:
     requires known { id ≤ length changesets.old.items }
     requires is_open { (r : ChangesetRecord) → slice_get (records changesets.old.items) (id - 1) ≡ Some r → is_open r at ≡ true }
     requires timely { IsTimelyMoment at }
-    ensures records { (r : ChangesetRecord) → slice_get (records changesets.old.items) (id - 1) ≡ Some r → records changesets.new.items ≡ slice_set (records changesets.old.items) (id - 1) (retagged r tags at) }
+    ensures records { (r : ChangesetRecord) → slice_get (records changesets.old.items) (id - 1) ≡ Some r
+        → records changesets.new.items ≡ slice_set (records changesets.old.items) (id - 1) (retagged r tags at) }
     ensures ids { ids changesets.new.items ≡ ids changesets.old.items }
     ensures rooms { rooms changesets.new.items ≡ rooms changesets.old.items }
 {
@@ -64,7 +66,8 @@ pub fn set_end(alloc: Global, changesets: &mut Roomy<Changeset>, id: u64, at: St
     requires known { id ≤ length changesets.old.items }
     requires is_open { (r : ChangesetRecord) → slice_get (records changesets.old.items) (id - 1) ≡ Some r → is_open r at ≡ true }
     requires timely { IsTimelyMoment at }
-    ensures records { (r : ChangesetRecord) → slice_get (records changesets.old.items) (id - 1) ≡ Some r → records changesets.new.items ≡ slice_set (records changesets.old.items) (id - 1) (ended_at r at) }
+    ensures records { (r : ChangesetRecord) → slice_get (records changesets.old.items) (id - 1) ≡ Some r
+        → records changesets.new.items ≡ slice_set (records changesets.old.items) (id - 1) (ended_at r at) }
     ensures ids { ids changesets.new.items ≡ ids changesets.old.items }
     ensures rooms { rooms changesets.new.items ≡ rooms changesets.old.items }
 {
@@ -85,7 +88,8 @@ pub fn promise_work(
     ensures records { records changesets.new.items ≡ records changesets.old.items }
     ensures ids { ids changesets.new.items ≡ ids changesets.old.items }
     ensures ok { OnOk result (more ≤ slice_index (rooms changesets.new.items) (id - 1)) }
-    ensures others { (i : ℕ) → (i + 1 == id) ≡ false → slice_index (rooms changesets.new.items) i ≤ slice_index (rooms changesets.old.items) i }
+    ensures others { (i : ℕ) → (i + 1 == id) ≡ false → slice_index (rooms changesets.new.items) i
+        ≤ slice_index (rooms changesets.old.items) i }
     ensures free { changesets.new.free ≡ changesets.old.free }
 {
     if id == 0 || id > changesets.items().len() as u64 {

@@ -1,3 +1,4 @@
+//! The stores of the map, and an entry done on them.
 ghost use Rattle.std.specs.Prelude.{◌≡◌, ℕ, ◌+◌, ◌≤◌, ◌==◌, false, length, slice_index, nat_lt, if◌then◌else◌, Ok, IsOk, OnOk};
 ghost use Rattle.changeset_core.specs.Changeset.{join_areas};
 ghost use Rattle.changeset_core.specs.Timely.{IsTimelyMoment};
@@ -36,7 +37,8 @@ impl Stores {
         requires room { HasRoomFor self.old laid.old command }
         requires numbered { AreNumbered self.old.changesets.items }
         requires timely { IsTimelyMoment at }
-        ensures done { (done : Effect) → judge (stored_state self.old) user at command ≡ Ok done → stored_state self.new ≡ record done.state { last = at } }
+        ensures done { (done : Effect) → judge (stored_state self.old) user at command ≡ Ok done
+            → stored_state self.new ≡ record done.state { last = at } }
         ensures numbered { AreNumbered self.new.changesets.items }
         ensures rooms { HasNoMoreRoom self.old.changesets.items self.new.changesets.items }
     {
@@ -95,7 +97,8 @@ impl Stores {
         ensures same { stored_state self.new ≡ stored_state self.old }
         ensures ok { OnOk result (HasUploadRoom self.new laid.new changeset operations.now) }
         ensures ids { ids self.new.changesets.items ≡ ids self.old.changesets.items }
-        ensures others { (i : ℕ) → (i + 1 == changeset) ≡ false → slice_index (rooms self.new.changesets.items) i ≤ slice_index (rooms self.old.changesets.items) i }
+        ensures others { (i : ℕ) → (i + 1 == changeset) ≡ false → slice_index (rooms self.new.changesets.items) i
+            ≤ slice_index (rooms self.old.changesets.items) i }
     {
         promise_work(alloc, &mut self.changesets, changeset, operations.len())?;
         *laid = lay_all(alloc, &mut self.map, operations)?;
@@ -109,7 +112,8 @@ impl Stores {
         requires room { HasUploadRoom self.old laid.old id operations }
         requires numbered { AreNumbered self.old.changesets.items }
         requires timely { IsTimelyMoment at }
-        ensures done { (final : Progress) → Runs self.old.map.elements id at operations final → stored_state self.new ≡ uploaded (stored_state self.old) at id final }
+        ensures done { (final : Progress) → Runs self.old.map.elements id at operations final
+            → stored_state self.new ≡ uploaded (stored_state self.old) at id final }
         ensures numbered { AreNumbered self.new.changesets.items }
         ensures rooms { HasNoMoreRoom self.old.changesets.items self.new.changesets.items }
     {
@@ -126,7 +130,8 @@ impl Stores {
 /// activity.
 fn finish(changeset: &mut Changeset, before: u64, touched: Option<Box7>, at: Stamp)
     requires { IsTimelyMoment at }
-    ensures kept { changeset.new.kept ≡ record changeset.old.kept { activity = (if nat_lt before (length changeset.old.kept.did) then at else changeset.old.kept.activity); touched = join_areas changeset.old.kept.touched touched } }
+    ensures kept { changeset.new.kept
+        ≡ record changeset.old.kept { activity = (if nat_lt before (length changeset.old.kept.did) then at else changeset.old.kept.activity); touched = join_areas changeset.old.kept.touched touched } }
     ensures id { changeset.new.id ≡ changeset.old.id }
     ensures free { changeset.new.free ≡ changeset.old.free }
 {

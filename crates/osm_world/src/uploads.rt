@@ -1,3 +1,4 @@
+//! An accepted upload, done operation by operation.
 ghost use Rattle.std.specs.Prelude.{◌≡◌, ℕ, ◌+◌, ◌-◌, ◌≤◌, ◌<◌, ◌∷◌, ◌++◌, [], length, map, drop, Some, None, if◌then◌else◌};
 ghost use Rattle.osm_base.specs.Key.{key_eq};
 ghost use Rattle.osm_base.specs.Place.{Position};
@@ -96,10 +97,19 @@ fn make_version(
     requires work { 0 < changeset.old.free }
     ensures touched { result ≡ touched_area map.old.elements key fresh.content }
     ensures elements { map.new.elements ≡ push_version map.old.elements key (version_of changeset.old.id at fresh.content fresh.tags) }
-    ensures entered { changeset.new ≡ record { id = changeset.old.id; kept = record changeset.old.kept { did = changeset.old.kept.did ++ record { key = key; version = count map.old.elements key + 1 } ∷ [] }; free = changeset.old.free - 1 } }
+    ensures entered { changeset.new
+        ≡ record {
+          id = changeset.old.id;
+          kept = record changeset.old.kept {
+            did = changeset.old.kept.did
+                ++ record { key = key; version = count map.old.elements key + 1 } ∷ [];
+          };
+          free = changeset.old.free - 1;
+        } }
     ensures versions { (k : Key) → free map.new.versions k + (if key_eq k key then 1 else 0) ≡ free map.old.versions k }
     ensures users { (b : Key) → free_in map.old.users b ≤ free_in map.new.users b + times_listed listed.now b }
-    ensures cells { (p : Position) → free_at map.old.cells p ≤ free_at map.new.cells p + (if enters p (new_position fresh.content) then 1 else 0) }
+    ensures cells { (p : Position)
+        → free_at map.old.cells p ≤ free_at map.new.cells p + (if enters p (new_position fresh.content) then 1 else 0) }
 {
     let number = map.count(key) + 1;
     let touched = map.touched_area(key, &fresh.content);
@@ -167,8 +177,13 @@ fn apply_one(
     requires room { HasRoom map.old bed.key bed.listed (place_of_op operation) }
     requires work { 0 < changeset.old.free }
     ensures touched { result ≡ (if makes map.old.elements bed.key operation then touched_area map.old.elements bed.key (content_of_op keys.now operation) else None) }
-    ensures elements { map.new.elements ≡ (if makes map.old.elements bed.key operation then push_version map.old.elements bed.key (version_of_op changeset.old.id at keys.now operation) else map.old.elements) }
-    ensures entered { changeset.new.kept ≡ (if makes map.old.elements bed.key operation then record changeset.old.kept { did = changeset.old.kept.did ++ record { key = bed.key; version = count map.old.elements bed.key + 1 } ∷ [] } else changeset.old.kept) }
+    ensures elements { map.new.elements
+        ≡ (if makes map.old.elements bed.key operation then push_version map.old.elements bed.key (version_of_op changeset.old.id at keys.now operation) else map.old.elements) }
+    ensures entered { changeset.new.kept
+        ≡ (if makes map.old.elements bed.key operation then record changeset.old.kept {
+          did = changeset.old.kept.did
+              ++ record { key = bed.key; version = count map.old.elements bed.key + 1 } ∷ [];
+        } else changeset.old.kept) }
     ensures id { changeset.new.id ≡ changeset.old.id }
     ensures versions { (k : Key) → free map.old.versions k ≤ free map.new.versions k + (if key_eq k bed.key then 1 else 0) }
     ensures users { (b : Key) → free_in map.old.users b ≤ free_in map.new.users b + times_listed bed.listed b }
@@ -219,7 +234,8 @@ pub fn apply_all(
     requires users { (b : Key) → begun laid.old.beds b ≤ free_in map.old.users b }
     requires cells { (p : Position) → entered operations p ≤ free_at map.old.cells p }
     requires work { length operations ≤ changeset.old.free }
-    ensures done { (final : Progress) → Runs map.old.elements changeset.old.id at operations final → IsDone map.new.elements changeset.old.kept changeset.new.kept result final }
+    ensures done { (final : Progress) → Runs map.old.elements changeset.old.id at operations final
+        → IsDone map.new.elements changeset.old.kept changeset.new.kept result final }
     ensures id { changeset.new.id ≡ changeset.old.id }
     ensures no_more { changeset.new.free ≤ changeset.old.free }
 {

@@ -1,3 +1,4 @@
+//! The map with its indexes: room for an entry, and its application.
 ghost use Rattle.std.specs.Prelude.{◌≡◌, true, Some, None, Ok, Err, MatchOption, MatchResult, IfOk, IfErr, OnOk};
 ghost use Rattle.osm_element.specs.Elements.{users};
 ghost use Rattle.osm_change.specs.Moments.{RefusalHasShownEnd};
@@ -106,7 +107,8 @@ impl World {
 
     /// One changeset: `None` where there never was one with this id.
     pub fn changeset(&self, id: u64) -> Option<&Changeset>
-        ensures { MatchOption result (changeset (state_of self.now) id ≡ None) (λ found. changeset (state_of self.now) id ≡ Some found.now.kept) }
+        ensures { MatchOption result (changeset (state_of self.now) id ≡ None)
+            (λ found. changeset (state_of self.now) id ≡ Some found.now.kept) }
     {
         if id == 0 {
             None

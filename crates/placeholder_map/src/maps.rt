@@ -1,3 +1,4 @@
+//! Placeholders of an upload, and where they are bound.
 ghost use Rattle.std.specs.Prelude.{◌≡◌, length, OnOk, OnErr, Ok, IfOk};
 
 use indexmap::IndexMap;

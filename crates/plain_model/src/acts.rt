@@ -1,3 +1,4 @@
+//! A command, done on the lists.
 ghost use Rattle.std.specs.Prelude.{◌≡◌, IfOk};
 ghost use Rattle.osm_element.specs.Later.{Keeps};
 ghost use Rattle.osm_model.specs.Act.{act};

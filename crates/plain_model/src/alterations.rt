@@ -1,3 +1,4 @@
+//! What an accepted command changes.
 ghost use Rattle.std.specs.Prelude.{◌≡◌, ◌-◌, OnOk, OnErr, slice_get, Some};
 ghost use Rattle.plain_model.specs.Alteration.{state_after, CanTake};
 

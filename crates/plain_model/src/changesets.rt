@@ -1,3 +1,4 @@
+//! Records of changesets that are opened and retagged.
 ghost use Rattle.std.specs.Prelude.{◌≡◌, true, IfOk, MatchResult, Ok, Err, Some};
 ghost use Rattle.changeset_core.specs.Changeset.{is_open, retagged};
 ghost use Rattle.osm_model.specs.Changeset.{new_changeset, changeset_row};

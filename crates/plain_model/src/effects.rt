@@ -1,3 +1,4 @@
+//! What an operation that is passed does.
 ghost use Rattle.std.specs.Prelude.{◌≡◌, IfOk};
 ghost use Rattle.plain_model.specs.Outcome.{Leaves};
 ghost use Rattle.osm_model.specs.Operation.{applied, skipped, next_key, created, modified, or_skipped};

@@ -1,3 +1,4 @@
+//! An upload, operation after operation.
 ghost use Rattle.std.specs.Prelude.{◌≡◌, ◌<◌, ◌^◌, length, [], IfOk};
 ghost use Rattle.osm_model.specs.Fold.{upload};
 ghost use Rattle.osm_model.specs.Operation.{operate_all};

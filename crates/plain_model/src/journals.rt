@@ -1,3 +1,4 @@
+//! The plain program's journal.
 ghost use Rattle.std.specs.Prelude.{◌≡◌, ◌<◌, ◌^◌, [], ◌∷◌, ◌++◌, IfOk, OnOk, OnErr};
 ghost use Rattle.osm_element.specs.Elements.{IsConsistent};
 ghost use Rattle.osm_element.specs.Later.{IsBegun};

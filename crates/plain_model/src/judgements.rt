@@ -1,3 +1,4 @@
+//! Each command, judged before it changes anything.
 ghost use Rattle.std.specs.Prelude.{◌≡◌, Ok, Err, ◌<◌, ◌≤◌, OnOk, IfOk};
 ghost use Rattle.osm_element.specs.Elements.{count};
 ghost use Rattle.plain_model.specs.declared.alterations.Alteration.TheVariants.{EnterWork};

@@ -1,3 +1,4 @@
+//! Names of an upload's operations, and the elements that they stand for.
 ghost use Rattle.std.specs.Prelude.{◌≡◌, map, IfOk};
 ghost use Rattle.osm_change.specs.Keys.{id_of};
 ghost use Rattle.osm_model.specs.Names.{of_kind, known_key, said_key, with_ids, member_with_id};

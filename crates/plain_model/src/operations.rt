@@ -1,3 +1,4 @@
+//! One operation, judged and done.
 ghost use Rattle.std.specs.Prelude.{◌+◌, ◌<◌, ◌^◌, length};
 ghost use Rattle.osm_element.specs.Elements.{first_user};
 ghost use Rattle.plain_model.specs.Outcome.{Leaves};

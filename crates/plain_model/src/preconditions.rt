@@ -1,3 +1,4 @@
+//! What must hold before an operation is passed.
 ghost use Rattle.std.specs.Prelude.{◌≡◌, ◌+◌, ◌<◌, ◌^◌, length, map, find};
 ghost use Rattle.osm_change.specs.Change.{named, named_member, names_listed};
 ghost use Rattle.osm_model.specs.Operation.{number, named_key, named_version, is_missing, missing, references_visible, gone, used};

@@ -1,3 +1,4 @@
+//! An upload under way.
 ghost use Rattle.std.specs.Prelude.{◌≡◌, ◌<◌, ◌^◌, ◌++◌, count_by, IfOk};
 ghost use Rattle.osm_change.specs.Done.{is_applied};
 ghost use Rattle.osm_model.specs.Fold.{start, applied_count, work_of, works};

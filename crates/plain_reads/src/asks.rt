@@ -1,3 +1,4 @@
+//! The answer of each query, read off the lists.
 ghost use Rattle.std.specs.Prelude.{◌≡◌, List, Result, IfOk};
 ghost use Rattle.osm_change.specs.Moments.{HasShownMoments};
 ghost use Rattle.osm_change.specs.declared.reads.ReadFault.{ReadFault};
@@ -121,7 +122,8 @@ fn read_answer<'a>(
     state: &'a State,
     read: Result<Items<Shown>, ReadFault>,
 ) -> Result<Answer<'a>, Memory>
-    ensures { (expected : Result (List Shown) ReadFault) → IsRead expected read → IfOk result (λ answer. answer ≡ read_answer state.now expected) }
+    ensures { (expected : Result (List Shown) ReadFault) → IsRead expected read → IfOk result
+        (λ answer. answer ≡ read_answer state.now expected) }
 {
     match read {
         Ok(shown) => elements_answer(alloc, state, &shown),

@@ -1,3 +1,4 @@
+//! Changesets read, queried and downloaded.
 ghost use Rattle.std.specs.Prelude.{◌≡◌, ◌++◌, ◌∷◌, [], true, not, ◌&&◌, ◌||◌, ◌==◌, filter, filter_map, map, IfOk};
 ghost use Rattle.std.specs.Option.{option_map_or};
 ghost use Rattle.osm_model.specs.ChangesetReads.{read_changeset, touches, passes, passes_at, row_at, query_changesets, is_unmarked, download};
@@ -88,7 +89,8 @@ fn add_row(
     id: u64,
     rows: &mut Vec<ChangesetRow>,
 ) -> Result<(), Memory>
-    ensures { IfOk result (λ _. rows.new.items ≡ rows.old.items ++ filter_map (row_at state.now at) (filter (passes_at state.now (passes filters.now.user filters.now.only_open filters.now.only_closed filters.now.within at)) (id ∷ []))) }
+    ensures { IfOk result (λ _. rows.new.items ≡ rows.old.items
+        ++ filter_map (row_at state.now at) (filter (passes_at state.now (passes filters.now.user filters.now.only_open filters.now.only_closed filters.now.within at)) (id ∷ []))) }
 {
     let Some(kept) = state.changeset(id) else {
         return Ok(());
@@ -106,7 +108,8 @@ pub fn query_changesets(
     at: Stamp,
     filters: &Filters,
 ) -> Result<Items<ChangesetRow>, Memory>
-    ensures { IfOk result (λ rows. rows ≡ query_changesets state.now at filters.now.user filters.now.only_open filters.now.only_closed filters.now.within) }
+    ensures { IfOk result (λ rows. rows
+        ≡ query_changesets state.now at filters.now.user filters.now.only_open filters.now.only_closed filters.now.within) }
 {
     let mut rows = Vec::new(alloc);
     let mut id = state.changesets.items().len() as u64;
@@ -130,7 +133,8 @@ fn is_unmarked(elements: &Elements, work: &Work) -> bool
 
 /// Adds a version that was made, if it has no mark.
 fn add_work(elements: &Elements, work: &Work, found: &mut Vec<Shown>) -> Result<(), Memory>
-    ensures { IfOk result (λ _. found.new.items ≡ found.old.items ++ map (λ w. shown w.key w.version) (filter (is_unmarked elements.now) (work.now ∷ []))) }
+    ensures { IfOk result (λ _. found.new.items ≡ found.old.items ++ map
+        (λ w. shown w.key w.version) (filter (is_unmarked elements.now) (work.now ∷ []))) }
 {
     if is_unmarked(elements, work) {
         found.push(Shown {

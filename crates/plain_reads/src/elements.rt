@@ -1,3 +1,4 @@
+//! One element: as it is, at a version, its history.
 ghost use Rattle.std.specs.Prelude.{◌≡◌, ◌++◌, ◌∷◌, [], filter, map, IfOk};
 ghost use Rattle.osm_model.specs.Reads.{one, numbered, hidden, is_shown, history_of, shown, current_shown};
 ghost use Rattle.rising_lists.specs.Ids.{ids_to};

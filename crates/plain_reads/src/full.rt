@@ -1,3 +1,4 @@
+//! An element with what it lists.
 ghost use Rattle.std.specs.Prelude.{◌≡◌, ◌++◌, Bool, map, filter, if◌then◌else◌, [], IfOk};
 ghost use Rattle.osm_base.specs.Key.{lists_key};
 ghost use Rattle.osm_base.specs.declared.keys.Key.{Key};

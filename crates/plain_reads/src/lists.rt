@@ -1,3 +1,4 @@
+//! Lists of ids and keys that were given, as they are now.
 ghost use Rattle.std.specs.Prelude.{◌≡◌, ◌++◌, ◌∷◌, [], if◌then◌else◌, filter, map, IfOk};
 ghost use Rattle.osm_base.specs.Key.{lists_key};
 ghost use Rattle.osm_element.specs.Elements.{key, keys};

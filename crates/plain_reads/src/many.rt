@@ -1,3 +1,4 @@
+//! Several elements in one call.
 ghost use Rattle.std.specs.Prelude.{◌≡◌, IfOk};
 ghost use Rattle.osm_model.specs.Reads.{first_unknown, listed_of, many};
 ghost use Rattle.plain_reads.specs.Read.{IsRead};

@@ -1,3 +1,4 @@
+//! What a box holds and what that brings with it.
 ghost use Rattle.std.specs.Prelude.{◌≡◌, ◌==◌, ◌&&◌, ◌||◌, ℕ, IfOk, OnOk};
 ghost use Rattle.std.specs.List.{list_any};
 ghost use Rattle.std.specs.List.Sorted.{IsStrictlyIncreasing};
@@ -117,7 +118,8 @@ pub fn ways_met(alloc: Global, elements: &Elements, nodes: &[u64]) -> Result<Vec
 fn lists_either(elements: &Elements, user: Key, nodes: &[u64], ways: &[u64]) -> bool
     requires nodes { IsStrictlyIncreasing nodes.now }
     requires ways { IsStrictlyIncreasing ways.now }
-    ensures { result ≡ list_any (λ n. lists elements.now user (key Kind.Node n)) nodes.now || list_any (λ w. lists elements.now user (key Kind.Way w)) ways.now }
+    ensures { result ≡ list_any (λ n. lists elements.now user (key Kind.Node n)) nodes.now || list_any
+        (λ w. lists elements.now user (key Kind.Way w)) ways.now }
 {
     lists_one(elements, user, Kind::Node, nodes) || lists_one(elements, user, Kind::Way, ways)
 }
@@ -174,7 +176,8 @@ pub fn relations_met(alloc: Global, elements: &Elements, first: &[u64]) -> Resul
 // ---- the nodes of ways
 
 fn list_member(member: &Member<u64>, ids: &mut Vec<u64>) -> Result<(), Memory>
-    ensures { OnOk result ((id : ℕ) → lists_id ids.new.items id ≡ lists_id ids.old.items id || key_eq (key_of_member member.now) (key Kind.Node id)) }
+    ensures { OnOk result ((id : ℕ)
+        → lists_id ids.new.items id ≡ lists_id ids.old.items id || key_eq (key_of_member member.now) (key Kind.Node id)) }
 {
     if member.kind.is(Kind::Node) {
         ids.push(member.name)?;
@@ -183,7 +186,8 @@ fn list_member(member: &Member<u64>, ids: &mut Vec<u64>) -> Result<(), Memory>
 }
 
 fn list_members(members: &[Member<u64>], ids: &mut Vec<u64>) -> Result<(), Memory>
-    ensures { OnOk result ((id : ℕ) → lists_id ids.new.items id ≡ lists_id ids.old.items id || list_any (λ m. key_eq (key_of_member m) (key Kind.Node id)) members.now) }
+    ensures { OnOk result ((id : ℕ) → lists_id ids.new.items id ≡ lists_id ids.old.items id || list_any
+        (λ m. key_eq (key_of_member m) (key Kind.Node id)) members.now) }
 {
     for member in members {
         list_member(member, ids)?;
@@ -201,7 +205,8 @@ fn list_nodes(nodes: &[u64], ids: &mut Vec<u64>) -> Result<(), Memory>
 /// Adds the nodes that a content lists.
 #[tactic(auto, using(crate::proofs::Meets::lists_nodes, crate::proofs::Meets::lists_members))]
 fn list_content(content: &Content<u64>, ids: &mut Vec<u64>) -> Result<(), Memory>
-    ensures { OnOk result ((id : ℕ) → lists_id ids.new.items id ≡ lists_id ids.old.items id || lists_key (refs content.now) (key Kind.Node id)) }
+    ensures { OnOk result ((id : ℕ)
+        → lists_id ids.new.items id ≡ lists_id ids.old.items id || lists_key (refs content.now) (key Kind.Node id)) }
 {
     match content {
         Content::Node(_) => Ok(()),
@@ -221,7 +226,8 @@ fn list_way(elements: &Elements, way: Key, ids: &mut Vec<u64>) -> Result<(), Mem
 
 /// Adds the nodes that some ways list.
 fn list_ways(elements: &Elements, ways: &[u64], ids: &mut Vec<u64>) -> Result<(), Memory>
-    ensures { OnOk result ((id : ℕ) → lists_id ids.new.items id ≡ lists_id ids.old.items id || list_any (λ w. lists elements.now (key Kind.Way w) (key Kind.Node id)) ways.now) }
+    ensures { OnOk result ((id : ℕ) → lists_id ids.new.items id ≡ lists_id ids.old.items id || list_any
+        (λ w. lists elements.now (key Kind.Way w) (key Kind.Node id)) ways.now) }
 {
     for id in ways {
         let way = Key {

@@ -1,3 +1,4 @@
+//! Rows of versions, borrowed from the map.
 ghost use Rattle.std.specs.Prelude.{◌≡◌, ◌++◌, ◌∷◌, [], filter_map, IfOk};
 ghost use Rattle.osm_model.specs.Ask.{element_row, element_rows};
 

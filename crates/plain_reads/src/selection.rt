@@ -1,3 +1,4 @@
+//! The map of a box.
 ghost use Rattle.std.specs.Prelude.{◌≡◌, ◌⊎◌, IfOk, Err};
 ghost use Rattle.osm_model.specs.Selection.{map_of, nodes_within, selection, selected};
 

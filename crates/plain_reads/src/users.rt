@@ -1,3 +1,4 @@
+//! The users of an element.
 ghost use Rattle.std.specs.Prelude.{◌≡◌, ◌++◌, ◌∷◌, [], filter, map, IfOk};
 ghost use Rattle.osm_element.specs.Elements.{uses};
 ghost use Rattle.osm_model.specs.Reads.{current_shown, users_of_kind, ways_of, relations_of};
@@ -48,7 +49,8 @@ fn users_of_kind(
 
 /// Adds an element as it is now, if it is a user.
 fn add_user(elements: &Elements, user: Key, used: Key, found: &mut Vec<Shown>) -> Result<(), Memory>
-    ensures { IfOk result (λ _. found.new.items ≡ found.old.items ++ map (current_shown elements.now) (filter (λ a. uses elements.now a used) (user ∷ []))) }
+    ensures { IfOk result (λ _. found.new.items ≡ found.old.items ++ map (current_shown elements.now) (filter
+        (λ a. uses elements.now a used) (user ∷ []))) }
 {
     if elements.uses(user, used) {
         found.push(current(elements, user))?;

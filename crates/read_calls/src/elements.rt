@@ -1,3 +1,4 @@
+//! One element: as it is, at a version, its history.
 ghost use Rattle.std.specs.Prelude.{◌≡◌, ◌++◌, ◌∷◌, [], filter, map, option_copied, IfOk};
 ghost use Rattle.osm_element.specs.Elements.{content_of};
 ghost use Rattle.osm_model.specs.Reads.{one, numbered, hidden, is_shown, history_of, shown, current_shown};
@@ -98,7 +99,8 @@ fn add_version(
     number: u64,
     found: &mut Vec<Shown>,
 ) -> Result<(), Memory>
-    ensures { IfOk result (λ _. found.new.items ≡ found.old.items ++ map (shown key) (filter (is_shown store.now.elements key show) (number ∷ []))) }
+    ensures { IfOk result (λ _. found.new.items ≡ found.old.items
+        ++ map (shown key) (filter (is_shown store.now.elements key show) (number ∷ []))) }
 {
     if is_shown(store, key, show, number) {
         found.push(Shown { key, number })?;

@@ -1,3 +1,4 @@
+//! An element with what it lists.
 ghost use Rattle.std.specs.Prelude.{◌≡◌, ◌++◌, if◌then◌else◌, [], true, map, filter, IfOk};
 ghost use Rattle.osm_base.specs.Key.{lists_key};
 ghost use Rattle.osm_base.specs.declared.keys.Key.{Key};
@@ -31,7 +32,8 @@ pub fn full(alloc: Global, world: &World, key: Key) -> Result<Items<Shown>, Read
 fn with_listed(alloc: Global, store: &Store, key: Key) -> Result<Items<Shown>, Memory>
     requires consistent { IsConsistent store.now.elements }
     requires visible { is_visible store.now.elements key ≡ true }
-    ensures { IfOk result (λ found. found ≡ map (current_shown store.now.elements) (filter (in_full store.now.elements key) (keys store.now.elements))) }
+    ensures { IfOk result (λ found. found
+        ≡ map (current_shown store.now.elements) (filter (in_full store.now.elements key) (keys store.now.elements))) }
 {
     let rising = keys_sorted_once(gathered(alloc, store, key)?);
     let shown = shown_keys(alloc, store, rising.as_slice())?;

@@ -1,3 +1,4 @@
+//! Several elements in one call.
 ghost use Rattle.std.specs.Prelude.{◌≡◌, None, map, IfOk};
 ghost use Rattle.osm_element.specs.Elements.{key};
 ghost use Rattle.osm_model.specs.Reads.{current_shown, first_unknown, listed_of, many};

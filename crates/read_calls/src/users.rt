@@ -1,3 +1,4 @@
+//! The users of an element.
 ghost use Rattle.std.specs.Prelude.{◌≡◌, ◌++◌, ◌∷◌, [], filter, map, IfOk};
 ghost use Rattle.osm_base.specs.Key.{kind_eq};
 ghost use Rattle.osm_model.specs.Reads.{current_shown, users_of_kind, ways_of, relations_of};
@@ -54,7 +55,8 @@ fn of_kind(alloc: Global, store: &Store, kind: Kind, users: &[Key]) -> Result<It
 
 /// Adds an element as it is now, if it is of the kind.
 fn add_user(store: &Store, kind: Kind, user: Key, found: &mut Vec<Shown>) -> Result<(), Memory>
-    ensures { IfOk result (λ _. found.new.items ≡ found.old.items ++ map (current_shown store.now.elements) (filter (λ a. kind_eq a.kind kind) (user ∷ []))) }
+    ensures { IfOk result (λ _. found.new.items ≡ found.old.items ++ map (current_shown store.now.elements) (filter
+        (λ a. kind_eq a.kind kind) (user ∷ []))) }
 {
     if user.kind.is(kind) {
         found.push(current(store, user))?;

@@ -1,3 +1,4 @@
+//! The titles of redactions, with promised room.
 ghost use Rattle.std.specs.Prelude.{◌≡◌, ◌+◌, ◌-◌, ◌<◌, ◌∷◌, [], ◌++◌, length, is_ok, if◌then◌else◌};
 ghost use Rattle.redaction_core.specs.Known.{is_known};
 

@@ -1,3 +1,4 @@
+//! A set of keys in order, with promised room.
 ghost use Rattle.std.specs.Prelude.{◌≡◌, ◌+◌, ◌-◌, ◌<◌, ◌≤◌, [], false, length, insert, position as position_of, OnOk, OnErr, IfSome};
 ghost use Rattle.osm_base.specs.Key.{key_lt, lists_key, insert_key, without_key, IsRising};
 

@@ -1,3 +1,4 @@
+//! For each element those that use it.
 ghost use Rattle.std.specs.Prelude.{◌≡◌, ◌==◌, ℕ, length, ◌+◌, ◌-◌, ◌<◌, ◌≤◌, [], false, true, if◌then◌else◌, count_by, slice_index_or, OnOk, OnErr};
 ghost use Rattle.reverse_refs.specs.Users.{no_row};
 ghost use Rattle.osm_base.specs.Key.{key_eq, lists_key, insert_key, without_key, IsRising};
@@ -128,7 +129,8 @@ impl UserIndex {
     pub fn add(&mut self, pair: Pair)
         requires room { 0 < free_in self.old pair.used }
         requires absent { lists_key (users_in self.old pair.used) pair.user ≡ false }
-        ensures users { (k : Key) → users_in self.new k ≡ (if key_eq k pair.used then insert_key (users_in self.old k) pair.user else users_in self.old k) }
+        ensures users { (k : Key)
+            → users_in self.new k ≡ (if key_eq k pair.used then insert_key (users_in self.old k) pair.user else users_in self.old k) }
         ensures room { (k : Key) → free_in self.new k ≡ (if key_eq k pair.used then free_in self.old k - 1 else free_in self.old k) }
     {
         let place = pair.used.id as usize;
@@ -142,7 +144,8 @@ impl UserIndex {
     /// Takes a user out. It takes no memory.
     pub fn take_out(&mut self, pair: Pair)
         requires { lists_key (users_in self.old pair.used) pair.user ≡ true }
-        ensures users { (k : Key) → users_in self.new k ≡ (if key_eq k pair.used then without_key (users_in self.old k) pair.user else users_in self.old k) }
+        ensures users { (k : Key)
+            → users_in self.new k ≡ (if key_eq k pair.used then without_key (users_in self.old k) pair.user else users_in self.old k) }
         ensures room { (k : Key) → free_in self.new k ≡ free_in self.old k }
     {
         let place = pair.used.id as usize;
@@ -166,7 +169,8 @@ fn users_at(rows: &[KeySet], id: u64) -> &[Key]
 
 fn promise_at(alloc: Global, rows: &mut Vec<KeySet>, id: u64) -> Result<(), Memory>
     ensures users { (i : ℕ) → (slice_index_or rows.new.items i no_row).items ≡ (slice_index_or rows.old.items i no_row).items }
-    ensures ok { OnOk result ((i : ℕ) → (slice_index_or rows.new.items i no_row).free ≡ (slice_index_or rows.old.items i no_row).free + (if i == id then 1 else 0)) }
+    ensures ok { OnOk result ((i : ℕ) → (slice_index_or rows.new.items i no_row).free
+        ≡ (slice_index_or rows.old.items i no_row).free + (if i == id then 1 else 0)) }
     ensures err { OnErr result ((i : ℕ) → (slice_index_or rows.new.items i no_row).free ≡ (slice_index_or rows.old.items i no_row).free) }
 {
     let place = id as usize;
@@ -176,7 +180,8 @@ fn promise_at(alloc: Global, rows: &mut Vec<KeySet>, id: u64) -> Result<(), Memo
 
 fn forget_at(rows: &mut Vec<KeySet>, id: u64)
     ensures users { (i : ℕ) → (slice_index_or rows.new.items i no_row).items ≡ (slice_index_or rows.old.items i no_row).items }
-    ensures room { (i : ℕ) → (slice_index_or rows.new.items i no_row).free ≡ (if i == id then 0 else (slice_index_or rows.old.items i no_row).free) }
+    ensures room { (i : ℕ) → (slice_index_or rows.new.items i no_row).free
+        ≡ (if i == id then 0 else (slice_index_or rows.old.items i no_row).free) }
 {
     let place = id as usize;
     if place < rows.len() {

@@ -1,3 +1,4 @@
+//! Why a request line has no call.
 use osm_base::{Memory, Text};
 use std::alloc::AllocError;
 

@@ -1,3 +1,4 @@
+//! The methods of requests.
 ghost use Rattle.std.specs.Prelude.{◌≡◌};
 ghost use Rattle.route_table.specs.Methods.{method_of};
 

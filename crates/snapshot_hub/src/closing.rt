@@ -45,8 +45,11 @@ impl<'a, N: HubName, M: Machine, S: Snapshot<N, M>, R: Wait + Drop> Closer<'a, N
     pub fn end(&mut self, session: &mut Session<N, M, S>) -> End
         requires { length self.old.ends.told < self.old.ends.sessions }
         ensures noted { self.new ≡ close self.old.journal (noting self.old.ends result) }
-        ensures told { MatchEnd result ((session.new ≡ seeing session.old self.old.journal) × IsPrefix session.old.front self.old.journal) (λ seen journal. (session.new ≡ session.old) × (seen ≡ length session.old.front) × (journal ≡ length self.old.journal) × (journal < seen)) }
-        ensures calls { MatchEnd result (session.old.calls ≤ calls_of M.rules.tag_of session.old.number self.old.journal + owed session.old.owes) (λ seen journal. Unit {0}) }
+        ensures told { MatchEnd result ((session.new ≡ seeing session.old self.old.journal) × IsPrefix session.old.front self.old.journal)
+            (λ seen journal. (session.new ≡ session.old) × (seen ≡ length session.old.front) × (journal ≡ length self.old.journal)
+            × (journal < seen)) }
+        ensures calls { MatchEnd result (session.old.calls ≤ calls_of M.rules.tag_of session.old.number self.old.journal + owed session.old.owes)
+            (λ seen journal. Unit {0}) }
     {
         let end = match_journal(self.held, session);
         self.ends.note(end);
@@ -73,8 +76,11 @@ fn match_journal<N: HubName, M: Machine, S: Snapshot<N, M>, R: Wait + Drop>(
     held: &Held<N, M, S, R>,
     session: &mut Session<N, M, S>,
 ) -> End
-    ensures told { MatchEnd result ((session.new ≡ seeing session.old held.now.journal) × IsPrefix session.old.front held.now.journal) (λ seen journal. (session.new ≡ session.old) × (seen ≡ length session.old.front) × (journal ≡ length held.now.journal) × (journal < seen)) }
-    ensures calls { MatchEnd result (session.old.calls ≤ calls_of M.rules.tag_of session.old.number held.now.journal + owed session.old.owes) (λ seen journal. Unit {0}) }
+    ensures told { MatchEnd result ((session.new ≡ seeing session.old held.now.journal) × IsPrefix session.old.front held.now.journal)
+        (λ seen journal. (session.new ≡ session.old) × (seen ≡ length session.old.front) × (journal ≡ length held.now.journal)
+        × (journal < seen)) }
+    ensures calls { MatchEnd result (session.old.calls ≤ calls_of M.rules.tag_of session.old.number held.now.journal + owed session.old.owes)
+        (λ seen journal. Unit {0}) }
 {
     session.standing.law();
     let journal = held.front();

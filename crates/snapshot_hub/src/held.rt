@@ -127,11 +127,15 @@ impl<N: HubName, M: Machine, S: Snapshot<N, M>, R: Wait + Drop> Held<N, M, S, R>
         requires made { IsMadeBefore M.rules plan self.old.journal }
         requires next { tag.call ≡ calls_of M.rules.tag_of tag.session self.old.journal + 1 }
         requires seat { tag.session < N.sessions }
-        ensures acts { (made : List M.Entry) (command : M.Command) → IsPrefix made self.old.journal → M.rules.planned (replay M.rules made) command plan → IfOk result (λ done. IsDone (M.rules.act (replay M.rules self.old.journal) tag moment command) self.old.journal self.new.journal done.answer done.place) }
+        ensures acts { (made : List M.Entry) (command : M.Command) → IsPrefix made self.old.journal
+            → M.rules.planned (replay M.rules made) command plan → IfOk result
+            (λ done. IsDone (M.rules.act (replay M.rules self.old.journal) tag moment command) self.old.journal self.new.journal done.answer done.place) }
         ensures entry { IfOk result (λ done. IsEntered M.rules.tag_of tag self.old.journal self.new.journal done.place) }
         ensures path { IfOk result (λ done. IsPath M.rules plan (replay M.rules self.old.journal) done.path) }
         ensures grows { IsPrefix self.old.journal self.new.journal }
-        ensures calls { IfOk result (λ done. calls_of M.rules.tag_of tag.session self.new.journal ≡ calls_of M.rules.tag_of tag.session self.old.journal + count_of done.place) }
+        ensures calls { IfOk result
+            (λ done. calls_of M.rules.tag_of tag.session self.new.journal
+            ≡ calls_of M.rules.tag_of tag.session self.old.journal + count_of done.place) }
         ensures fast { IfOk result (λ done. MatchPath done.path (steps.new ≡ steps.old) (λ look. Unit {0})) }
         ensures published { self.new.published ≡ self.old.published }
         ensures err { OnErr result (self.new ≡ self.old) }
@@ -159,8 +163,10 @@ pub fn commit<N: HubName, M: Machine, S: Snapshot<N, M>, R: Wait + Drop, L: Ledg
     ensures done { IfOk result (λ done. IsCommitted M.rules session.old plan moment done held.old.journal held.new.journal) }
     ensures calls { OnOk result (session.new.calls ≡ calls_of M.rules.tag_of session.new.number held.new.journal) }
     ensures raised { IfOk result (λ done. session.new.calls ≡ session.old.calls + count_of done.place) }
-    ensures settled { OnOk result (session.new.owes ≡ false → (session.new ≡ caught_up session.old held.new.journal session.new.calls) × (held.new.published ≡ held.new.journal)) }
-    ensures owes { OnOk result (session.new.owes ≡ true → (session.new ≡ owing session.old session.new.calls) × (held.new.published ≡ held.old.published)) }
+    ensures settled { OnOk result (session.new.owes ≡ false → (session.new ≡ caught_up session.old held.new.journal session.new.calls)
+        × (held.new.published ≡ held.new.journal)) }
+    ensures owes { OnOk result (session.new.owes ≡ true → (session.new ≡ owing session.old session.new.calls)
+        × (held.new.published ≡ held.old.published)) }
     ensures fast { IfOk result (λ done. MatchPath done.path (steps.new ≡ steps.old) (λ look. Unit {0})) }
     ensures err { OnErr result ((held.new ≡ held.old) × (session.new ≡ session.old)) }
 {
@@ -194,7 +200,8 @@ fn publish_for<N: HubName, M: Machine, S: Snapshot<N, M>, R: Wait + Drop>(
     ensures journal { held.new.journal ≡ held.old.journal }
     ensures number { session.new.number ≡ session.old.number }
     ensures calls { session.new.calls ≡ calls }
-    ensures settled { session.new.owes ≡ false → (session.new ≡ caught_up session.old held.new.journal calls) × (held.new.published ≡ held.new.journal) }
+    ensures settled { session.new.owes ≡ false → (session.new ≡ caught_up session.old held.new.journal calls)
+        × (held.new.published ≡ held.new.journal) }
     ensures owes { session.new.owes ≡ true → (session.new ≡ owing session.old calls) × (held.new.published ≡ held.old.published) }
 {
     match held.press.publish() {
@@ -225,7 +232,8 @@ pub fn freshen<N: HubName, M: Machine, S: Snapshot<N, M>, R: Wait + Drop>(
     ensures begins { IsPrefix session.old.front held.old.journal }
     ensures front { IsPrefix session.old.front session.new.front }
     ensures journal { held.new.journal ≡ held.old.journal }
-    ensures ok { OnOk result ((session.new ≡ caught_up session.old held.new.journal session.old.calls) × (held.new.published ≡ held.new.journal)) }
+    ensures ok { OnOk result ((session.new ≡ caught_up session.old held.new.journal session.old.calls)
+        × (held.new.published ≡ held.new.journal)) }
     ensures err { OnErr result ((held.new ≡ held.old) × (session.new ≡ session.old)) }
 {
     let _begins = session.standing.front().begins(held.press.front());

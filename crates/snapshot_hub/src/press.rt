@@ -40,7 +40,8 @@ impl<N: HubName, M: Machine, S: Snapshot<N, M>, R: Wait + Drop> Model for Press<
 
     ghost view = { λ p. edition p.front (S.entries (published p.writer)) };
 
-    ghost invariant = { λ p. (is_legal M.rules p.front ≡ true) × (fold (follow M.rules) (S.entries (published p.writer)) (pending p.writer ++ listed p.waiting) ≡ p.front) };
+    ghost invariant = { λ p. (is_legal M.rules p.front ≡ true)
+        × (fold (follow M.rules) (S.entries (published p.writer)) (pending p.writer ++ listed p.waiting) ≡ p.front) };
 }
 
 impl<N: HubName, M: Machine, S: Snapshot<N, M>, R: Wait + Drop> Press<N, M, S, R> {

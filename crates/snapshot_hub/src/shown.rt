@@ -135,7 +135,9 @@ fn make_ready<N: HubName, M: Machine>(
     requires ends { (before : List M.Entry) × (next.now ≡ before ++ entry.now ∷ []) }
     ensures same { M.state world.new ≡ M.state world.old }
     ensures follows { IfOk result (λ ready. follow M.rules front.now next.now ≡ if ready then next.now else front.now) }
-    ensures ready { IfOk result (λ ready. IsTrue ready → (next.now ≡ front.now ++ entry.now ∷ []) × (M.rules.takes (M.state world.new) entry.now ≡ true) × M.has_room world.new entry.now) }
+    ensures ready { IfOk result
+        (λ ready. IsTrue ready → (next.now ≡ front.now ++ entry.now ∷ []) × (M.rules.takes (M.state world.new) entry.now ≡ true)
+        × M.has_room world.new entry.now) }
 {
     if !is_next(front, entry, next) || !M::accepts(alloc, world, entry)? {
         return Ok(false);

@@ -35,5 +35,6 @@ pub trait Snapshot<N: HubName, M: Machine>: Absorb<Step<N, M>> + Drop {
     ghost alike: { (x y : Self) → entries x ≡ entries y → Self.state x ≡ Self.state y };
 
     // What steps do to a copy is said of its front.
-    ghost follows: { (x y : Self) (steps : List (List M.Entry)) → Self.state y ≡ fold Self.applied (Self.state x) steps → entries y ≡ fold (follow M.rules) (entries x) steps };
+    ghost follows: { (x y : Self) (steps : List (List M.Entry)) → Self.state y ≡ fold Self.applied (Self.state x) steps
+        → entries y ≡ fold (follow M.rules) (entries x) steps };
 }

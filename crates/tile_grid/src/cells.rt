@@ -1,3 +1,4 @@
+//! The cells of the globe.
 ghost use Rattle.std.specs.Prelude.{◌≡◌};
 
 use osm_base::{Box7, Coord};

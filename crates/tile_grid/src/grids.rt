@@ -1,3 +1,4 @@
+//! Nodes by their cells.
 ghost use Rattle.std.specs.Prelude.{◌≡◌, ◌==◌, ◌&&◌, ◌||◌, [], ℕ, true, ◌+◌, ◌-◌, ◌<◌, ◌≤◌, length, count_by, slice_index_or, is_ok, if◌then◌else◌, OnOk, OnErr, IfOk};
 ghost use Rattle.std.specs.List.{list_any};
 ghost use Rattle.std.specs.List.Sorted.{IsStrictlyIncreasing};
@@ -100,7 +101,8 @@ impl Grid {
     /// Places a node, on promised room. It takes no memory.
     pub fn place(&mut self, id: u64, at: Coord)
         requires { 0 < free_at self.old at }
-        ensures nodes { (c : Cell) (other : ℕ) → times self.new c other ≡ times self.old c other + (if cell_eq c (cell_of at) && (other == id) then 1 else 0) }
+        ensures nodes { (c : Cell) (other : ℕ)
+            → times self.new c other ≡ times self.old c other + (if cell_eq c (cell_of at) && (other == id) then 1 else 0) }
         ensures room { (p : Position) → free_at self.new p + (if same_cell p at then 1 else 0) ≡ free_at self.old p }
     {
         let cell = Cell::of(at);
@@ -111,7 +113,8 @@ impl Grid {
     /// room.
     pub fn take_out(&mut self, id: u64, at: Coord)
         requires { 0 < times self.old (cell_of at) id }
-        ensures nodes { (c : Cell) (other : ℕ) → times self.new c other + (if cell_eq c (cell_of at) && (other == id) then 1 else 0) ≡ times self.old c other }
+        ensures nodes { (c : Cell) (other : ℕ) → times self.new c other + (if cell_eq c (cell_of at) && (other == id) then 1 else 0)
+            ≡ times self.old c other }
         ensures room { (p : Position) → free_at self.new p ≡ free_at self.old p }
     {
         let cell = Cell::of(at);
@@ -123,7 +126,8 @@ impl Grid {
     pub fn rows_of(&self, alloc: Global, within: &Box7) -> Result<Vec<u64>, Memory>
         ensures rising { IfOk result (λ ids. IsStrictlyIncreasing ids.items) }
         ensures each { IfOk result (λ ids. (id : ℕ) → lists_id ids.items id ≡ true → TouchedAt self.now within.now id) }
-        ensures all { IfOk result (λ ids. (c : Cell) (id : ℕ) → touches within.now c ≡ true → 0 < times self.now c id → lists_id ids.items id ≡ true) }
+        ensures all { IfOk result (λ ids. (c : Cell) (id : ℕ) → touches within.now c ≡ true → 0 < times self.now c id
+            → lists_id ids.items id ≡ true) }
     {
         let first = Cell::first(within);
         let last = Cell::last(within);
@@ -149,7 +153,8 @@ fn list_row(
     ids: &mut Vec<u64>,
 ) -> Result<(), Memory>
     ensures order { IsWestToEast (slice_index_or rows.now number []) }
-    ensures ids { OnOk result ((id : ℕ) → lists_id ids.new.items id ≡ lists_id ids.old.items id || list_any (λ t. is_between first t.column last && lists_id t.ids id) (slice_index_or rows.now number [])) }
+    ensures ids { OnOk result ((id : ℕ) → lists_id ids.new.items id ≡ lists_id ids.old.items id || list_any
+        (λ t. is_between first t.column last && lists_id t.ids id) (slice_index_or rows.now number [])) }
 {
     match rows.get(number) {
         Some(row) => row.list(first, last, ids),
@@ -159,7 +164,8 @@ fn list_row(
 
 fn forget_at(rows: &mut Vec<TileRow>, number: usize, column: u32)
     ensures ids { (r c : ℕ) → (find (slice_index_or rows.new.items r []) c).ids ≡ (find (slice_index_or rows.old.items r []) c).ids }
-    ensures free { (r c : ℕ) → (find (slice_index_or rows.new.items r []) c).free ≡ (if (r == number) && (c == column) then 0 else (find (slice_index_or rows.old.items r []) c).free) }
+    ensures free { (r c : ℕ) → (find (slice_index_or rows.new.items r []) c).free
+        ≡ (if (r == number) && (c == column) then 0 else (find (slice_index_or rows.old.items r []) c).free) }
 {
     if number < rows.len() {
         rows[number].forget(column);

@@ -1,3 +1,4 @@
+//! The cells of one row of the globe.
 ghost use Rattle.std.specs.Prelude.{◌≡◌, ◌==◌, ◌&&◌, ◌||◌, ℕ, [], ◌+◌, ◌-◌, ◌<◌, is_ok, if◌then◌else◌, OnOk};
 ghost use Rattle.std.specs.List.{list_any};
 ghost use Rattle.rising_lists.specs.Ids.{lists_id};
@@ -66,7 +67,8 @@ impl TileRow {
     /// Places a node, on promised room.
     pub fn place(&mut self, column: u32, id: u64)
         requires { 0 < (find self.old column).free }
-        ensures ids { (c other : ℕ) → times_in (find self.new c).ids other ≡ times_in (find self.old c).ids other + (if (c == column) && (other == id) then 1 else 0) }
+        ensures ids { (c other : ℕ)
+            → times_in (find self.new c).ids other ≡ times_in (find self.old c).ids other + (if (c == column) && (other == id) then 1 else 0) }
         ensures free { (c : ℕ) → (find self.new c).free + (if c == column then 1 else 0) ≡ (find self.old c).free }
     {
         place_in(&mut self.tiles, column, id);
@@ -75,7 +77,8 @@ impl TileRow {
     /// Takes a node out. Its room isn't promised.
     pub fn take_out(&mut self, column: u32, id: u64)
         requires { 0 < times_in (find self.old column).ids id }
-        ensures ids { (c other : ℕ) → times_in (find self.new c).ids other + (if (c == column) && (other == id) then 1 else 0) ≡ times_in (find self.old c).ids other }
+        ensures ids { (c other : ℕ) → times_in (find self.new c).ids other + (if (c == column) && (other == id) then 1 else 0)
+            ≡ times_in (find self.old c).ids other }
         ensures free { (c : ℕ) → (find self.new c).free ≡ (find self.old c).free }
     {
         take_out_of(&mut self.tiles, column, id);
@@ -84,7 +87,8 @@ impl TileRow {
     /// Adds the nodes between two columns, ends included, to a list. It looks at no cell outside.
     pub fn list(&self, first: u32, last: u32, ids: &mut Vec<u64>) -> Result<(), Memory>
         ensures order { IsWestToEast self.now }
-        ensures ids { OnOk result ((id : ℕ) → lists_id ids.new.items id ≡ lists_id ids.old.items id || list_any (λ t. is_between first t.column last && lists_id t.ids id) self.now) }
+        ensures ids { OnOk result ((id : ℕ) → lists_id ids.new.items id ≡ lists_id ids.old.items id || list_any
+            (λ t. is_between first t.column last && lists_id t.ids id) self.now) }
     {
         list_between(self.tiles.as_slice(), first, last, ids)
     }
@@ -127,7 +131,8 @@ fn place_in(tiles: &mut Vec<Tile>, column: u32, id: u64)
     requires order { IsWestToEast tiles.old.items }
     requires promised { 0 < (find tiles.old.items column).free }
     ensures order { IsWestToEast tiles.new.items }
-    ensures ids { (c other : ℕ) → times_in (find tiles.new.items c).ids other ≡ times_in (find tiles.old.items c).ids other + (if (c == column) && (other == id) then 1 else 0) }
+    ensures ids { (c other : ℕ) → times_in (find tiles.new.items c).ids other
+        ≡ times_in (find tiles.old.items c).ids other + (if (c == column) && (other == id) then 1 else 0) }
     ensures free { (c : ℕ) → (find tiles.new.items c).free + (if c == column then 1 else 0) ≡ (find tiles.old.items c).free }
 {
     let Ok(place) = find_tile(tiles.as_slice(), column) else {
@@ -140,7 +145,8 @@ fn take_out_of(tiles: &mut Vec<Tile>, column: u32, id: u64)
     requires order { IsWestToEast tiles.old.items }
     requires there { 0 < times_in (find tiles.old.items column).ids id }
     ensures order { IsWestToEast tiles.new.items }
-    ensures ids { (c other : ℕ) → times_in (find tiles.new.items c).ids other + (if (c == column) && (other == id) then 1 else 0) ≡ times_in (find tiles.old.items c).ids other }
+    ensures ids { (c other : ℕ) → times_in (find tiles.new.items c).ids other + (if (c == column) && (other == id) then 1 else 0)
+        ≡ times_in (find tiles.old.items c).ids other }
     ensures free { (c : ℕ) → (find tiles.new.items c).free ≡ (find tiles.old.items c).free }
 {
     let Ok(place) = find_tile(tiles.as_slice(), column) else {

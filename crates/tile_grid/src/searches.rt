@@ -1,3 +1,4 @@
+//! Searches among the cells of a row.
 ghost use Rattle.std.specs.Prelude.{◌≡◌, ◌==◌, ◌&&◌, ◌||◌, ℕ, ◌<◌, ◌≤◌, length, slice_index_or, MatchResult, IfOk, OnOk};
 ghost use Rattle.std.specs.List.{list_any};
 ghost use Rattle.std.specs.List.Sorted.{IsNonDecreasingBy};
@@ -64,7 +65,8 @@ pub fn make_tile(alloc: Global, tiles: &mut Vec<Tile>, column: u32) -> Result<us
 /// Adds the nodes between two columns, ends included, to a list.
 pub fn list_between(tiles: &[Tile], first: u32, last: u32, ids: &mut Vec<u64>) -> Result<(), Memory>
     requires { IsWestToEast tiles.now }
-    ensures { OnOk result ((id : ℕ) → lists_id ids.new.items id ≡ lists_id ids.old.items id || list_any (λ t. is_between first t.column last && lists_id t.ids id) tiles.now) }
+    ensures { OnOk result ((id : ℕ) → lists_id ids.new.items id ≡ lists_id ids.old.items id || list_any
+        (λ t. is_between first t.column last && lists_id t.ids id) tiles.now) }
 {
     let from = first_from(tiles, first);
     let to = first_past(tiles, last);

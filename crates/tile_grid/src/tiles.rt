@@ -1,3 +1,4 @@
+//! The nodes of one cell.
 ghost use Rattle.std.specs.Prelude.{◌≡◌, ◌==◌, ℕ, true, ◌+◌, ◌-◌, ◌<◌, ◌≤◌, ◌∷◌, [], ◌++◌, length, count_by, slice_index, is_ok, if◌then◌else◌};
 ghost use Rattle.tile_grid.specs.Tile.{no_tile, times_in};
 

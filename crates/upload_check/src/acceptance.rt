@@ -29,7 +29,8 @@ pub fn accepts_upload<L: Ledger>(
     moment: u64,
     steps: &mut Steps<L>,
 ) -> Result<bool, Memory>
-    ensures accepted { IfOk result (λ b. b ≡ is_ok (upload (state_of world.now) user.now (stamp_after (state_of world.now).last moment) changeset change.now)) }
+    ensures accepted { IfOk result
+        (λ b. b ≡ is_ok (upload (state_of world.now) user.now (stamp_after (state_of world.now).last moment) changeset change.now)) }
     ensures steps { OnOk result (steps.new ≡ steps.old + judged_count (state_of world.now).elements change.now) }
     ensures bound { steps.new ≤ steps.old + length change.now }
 {

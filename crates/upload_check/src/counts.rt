@@ -94,7 +94,8 @@ fn change(standings: &mut Standings, key: Key, standing: Standing)
 fn lower(world: &World, standings: &mut Standings, used: Key)
     requires some { 0 < user_counts (state_of world.now).elements standings.old used }
     requires noted { IsNoted standings.old used }
-    ensures lowered { (b : Key) → user_counts (state_of world.now).elements standings.new b ≡ (if key_eq b used then user_counts (state_of world.now).elements standings.old b - 1 else user_counts (state_of world.now).elements standings.old b) }
+    ensures lowered { (b : Key) → user_counts (state_of world.now).elements standings.new b
+        ≡ (if key_eq b used then user_counts (state_of world.now).elements standings.old b - 1 else user_counts (state_of world.now).elements standings.old b) }
     ensures same { SameElements (state_of world.now).elements standings.old standings.new }
     ensures stay { StayNoted standings.old standings.new }
 {
@@ -111,7 +112,8 @@ fn lower(world: &World, standings: &mut Standings, used: Key)
 
 fn raise(world: &World, standings: &mut Standings, used: Key)
     requires { IsReady (state_of world.now).elements standings.old used }
-    ensures raised { (b : Key) → user_counts (state_of world.now).elements standings.new b ≡ (if key_eq b used then user_counts (state_of world.now).elements standings.old b + 1 else user_counts (state_of world.now).elements standings.old b) }
+    ensures raised { (b : Key) → user_counts (state_of world.now).elements standings.new b
+        ≡ (if key_eq b used then user_counts (state_of world.now).elements standings.old b + 1 else user_counts (state_of world.now).elements standings.old b) }
     ensures same { SameElements (state_of world.now).elements standings.old standings.new }
     ensures stay { StayNoted standings.old standings.new }
 {
@@ -146,7 +148,8 @@ fn lower_other(world: &World, standings: &mut Standings, user: Key, used: Key)
 fn lower_each(world: &World, standings: &mut Standings, user: Key, once: &[Key])
     requires rising { IsRising once.now }
     requires ready { AreReady (state_of world.now).elements standings.old once.now }
-    requires some { (b : Key) → lists_key once.now b ≡ true → key_eq user b ≡ false → 0 < user_counts (state_of world.now).elements standings.old b }
+    requires some { (b : Key) → lists_key once.now b ≡ true → key_eq user b ≡ false
+        → 0 < user_counts (state_of world.now).elements standings.old b }
     ensures lowered { AreLowered user once.now (user_counts (state_of world.now).elements standings.old) (user_counts (state_of world.now).elements standings.new) }
     ensures same { SameElements (state_of world.now).elements standings.old standings.new }
     ensures stay { StayNoted standings.old standings.new }

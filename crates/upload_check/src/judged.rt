@@ -36,10 +36,13 @@ pub fn check_op<L: Ledger>(
 ) -> Result<Judged, Memory>
     requires within { place < length change.now }
     requires stands { IsAt (sight (state_of world.now).elements change.now over.old) place }
-    ensures judged { IfOk result (λ judged. (o : Op) → slice_get change.now place ≡ Some o → IsJudged (state_of world.now).elements change.now o over.old over.new judged) }
+    ensures judged { IfOk result
+        (λ judged. (o : Op) → slice_get change.now place ≡ Some o
+        → IsJudged (state_of world.now).elements change.now o over.old over.new judged) }
     ensures goes { IfOk result (λ judged. (o : Op) → slice_get change.now place ≡ Some o → Leaves o over.old over.new judged) }
     ensures memory { OnErr result (StandsAlike (state_of world.now).elements over.old over.new) }
-    ensures still { OnErr result ((g : Progress) → StandsFor (sight (state_of world.now).elements change.now over.old) g → StandsFor (sight (state_of world.now).elements change.now over.new) g) }
+    ensures still { OnErr result ((g : Progress) → StandsFor (sight (state_of world.now).elements change.now over.old) g
+        → StandsFor (sight (state_of world.now).elements change.now over.new) g) }
     ensures step { steps.new ≡ steps.old + 1 }
 {
     steps.tick();

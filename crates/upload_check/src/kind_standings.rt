@@ -101,7 +101,8 @@ impl KindStandings {
 /// Sets what stands at a place of a list, or adds it at the end.
 fn set_created(created: &mut Vec<Standing>, place: usize, standing: Standing) -> Result<(), Memory>
     requires { place ≤ length created.old.items }
-    ensures set { OnOk result ((i : ℕ) → slice_get created.new.items i ≡ (if i == place then Some standing else slice_get created.old.items i)) }
+    ensures set { OnOk result ((i : ℕ)
+        → slice_get created.new.items i ≡ (if i == place then Some standing else slice_get created.old.items i)) }
     ensures memory { OnErr result (created.new.items ≡ created.old.items) }
 {
     if place < created.len() {
@@ -113,7 +114,8 @@ fn set_created(created: &mut Vec<Standing>, place: usize, standing: Standing) ->
 }
 
 fn set_older(older: &mut BTreeMap<u64, Standing>, id: u64, standing: Standing) -> Result<(), Memory>
-    ensures set { OnOk result ((i : ℕ) → lookup (is_at (nat_cmp i)) older.new.entries ≡ (if i == id then Some standing else lookup (is_at (nat_cmp i)) older.old.entries)) }
+    ensures set { OnOk result ((i : ℕ) → lookup (is_at (nat_cmp i)) older.new.entries
+        ≡ (if i == id then Some standing else lookup (is_at (nat_cmp i)) older.old.entries)) }
     ensures memory { OnErr result (older.new.entries ≡ older.old.entries) }
 {
     older.insert(id, standing)?;
@@ -130,7 +132,8 @@ fn change_created(created: &mut Vec<Standing>, place: usize, standing: Standing)
 /// Only an entry that is new takes memory.
 fn change_older(older: &mut BTreeMap<u64, Standing>, id: u64, standing: Standing)
     requires { is_some (lookup (is_at (nat_cmp id)) older.old.entries) ≡ true }
-    ensures { (i : ℕ) → lookup (is_at (nat_cmp i)) older.new.entries ≡ (if i == id then Some standing else lookup (is_at (nat_cmp i)) older.old.entries) }
+    ensures { (i : ℕ) → lookup (is_at (nat_cmp i)) older.new.entries
+        ≡ (if i == id then Some standing else lookup (is_at (nat_cmp i)) older.old.entries) }
 {
     let _always = older.insert(id, standing).is_ok();
 }

@@ -47,7 +47,8 @@ impl Model for Overlay {
 impl Overlay {
     /// The start of an upload of so many operations.
     pub fn new(alloc: Global, world: &World, operations: usize) -> Result<Overlay, Memory>
-        ensures start { IfOk result (λ over. (ops : List Op) → StandsFor (sight (state_of world.now).elements ops over) (start (state_of world.now).elements)) }
+        ensures start { IfOk result
+            (λ over. (ops : List Op) → StandsFor (sight (state_of world.now).elements ops over) (start (state_of world.now).elements)) }
         ensures keys { IfOk result (λ over. over.keys ≡ []) }
         ensures next { IfOk result (λ over. over.next ≡ first_ids (state_of world.now).elements) }
         ensures few { IfOk result (λ over. (n : ℕ) → n < 2 ^ 32 → HasNumbers over.next n) }
@@ -163,7 +164,9 @@ impl Overlay {
     ) -> Result<Vec<Key>, Memory>
         ensures same { self.new ≡ self.old }
         ensures rising { IfOk result (λ listed. IsRising listed.items) }
-        ensures listed { IfOk result (λ listed. (b : Key) → lists_key listed.items b ≡ lists_key (refs_in (content_now (sight (state_of world.now).elements operations.now self.old) key)) b) }
+        ensures listed { IfOk result
+            (λ listed. (b : Key) → lists_key listed.items b
+            ≡ lists_key (refs_in (content_now (sight (state_of world.now).elements operations.now self.old) key)) b) }
     {
         let mut listed = mem::replace(&mut self.ended, Vec::new(alloc));
         listed.clear();
@@ -180,7 +183,8 @@ impl Overlay {
     fn begun_uses(&mut self, alloc: Global, operation: &Op) -> Result<Vec<Key>, Memory>
         ensures same { self.new ≡ self.old }
         ensures rising { IfOk result (λ listed. IsRising listed.items) }
-        ensures listed { IfOk result (λ listed. (b : Key) → lists_key listed.items b ≡ lists_key (refs_in (content_of_op self.old.keys operation.now)) b) }
+        ensures listed { IfOk result
+            (λ listed. (b : Key) → lists_key listed.items b ≡ lists_key (refs_in (content_of_op self.old.keys operation.now)) b) }
     {
         let mut listed = mem::replace(&mut self.begun, Vec::new(alloc));
         listed.clear();

@@ -32,7 +32,8 @@ fn add_looks(
     counted: &mut Vec<Key>,
     used: &mut Vec<Key>,
 ) -> Result<(), Memory>
-    ensures counted { OnOk result (counted.new.items ≡ counted.old.items ++ (old_keys (names_given operation.now) ++ listed_by (state_of world.now).elements (replaced_key operation.now))) }
+    ensures counted { OnOk result (counted.new.items ≡ counted.old.items
+        ++ (old_keys (names_given operation.now) ++ listed_by (state_of world.now).elements (replaced_key operation.now))) }
     ensures used { OnOk result (used.new.items ≡ used.old.items ++ deleted_key operation.now) }
 {
     add_names(operation, counted)?;
@@ -68,9 +69,12 @@ fn find_out<L: Ledger>(
     requires keys { over.old.keys ≡ [] }
     requires none { counted.old.items ≡ [] }
     requires unused { used.old.items ≡ [] }
-    ensures found { IfOk result (λ found. (c : ℕ) → done_of (accounted (operate_all (task (state_of world.now).elements c 0 change.now) (start (state_of world.now).elements) change.now)) ≡ outcome_of found) }
-    ensures counted { OnOk result ((c : ℕ) → counted.new.items ≡ looked_counts (task (state_of world.now).elements c 0 change.now) (start (state_of world.now).elements) change.now) }
-    ensures used { OnOk result ((c : ℕ) → used.new.items ≡ looked_users (task (state_of world.now).elements c 0 change.now) (start (state_of world.now).elements) change.now) }
+    ensures found { IfOk result
+        (λ found. (c : ℕ) → done_of (accounted (operate_all (task (state_of world.now).elements c 0 change.now) (start (state_of world.now).elements) change.now)) ≡ outcome_of found) }
+    ensures counted { OnOk result ((c : ℕ)
+        → counted.new.items ≡ looked_counts (task (state_of world.now).elements c 0 change.now) (start (state_of world.now).elements) change.now) }
+    ensures used { OnOk result ((c : ℕ)
+        → used.new.items ≡ looked_users (task (state_of world.now).elements c 0 change.now) (start (state_of world.now).elements) change.now) }
     ensures shown { IfOk result (λ found. IsShown (outcome_of found)) }
     ensures steps { OnOk result (steps.new ≡ steps.old + judged_count (state_of world.now).elements change.now) }
     ensures bound { steps.new ≤ steps.old + length change.now }
@@ -101,9 +105,12 @@ pub fn judge_change<L: Ledger>(
     requires none { counted.old.items ≡ [] }
     requires unused { used.old.items ≡ [] }
     ensures formed { IsWellFormed change.now }
-    ensures found { IfOk result (λ found. (c : ℕ) → done_of (accounted (operate_all (task (state_of world.now).elements c 0 change.now) (start (state_of world.now).elements) change.now)) ≡ outcome_of found) }
-    ensures counted { OnOk result ((c : ℕ) → counted.new.items ≡ looked_counts (task (state_of world.now).elements c 0 change.now) (start (state_of world.now).elements) change.now) }
-    ensures used { OnOk result ((c : ℕ) → used.new.items ≡ looked_users (task (state_of world.now).elements c 0 change.now) (start (state_of world.now).elements) change.now) }
+    ensures found { IfOk result
+        (λ found. (c : ℕ) → done_of (accounted (operate_all (task (state_of world.now).elements c 0 change.now) (start (state_of world.now).elements) change.now)) ≡ outcome_of found) }
+    ensures counted { OnOk result ((c : ℕ)
+        → counted.new.items ≡ looked_counts (task (state_of world.now).elements c 0 change.now) (start (state_of world.now).elements) change.now) }
+    ensures used { OnOk result ((c : ℕ)
+        → used.new.items ≡ looked_users (task (state_of world.now).elements c 0 change.now) (start (state_of world.now).elements) change.now) }
     ensures shown { IfOk result (λ found. IsShown (outcome_of found)) }
     ensures steps { OnOk result (steps.new ≡ steps.old + judged_count (state_of world.now).elements change.now) }
     ensures bound { steps.new ≤ steps.old + length change.now }

@@ -61,7 +61,8 @@ pub fn op_lists(keys: &[Key], operation: &Op, used: Key) -> bool
 }
 
 fn add_nodes(keys: &[Key], nodes: &[Name], listed: &mut Vec<Key>) -> Result<(), Memory>
-    ensures { OnOk result ((b : Key) → lists_key listed.new.items b ≡ lists_key listed.old.items b || list_any (λ name. key_eq (key Kind.Node (id_of keys.now name)) b) nodes.now) }
+    ensures { OnOk result ((b : Key) → lists_key listed.new.items b ≡ lists_key listed.old.items b || list_any
+        (λ name. key_eq (key Kind.Node (id_of keys.now name)) b) nodes.now) }
 {
     for name in nodes {
         listed.push(name.key(Kind::Node, keys))?;
@@ -70,7 +71,8 @@ fn add_nodes(keys: &[Key], nodes: &[Name], listed: &mut Vec<Key>) -> Result<(), 
 }
 
 fn add_members(keys: &[Key], members: &[Member<Name>], listed: &mut Vec<Key>) -> Result<(), Memory>
-    ensures { OnOk result ((b : Key) → lists_key listed.new.items b ≡ lists_key listed.old.items b || list_any (λ m. key_eq (key m.kind (id_of keys.now m.name)) b) members.now) }
+    ensures { OnOk result ((b : Key) → lists_key listed.new.items b ≡ lists_key listed.old.items b || list_any
+        (λ m. key_eq (key m.kind (id_of keys.now m.name)) b) members.now) }
 {
     for member in members {
         listed.push(member.name.key(member.kind, keys))?;
@@ -81,7 +83,8 @@ fn add_members(keys: &[Key], members: &[Member<Name>], listed: &mut Vec<Key>) ->
 /// Adds what a content lists, by the elements that its names stand for.
 #[tactic(auto, using(crate::proofs::Named::nodes_listed, crate::proofs::Named::members_listed, crate::proofs::Named::none_listed))]
 fn add_named(keys: &[Key], content: &Content<Name>, listed: &mut Vec<Key>) -> Result<(), Memory>
-    ensures { OnOk result ((b : Key) → lists_key listed.new.items b ≡ lists_key listed.old.items b || lists_key (refs (with_ids keys.now content.now)) b) }
+    ensures { OnOk result ((b : Key)
+        → lists_key listed.new.items b ≡ lists_key listed.old.items b || lists_key (refs (with_ids keys.now content.now)) b) }
 {
     match content {
         Content::Node(_) => Ok(()),
@@ -93,7 +96,8 @@ fn add_named(keys: &[Key], content: &Content<Name>, listed: &mut Vec<Key>) -> Re
 /// Adds what the content that an operation gives lists.
 #[tactic(auto, using(crate::proofs::Named::none_listed))]
 pub fn add_given(keys: &[Key], operation: &Op, listed: &mut Vec<Key>) -> Result<(), Memory>
-    ensures { OnOk result ((b : Key) → lists_key listed.new.items b ≡ lists_key listed.old.items b || lists_key (refs_in (content_of_op keys.now operation.now)) b) }
+    ensures { OnOk result ((b : Key)
+        → lists_key listed.new.items b ≡ lists_key listed.old.items b || lists_key (refs_in (content_of_op keys.now operation.now)) b) }
 {
     match operation {
         Op::Create { content, .. } | Op::Modify { content, .. } => {

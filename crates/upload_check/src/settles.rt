@@ -38,7 +38,8 @@ pub enum Outcome {
 /// judged.
 pub fn settle(alloc: Global, world: &World, plan: &Plan, moment: u64) -> Result<Outcome, Memory>
     requires stands { StandsOn (plan_of plan.now) (state_of world.now).elements }
-    ensures { (begun : State) → IsPlannedOn begun.elements (plan_of plan.now) → Later begun (state_of world.now) → IfOk result (IsOutcome (state_of world.now) plan.now.asked (stamp_after (state_of world.now).last moment)) }
+    ensures { (begun : State) → IsPlannedOn begun.elements (plan_of plan.now) → Later begun (state_of world.now)
+        → IfOk result (IsOutcome (state_of world.now) plan.now.asked (stamp_after (state_of world.now).last moment)) }
 {
     plans_settle();
     plan.laws();

@@ -115,7 +115,8 @@ impl<'a> View<'a> {
     /// Adds what an element lists.
     #[tactic(auto, using(crate::proofs::Named::none_listed))]
     pub fn add_listed(&self, user: Key, listed: &mut Vec<Key>) -> Result<(), Memory>
-        ensures { OnOk result ((b : Key) → lists_key listed.new.items b ≡ lists_key listed.old.items b || lists_key (refs_in (content_now self.now user)) b) }
+        ensures { OnOk result ((b : Key)
+            → lists_key listed.new.items b ≡ lists_key listed.old.items b || lists_key (refs_in (content_now self.now user)) b) }
     {
         match self.standing(user).holds {
             Holds::AsBefore => match stored(self.world, user) {

@@ -1,3 +1,4 @@
+//! The users of a text, line by line.
 ghost use Rattle.std.specs.Prelude.{◌≡◌, ◌≤◌, length, ◌∷◌, ◌++◌, [], Ok, IfOk, OnOk, MatchResult, true, not, nat_eq};
 ghost use Rattle.user_table.specs.Users.{with_row, with_line, with_lines, is_skipped, has_token, Leads, Refuses};
 ghost use Rattle.user_table.specs.Drafts.{rows_of, texts_of, shown, IsIndexed};
@@ -109,7 +110,8 @@ fn is_skipped(line: &str) -> bool
 /// The users of a text, under their tokens.
 pub fn read_lines(alloc: Global, text: &str) -> Result<IndexMap<Vec<u8>, User>, UsersFault>
     requires { length text.now ≤ USERS_LIMIT }
-    ensures { MatchResult result (λ users. with_lines 1 [] (lines text.now) ≡ Ok (rows_of users.entries)) (λ found. Refuses (with_lines 1 [] (lines text.now)) found) }
+    ensures { MatchResult result (λ users. with_lines 1 [] (lines text.now) ≡ Ok (rows_of users.entries))
+        (λ found. Refuses (with_lines 1 [] (lines text.now)) found) }
 {
     let mut draft = Draft::new(alloc);
     let mut number = 0;

@@ -1,3 +1,4 @@
+//! Why a users text is refused.
 use osm_base::Memory;
 use std::alloc::{AllocError, AllocFailed};
 

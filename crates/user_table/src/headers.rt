@@ -1,3 +1,4 @@
+//! The token of an Authorization field.
 ghost use Rattle.std.specs.Prelude.{◌≡◌, ◌≤◌, IsTrue, length};
 ghost use Rattle.std.specs.Option.{option_copied};
 ghost use Rattle.user_table.specs.Who.{is_gap, trimmed_start, trimmed_end, trimmed, is_bearer, token_of};

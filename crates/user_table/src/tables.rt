@@ -1,3 +1,4 @@
+//! The users, found by their tokens.
 ghost use Rattle.std.specs.Prelude.{◌≡◌, ◌<◌, length, map, slice_get};
 ghost use Rattle.user_table.specs.Users.{table_of, Gives};
 ghost use Rattle.user_table.specs.Who.{who_of, who_at, place_of, IsWithin};

@@ -1,3 +1,4 @@
+//! A request of a load.
 use osm_base::Bytes;
 
 /// A request, and the session that sends it.
