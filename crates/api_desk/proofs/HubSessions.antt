@@ -2,7 +2,7 @@
 use Rattle.std.proofs.Common.{◌≡◌, ℕ, ◌≤◌, ⊎_elim, List, [], ◌∷◌, ◌++◌, length, refl, sym, ap, ◌∙◌, subst, arith, length-append, Option}
 use mathlib.Core.List.{IsPrefix}
 use Rattle.osm_change.specs.declared.answers.Answer.{Answer}
-use Rattle.osm_model.specs.Answered.{Request, refused, does, reads, Place, Asked, IsRow, IsAnswered}
+use Rattle.osm_model.specs.Answered.{Request, refused, does, reads, Place, SessionRow, IsRow, IsAnswered}
 use Rattle.osm_model.specs.declared.commands.Entry.{Entry}
 use Rattle.http_link.specs.Exchange.{Exchange, Chain}
 use Rattle.user_table.specs.Rows.{Row}
@@ -15,7 +15,7 @@ use Rattle.api_desk.proofs.Rows.{row-append}
 
 -- ---- rows
 
-pub answered-append : (F : List Entry) (s : ℕ) (before mid after : Place) (first second : List Asked)
+pub answered-append : (F : List Entry) (s : ℕ) (before mid after : Place) (first second : List SessionRow)
     → IsAnswered F s before first mid → IsAnswered F s mid second after → IsAnswered F s before (first ++ second) after
 answered-append F s before mid after [] second h k = subst (λ (p : Place). IsAnswered F s p second after) h.0 k
 answered-append F s before mid after (a ∷ first) second h k = (h.0, h.1, answered-append F s h.0 mid after first second h.2 k)
@@ -34,12 +34,12 @@ row_later F s before after (does user c) m reply row =
     row
 row_later F s before after (reads q) m reply row = ⊎_elim (λ answers. answers.later) (λ lacks. omega (arith, ap (λ (p : Place). p.point) lacks.stays)) row
 
-within : (F : List Entry) (s : ℕ) (before after : Place) (asked : List Asked) → IsAnswered F s before asked after → before.point ≤ length F
+within : (F : List Entry) (s : ℕ) (before after : Place) (asked : List SessionRow) → IsAnswered F s before asked after → before.point ≤ length F
 within F s before after [] h = h.1
 within F s before after (a ∷ asked) h =
     omega (arith, row_later F s before h.0 a.request a.moment a.reply h.1, within F s h.0 after asked h.2)
 
-pub answered-longer : (F more : List Entry) (s : ℕ) (before after : Place) (asked : List Asked)
+pub answered-longer : (F more : List Entry) (s : ℕ) (before after : Place) (asked : List SessionRow)
     → IsAnswered F s before asked after → IsAnswered (F ++ more) s before asked after
 answered-longer F more s before after [] h = (h.0, omega (arith, h.1, length-append F more))
 answered-longer F more s before after (a ∷ asked) h = (
@@ -99,7 +99,7 @@ exchanges_served old new (e ∷ es) point le chain =
 
 -- ---- links
 
-tell-append : (users : List Row) (xs ys : List Exchange) (first second : List Asked) → AllTell users xs first → AllTell users ys second → AllTell users (xs ++ ys) (first ++ second)
+tell-append : (users : List Row) (xs ys : List Exchange) (first second : List SessionRow) → AllTell users xs first → AllTell users ys second → AllTell users (xs ++ ys) (first ++ second)
 tell-append users [] ys [] second h k = k
 tell-append users [] ys (a ∷ first) second h k = absurd h
 tell-append users (x ∷ xs) ys [] second h k = absurd h

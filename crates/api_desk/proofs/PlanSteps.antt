@@ -20,14 +20,14 @@ use Rattle.osm_model.specs.Fold.{uploaded}
 use Rattle.osm_model.specs.declared.commands.Command.TheVariants as command
 use Rattle.osm_model.specs.declared.states.State.{State}
 use Rattle.osm_model.specs.declared.uploads.Progress.{Progress}
-use Rattle.upload_check.specs.Asked.{Asked, IsAccepted, IsRefused}
+use Rattle.upload_check.specs.Asked.{AskedUpload, IsAccepted, IsRefused}
 use Rattle.upload_check.specs.Commands.{command_of, told_upload}
 use Rattle.api_desk.specs.Judging.{IsToldOf}
 use Rattle.api_desk.specs.Machine.{bytes_of, entry_if, act_as}
 use Rattle.api_desk.specs.declared.requests.Asked.{Asked as Request}
 
 pub accepted-told :
-    (T : State) (a : Asked) (t : ℕ) (first : FirstIds) (ds : List OpDone)
+    (T : State) (a : AskedUpload) (t : ℕ) (first : FirstIds) (ds : List OpDone)
     → IsAccepted T a t first ds
     → IsToldOf (judge T a.user t (command_of a)) (told_upload first a ds)
 accepted-told T a t first ds is = by a.single
@@ -48,7 +48,7 @@ accepted-told T a t first ds is = by a.single
     }
 
 pub refused-judged :
-    (T : State) (a : Asked) (t : ℕ) (r : Refusal)
+    (T : State) (a : AskedUpload) (t : ℕ) (r : Refusal)
     → IsRefused T a t r
     → judge T a.user t (command_of a) ≡ Err r
 refused-judged T a t r is = by a.single

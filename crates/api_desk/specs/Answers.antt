@@ -3,7 +3,7 @@ use Rattle.std.specs.Prelude.{◌≡◌, ℕ, ◌+◌, length, List, [], ◌∷�
 use Rattle.osm_change.specs.declared.answers.Answer.{Answer}
 use Rattle.osm_model.specs.declared.commands.Entry.{Entry}
 use Rattle.osm_model.specs.Journal.{calls_of}
-use Rattle.osm_model.specs.Answered.{Asked, Place, all_of, IsRow, IsAnswered}
+use Rattle.osm_model.specs.Answered.{SessionRow, Place, all_of, IsRow, IsAnswered}
 use Rattle.osm_json.specs.Answered.{status_of, body_of}
 use Rattle.http_wire.specs.declared.message.Message.{Message}
 use Rattle.http_link.specs.declared.desk.Reply.{Reply}
@@ -33,13 +33,13 @@ pub record AnswersAlone (users : List Row) (session : ℕ) (old new : List Entry
   pub own : calls_of session new ≡ calls_of session old + length more
 
 -- a request with its answer, and the message with its reply
-pub record Tells (users : List Row) (exchange : Exchange) (asked : Asked) : Type 0 where
+pub record Tells (users : List Row) (exchange : Exchange) (asked : SessionRow) : Type 0 where
   pub request : asked.request ≡ request_of users exchange.message
   pub moment : asked.moment ≡ exchange.moment
   pub reply : exchange.answer ≡ reply_of asked.reply
 
 -- the same, one after the other
-abbrev pub AllTell : List Row → List Exchange → List Asked → Type 0
+abbrev pub AllTell : List Row → List Exchange → List SessionRow → Type 0
 AllTell users [] [] = ⊤
 AllTell users [] (asked ∷ more) = ⊥
 AllTell users (exchange ∷ exchanges) [] = ⊥
@@ -47,6 +47,6 @@ AllTell users (exchange ∷ exchanges) (asked ∷ more) = Tells users exchange a
 
 -- The messages were answered as the map's rules say, at points of the entries that never go back.
 pub record AreAnswered (users : List Row) (session : ℕ) (F : List Entry) (start : Place) (exchanges : List Exchange) (last : Place) : Type 0 where
-  pub asked : List Asked
+  pub asked : List SessionRow
   pub told : AllTell users exchanges asked
   pub answered : IsAnswered F session start asked last

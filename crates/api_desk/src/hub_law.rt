@@ -1,7 +1,7 @@
 //! Laws on what a session of a hub is answered.
 ghost use Rattle.std.specs.Prelude.{◌≡◌, ◌≤◌, ◌++◌, ℕ, List, Option, length};
 ghost use mathlib.Core.List.{IsPrefix};
-ghost use Rattle.osm_model.specs.Answered.{Asked, Place, Request, IsAnswered};
+ghost use Rattle.osm_model.specs.Answered.{SessionRow, Place, Request, IsAnswered};
 ghost use Rattle.osm_model.specs.Journal.{IsLegal};
 ghost use Rattle.osm_model.specs.declared.commands.Entry.{Entry};
 ghost use Rattle.hub_core.specs.Journal.{IsJournal};
@@ -35,13 +35,13 @@ pub fn replies_are_the_maps()
 
 /// A law: what is answered up to a place and what is answered from there on is answered together.
 pub fn answers_append()
-    ensures { (F : List Entry) (session : ℕ) (before mid after : Place) (first second : List Asked)
+    ensures { (F : List Entry) (session : ℕ) (before mid after : Place) (first second : List SessionRow)
         → IsAnswered F session before first mid → IsAnswered F session mid second after → IsAnswered F session before (first ++ second) after }
 {}
 
 /// A law: what is answered against a list of entries is so against each longer one.
 pub fn rows_stay()
-    ensures { (F more : List Entry) (session : ℕ) (before after : Place) (asked : List Asked)
+    ensures { (F more : List Entry) (session : ℕ) (before after : Place) (asked : List SessionRow)
         → IsAnswered F session before asked after → IsAnswered (F ++ more) session before asked after }
 {}
 

@@ -101,13 +101,13 @@ IsRow F session before (does user c) moment reply after =
 IsRow F session before (reads q) moment reply after = AnswersQuery F before q moment reply after ⊎ LacksMemory before reply after
 
 -- a request, the moment when it was whole, and the answer that its reply tells
-pub record Asked : Type 0 where
+pub record SessionRow : Type 0 where
   pub request : Request
   pub moment : ℕ
   pub reply : Option Answer
 
 -- The requests were answered so, one after the other, at points of the journal that never go back.
-abbrev pub IsAnswered : List Entry → ℕ → Place → List Asked → Place → Type 0
+abbrev pub IsAnswered : List Entry → ℕ → Place → List SessionRow → Place → Type 0
 IsAnswered F session before [] after = (after ≡ before) × (before.point ≤ length F)
 IsAnswered F session before (asked ∷ more) after =
     (mid : Place) × IsRow F session before asked.request asked.moment asked.reply mid × IsAnswered F session mid more after

@@ -18,7 +18,7 @@ use Rattle.osm_model.specs.Fold.{upload}
 use Rattle.osm_model.specs.declared.states.State.{State}
 use Rattle.osm_model.specs.declared.uploads.Progress.{Progress}
 use Rattle.osm_world.specs.Beds.{first_ids}
-use Rattle.upload_check.specs.Asked.{Asked, IsAccepted, IsRefused}
+use Rattle.upload_check.specs.Asked.{AskedUpload, IsAccepted, IsRefused}
 
 -- the ids that come next, kind by kind
 pub next-ids : (E : Elements) (first : FirstIds) → first ≡ first_ids E → (kind : Kind) → next_of first kind ≡ next_id E kind
@@ -30,7 +30,7 @@ next-ids E first is k = ap (λ (ids : FirstIds). next_of ids k) is ∙ by k
     by kind.Relation = refl
 
 pub accepted :
-    (T : State) (a : Asked) (t : ℕ) (first : FirstIds) (settled : Result (List OpDone) Refusal) (rows : List OpDone)
+    (T : State) (a : AskedUpload) (t : ℕ) (first : FirstIds) (settled : Result (List OpDone) Refusal) (rows : List OpDone)
     → IsSettled T a.user t a.changeset a.change first settled
     → settled ≡ Ok rows
     → first ≡ first_ids T.elements
@@ -49,7 +49,7 @@ accepted T a t first settled rows is came next numbers =
     }
 
 pub refused :
-    (T : State) (a : Asked) (t : ℕ) (first : FirstIds) (settled : Result (List OpDone) Refusal) (r : Refusal)
+    (T : State) (a : AskedUpload) (t : ℕ) (first : FirstIds) (settled : Result (List OpDone) Refusal) (r : Refusal)
     → IsSettled T a.user t a.changeset a.change first settled
     → settled ≡ Err r
     → RefusalHasShownEnd r

@@ -21,19 +21,19 @@ use Rattle.upload_check.specs.declared.settles.Outcome.{Outcome}
 use Rattle.upload_check.specs.declared.settles.Outcome.TheVariants.{Accepted, Refused}
 
 -- the upload or the single change that is asked for, by whom, and to which changeset
-pub record Asked : Type 0 where
+pub record AskedUpload : Type 0 where
   pub user : User
   pub changeset : ℕ
   pub change : List Op
   pub single : Bool
 
 -- a single change has one operation
-abbrev pub IsAsked : Asked → Type 0
+abbrev pub IsAsked : AskedUpload → Type 0
 IsAsked a = a.single ≡ true → length a.change ≡ 1
 
 -- It is accepted at the stamp t, what its operations did is told, and their elements are numbered
 -- from the ids that come next, for each of which there are enough numbers.
-pub record IsAccepted (P : State) (a : Asked) (t : ℕ) (ids : FirstIds) (done : List OpDone) : Type 0 where
+pub record IsAccepted (P : State) (a : AskedUpload) (t : ℕ) (ids : FirstIds) (done : List OpDone) : Type 0 where
   pub progress : Progress
   pub judged : upload P a.user t a.changeset a.change ≡ Ok progress
   pub rows : done ≡ progress.done
@@ -43,11 +43,11 @@ pub record IsAccepted (P : State) (a : Asked) (t : ℕ) (ids : FirstIds) (done :
   pub numbers : HasNumbers ids (length a.change)
 
 -- it is refused, and a moment that is told has a text
-pub record IsRefused (P : State) (a : Asked) (t : ℕ) (r : Refusal) : Type 0 where
+pub record IsRefused (P : State) (a : AskedUpload) (t : ℕ) (r : Refusal) : Type 0 where
   pub judged : upload P a.user t a.changeset a.change ≡ Err r
   pub shown : RefusalHasShownEnd r
 
-abbrev pub IsOutcome : State → Asked → ℕ → Outcome → Type 0
+abbrev pub IsOutcome : State → AskedUpload → ℕ → Outcome → Type 0
 IsOutcome P a t (Accepted first rows) = IsAccepted P a t first rows
 IsOutcome P a t (Refused r) = IsRefused P a t r
 

@@ -9,10 +9,10 @@ use Rattle.osm_model.specs.Journal.{Later}
 use Rattle.osm_model.specs.declared.commands.Command.{Command}
 use Rattle.osm_model.specs.declared.commands.Command.TheVariants as command
 use Rattle.osm_model.specs.declared.states.State.{State}
-use Rattle.upload_check.specs.Asked.{Asked}
+use Rattle.upload_check.specs.Asked.{AskedUpload}
 use Rattle.upload_check.specs.Planned.{Planned, plan_of}
 
-abbrev pub command_of : Asked → Command
+abbrev pub command_of : AskedUpload → Command
 command_of a = if a.single then command.Single a.changeset a.change else command.Upload a.changeset a.change
 
 -- no upload and no single change
@@ -34,5 +34,5 @@ pub record IsForeseen (p : Planned) (now : State) : Type 0 where
   pub later : Later begun now
 
 -- the answer to an upload that is accepted, or to a single change
-abbrev pub told_upload : FirstIds → Asked → List OpDone → Answer
+abbrev pub told_upload : FirstIds → AskedUpload → List OpDone → Answer
 told_upload first a ds = if a.single then number_answer first a.change ds else diff_answer first a.change ds

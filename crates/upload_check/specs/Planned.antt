@@ -13,13 +13,13 @@ use Rattle.osm_later.specs.declared.looks.Look.{Look}
 use Rattle.osm_later.specs.Settle.{counted_done}
 use Rattle.osm_later.specs.Plan.{Plan, StandsOn, IsPlannedOn}
 use Rattle.osm_later.specs.Still.{Differs}
-use Rattle.upload_check.specs.Asked.{Asked}
+use Rattle.upload_check.specs.Asked.{AskedUpload}
 use Rattle.upload_check.specs.declared.plans.Found.{Found}
 use Rattle.upload_check.specs.declared.plans.Found.TheVariants.{Done, Refused}
 
 -- what is asked for, the looks, and what the operations did
 pub record Planned : Type 0 where
-  pub asked : Asked
+  pub asked : AskedUpload
   pub counts : List CountLook
   pub users : List UsersLook
   pub outcome : Result (List OpDone) Refusal
@@ -39,7 +39,7 @@ plan_of p = record {
 }
 
 -- it is the plan of what is asked, made on these elements
-pub record IsPlanOf (E : Elements) (a : Asked) (p : Planned) : Type 0 where
+pub record IsPlanOf (E : Elements) (a : AskedUpload) (p : Planned) : Type 0 where
   pub asked : p.asked ≡ a
   pub planned : IsPlannedOn E (plan_of p)
 

@@ -15,9 +15,9 @@ pub struct UploadCmd {
 }
 
 impl Model for UploadCmd {
-    ghost use Rattle.upload_check.specs.Asked.{Asked, IsAsked};
+    ghost use Rattle.upload_check.specs.Asked.{AskedUpload, IsAsked};
 
-    ghost Value = { Asked };
+    ghost Value = { AskedUpload };
 
     ghost view = { λ c. record { user = c.user; changeset = c.changeset; change = c.change; single = c.single } };
 

@@ -1,7 +1,7 @@
 use Rattle.std.proofs.Common.{ap, ◌∙◌}
 use Rattle.osm_world.specs.World.{state_of}
 use Rattle.upload_check.specs.Commands.{command_of}
-use Rattle.upload_check.specs.Asked.{Asked}
+use Rattle.upload_check.specs.Asked.{AskedUpload}
 use Rattle.api_desk.proofs.machine.upload_again.Goals as goal
 
 pub settle_upload-requires-clause-foreseen : goal.settle_upload-requires-clause-foreseen
@@ -15,8 +15,8 @@ returns g c = λ begun asked up.
     let is = c.in_ok-plan.ensures.planned in
     c.settle_upload.ensures T asked
     (record {
-      user = ap (λ (a : Asked). a.user) is.asked ∙ up.user;
-      command = ap (λ (a : Asked). command_of a) is.asked ∙ up.command;
+      user = ap (λ (a : AskedUpload). a.user) is.asked ∙ up.user;
+      command = ap (λ (a : AskedUpload). command_of a) is.asked ∙ up.command;
       planned = is.planned;
     })
     (c.maps_follow_themselves.ensures T)

@@ -5,7 +5,7 @@ use Rattle.osm_change.specs.declared.answers.Answer.{Answer}
 use Rattle.osm_model.specs.Act.{judge}
 use Rattle.osm_model.specs.declared.commands.Command.{Command}
 use Rattle.osm_world.specs.World.{state_of}
-use Rattle.upload_check.specs.Asked.{Asked, IsOutcome}
+use Rattle.upload_check.specs.Asked.{AskedUpload, IsOutcome}
 use Rattle.upload_check.specs.declared.settles.Outcome.{Outcome}
 use Rattle.upload_check.specs.Commands.{command_of, told_upload}
 use Rattle.api_desk.specs.Judging.{IsToldOf}
@@ -22,7 +22,7 @@ returns-in_ok-accepted_answer-in-Accepted-clause-judged c = λ begun asked up la
     let is = subst (λ (o : Outcome). IsOutcome T a t o) c.in-Accepted.is (c.in_ok-first.ensures begun up.planned later) in
     let told = accepted-told T a t first rows is in
     let mine = subst (λ (ans : Answer). IsToldOf (judge T a.user t (command_of a)) ans)
-    (sym (c.in_ok-accepted_answer-in-Accepted.ensures ∙ ap (λ (x : Asked). told_upload first x rows) c.cmd.ensures.value))
+    (sym (c.in_ok-accepted_answer-in-Accepted.ensures ∙ ap (λ (x : AskedUpload). told_upload first x rows) c.cmd.ensures.value))
     told
     in
     subst (λ (d : Command). IsToldOf (judge T asked.user t d) c.in_ok-accepted_answer-in-Accepted.field-0) up.command

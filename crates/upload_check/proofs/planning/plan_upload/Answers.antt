@@ -3,7 +3,7 @@ use Rattle.osm_base.specs.Key.{lists_key}
 use Rattle.osm_base.specs.declared.keys.Key.{Key}
 use Rattle.osm_later.specs.Plan.{IsPlannedOn, count_look, users_look}
 use Rattle.osm_world.specs.World.{state_of}
-use Rattle.upload_check.specs.Asked.{Asked}
+use Rattle.upload_check.specs.Asked.{AskedUpload}
 use Rattle.upload_check.specs.Planned.{outcome_of}
 use Rattle.upload_check.proofs.Made.{planned-by}
 use Rattle.upload_check.proofs.planning.plan_upload.Goals as goal
@@ -24,7 +24,7 @@ invariant_of-result g c =
     (c.in_ok-counts.ensures ∙ ap (λ (l : List Key). map (count_look E) l) c.as_slice.ensures.value)
     (c.in_ok-users.ensures ∙ ap (λ (l : List Key). map (users_look E) l) c.as_slice-2.ensures.value)
     (c.in_ok-found.ensures.found a.changeset) in
-    let plan = subst (λ (y : Asked). IsPlannedOn E (record { changeset = y.changeset; operations = y.change; counts = c.in_ok-counts.counts; users = c.in_ok-users.users; outcome = outcome_of c.in_ok-found.found })) c.cmd.view_is own in
+    let plan = subst (λ (y : AskedUpload). IsPlannedOn E (record { changeset = y.changeset; operations = y.change; counts = c.in_ok-counts.counts; users = c.in_ok-users.users; outcome = outcome_of c.in_ok-found.found })) c.cmd.view_is own in
     record {
       rising = c.stills_say_where_they_differ.ensures.rising E (record { changeset = c.args.cmd.changeset; operations = c.args.cmd.change; counts = c.in_ok-counts.counts; users = c.in_ok-users.users; outcome = outcome_of c.in_ok-found.found }) plan;
       shown = c.in_ok-found.ensures.shown;
@@ -46,5 +46,5 @@ returns-clause-planned g c =
     (c.in_ok-counts.ensures ∙ ap (λ (l : List Key). map (count_look E) l) c.as_slice.ensures.value)
     (c.in_ok-users.ensures ∙ ap (λ (l : List Key). map (users_look E) l) c.as_slice-2.ensures.value)
     (c.in_ok-found.ensures.found a.changeset) in
-    let plan = subst (λ (y : Asked). IsPlannedOn E (record { changeset = y.changeset; operations = y.change; counts = c.in_ok-counts.counts; users = c.in_ok-users.users; outcome = outcome_of c.in_ok-found.found })) c.cmd.view_is own in
+    let plan = subst (λ (y : AskedUpload). IsPlannedOn E (record { changeset = y.changeset; operations = y.change; counts = c.in_ok-counts.counts; users = c.in_ok-users.users; outcome = outcome_of c.in_ok-found.found })) c.cmd.view_is own in
     record { asked = refl; planned = plan }
