@@ -1,5 +1,5 @@
 -- One more entry of a session is one more call.
-use Rattle.std.proofs.Common.{◌≡◌, ◌≢◌, ℕ, ◌+◌, ◌≤◌, ◌<◌, ◌==◌, Bool, true, false, cond, length, take, drop, sym, List, [], ◌∷◌, ◌++◌, ap, ◌∙◌, nat_lt, arith}
+use Rattle.std.proofs.Common.{◌≡◌, ◌≢◌, ℕ, ◌+◌, ◌≤◌, ◌==◌, Bool, true, false, cond, length, take, drop, sym, List, [], ◌∷◌, ◌++◌, ap, ◌∙◌, nat_lt, arith}
 use Rattle.std.specs.Prelude.{count_by}
 use Rattle.std.specs.List.{sum_by}
 use Rattle.std.proofs.lemmas.List.{take-append-drop, take-append-le, length-take-le}

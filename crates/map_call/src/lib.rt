@@ -10,3 +10,4 @@ mod within;
 
 pub use calls::map;
 pub use law::small_map_is_as_told;
+pub use osm_change::{MapFault, Selection};

@@ -10,7 +10,7 @@ use Rattle.osm_base.specs.declared.keys.Kind.{Kind}
 use Rattle.osm_base.specs.declared.keys.Kind.TheVariants as kind
 use Rattle.osm_base.specs.declared.keys.Key.{Key}
 use Rattle.osm_element.specs.Elements as elements
-use Rattle.osm_element.specs.Elements.{key, next_id, count, content_of, refs_in, users, first_user}
+use Rattle.osm_element.specs.Elements.{key, next_id, count, refs_in, users, first_user}
 use Rattle.osm_element.specs.Tags.{Tag}
 use Rattle.osm_element.specs.declared.contents.Content.{Content}
 use Rattle.osm_element.specs.declared.elements.Elements.{Elements}

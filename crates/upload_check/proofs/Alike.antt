@@ -1,5 +1,5 @@
 -- An overlay in which each element stands alike stands for the same.
-use Rattle.std.proofs.Common.{◌≡◌, ℕ, List, length, take, refl, sym, ap, ◌∙◌, subst, Ok, Err}
+use Rattle.std.proofs.Common.{◌≡◌, List, length, take, refl, sym, ap, ◌∙◌, subst, Ok, Err}
 use Rattle.std.specs.Prelude.{Result, OnErr, slice_get, option_and_then}
 use Rattle.osm_base.specs.Key.{lists_key}
 use Rattle.osm_base.specs.declared.keys.Key.{Key}

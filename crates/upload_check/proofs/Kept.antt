@@ -1,5 +1,5 @@
 -- Elements made ready for a user more or less: what is noted for it, and that they stay ready.
-use Rattle.std.proofs.Common.{◌≡◌, ℕ, ◌+◌, ◌<◌, ◌≤◌, ◌^◌, Bool, true, false, ◌||◌, ⊎_elim, List, [], ◌∷◌, length, take, get_or, Some, None, Ok, Err, refl, sym, ap, ◌∙◌, subst, arith}
+use Rattle.std.proofs.Common.{◌≡◌, ℕ, ◌+◌, ◌<◌, ◌≤◌, ◌^◌, Bool, true, false, ◌||◌, ⊎_elim, List, length, take, get_or, Some, None, Ok, Err, refl, sym, ap, ◌∙◌, subst, arith}
 use Rattle.std.specs.Prelude.{Option, Result, OnOk, OnErr, is_some, unwrap_or, if◌then◌else◌}
 use Rattle.std.proofs.lemmas.Bool.{cases_Bool}
 use Rattle.std.proofs.lemmas.List.{take_all}
@@ -9,7 +9,7 @@ use Rattle.osm_base.specs.declared.keys.Key.{Key}
 use Rattle.osm_base.specs.declared.memory.Memory.{Memory}
 use Rattle.osm_base.proofs.KeyOrder.{key_eq-same, key_eq-refl}
 use Rattle.osm_element.specs.declared.elements.Elements.{Elements}
-use Rattle.upload_check.specs.Overlay.{Notes, noted, IsNoted, standing_before, standing_in}
+use Rattle.upload_check.specs.Overlay.{Notes, noted, standing_before, standing_in}
 use Rattle.upload_check.specs.Effects.{user_counts, AreAsBefore, StayNoted, IsReady, AreReady, IsRevised}
 use Rattle.upload_check.specs.Users.{AreLowered}
 use Rattle.upload_check.specs.declared.standings.Holds.{Holds}
