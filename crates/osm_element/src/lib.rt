@@ -17,5 +17,4 @@ pub use contents::{Content, Member, Members, RawContent, Refs};
 pub use elements::{Elements, History};
 pub use faults::LocalFault;
 pub use labels::Tags;
-pub use references::refs_in;
 pub use versions::Version;

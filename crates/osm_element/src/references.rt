@@ -2,7 +2,7 @@
 ghost use Rattle.std.specs.Prelude.{◌≡◌, map, IfOk};
 ghost use Rattle.std.specs.List.{list_any};
 ghost use Rattle.osm_base.specs.Key.{key_eq, lists_key};
-ghost use Rattle.osm_element.specs.Elements.{key, key_of_member, refs, refs_in, refs_of};
+ghost use Rattle.osm_element.specs.Elements.{key, key_of_member, refs, refs_of};
 
 use crate::contents::{Content, Member};
 use crate::elements::Elements;
@@ -55,16 +55,6 @@ impl Elements {
             Some(content) => content.refs(alloc),
             None => Ok(Vec::new(alloc)),
         }
-    }
-}
-
-/// What a new version would list: nothing where it is a deletion.
-pub fn refs_in(alloc: Global, content: &Option<Content<u64>>) -> Result<Vec<Key>, Memory>
-    ensures { IfOk result (λ made. made.items ≡ refs_in content.now) }
-{
-    match content {
-        Some(content) => content.refs(alloc),
-        None => Ok(Vec::new(alloc)),
     }
 }
 
