@@ -1,8 +1,9 @@
 //! Hubs of the small machine, and what their sessions do there.
 ghost use Rattle.std.specs.Prelude.{◌≡◌, ◌<◌, false};
 
-use crate::listing::{Lack, Listing, Wish};
+use crate::listing::{Lack, Listing, Noted, Wish};
 use hub_core::Path;
+use machine_law::Tag;
 use osm_base::{Memory, Steps};
 use osm_outside::NoGate;
 use shared_front::HubName;
@@ -87,4 +88,12 @@ pub fn reads<N: HubName, R: Wait + Drop, L: Ledger>(
     }
     let bytes = session.ask(&place, 0, steps)?;
     Ok(bytes.as_slice().first().copied() == number)
+}
+
+/// The entry of a session's call.
+pub fn noted(session: u32, call: u64, number: u64, lack: Lack) -> Noted {
+    Noted {
+        tag: Tag { session, call },
+        wish: Wish { number, lack },
+    }
 }

@@ -1,7 +1,7 @@
 //! Rows of calls that find no memory.
 ghost use Rattle.std.specs.Prelude.{◌≡◌, false};
 
-use crate::hubs::{Given, ListHub, Standing, add, at, reads, standing_of};
+use crate::hubs::{Given, ListHub, Standing, add, at, noted, reads, standing_of};
 use crate::listing::{Lack, Noted};
 use osm_base::{Memory, Steps};
 use osm_outside::NoGate;
@@ -11,8 +11,8 @@ use std::alloc::Global;
 use std::sync::Wait;
 use std::sync::ledger::Ledger;
 
-/// Where a plan or a commit finds no memory, the journal and the session stay as they were, and the
-/// next commit goes on from there.
+/// Where a plan or a commit finds no memory, whichever call it is, the journal, the session and what
+/// others see stay as they were, and the next commit goes on from there.
 pub fn a_lack_changes_nothing<N: HubName, R: Wait, L: Ledger>(
     rt: &R,
     alloc: Global,
@@ -22,7 +22,7 @@ pub fn a_lack_changes_nothing<N: HubName, R: Wait, L: Ledger>(
     requires named { seats.opened ≡ N.book }
     requires seated { seats.sessions ≡ N.sessions }
 {
-    let (hub, mut sessions) = ListHub::<N, &R>::new(alloc, rt, seats, NoGate)?;
+    let (mut hub, mut sessions) = ListHub::<N, &R>::new(alloc, rt, seats, NoGate)?;
     let Some((first, rest)) = sessions.split_first_mut() else {
         return Ok(false);
     };
@@ -34,9 +34,14 @@ pub fn a_lack_changes_nothing<N: HubName, R: Wait, L: Ledger>(
         right &= add(rt, &hub, first, 2, *lack, steps).is_err();
         hub.freshen(rt, second)?;
         right &= standing_of(&hub, first) == at(1, 1) && standing_of(&hub, second) == at(1, 0);
+        right &= reads(&hub, second, 0, Some(1), steps)? && reads(&hub, second, 1, None, steps)?;
     }
     right &= add(rt, &hub, first, 3, Lack::Nothing, steps)? == Given::Added { place: 1 };
-    Ok(right && standing_of(&hub, first) == at(2, 2))
+    right &= standing_of(&hub, first) == at(2, 2);
+    let wanted = [noted(0, 1, 1, Lack::Nothing), noted(0, 2, 3, Lack::Nothing)];
+    let closer = hub.close();
+    let closing = closer.done();
+    Ok(right && closing.journal == wanted.as_slice())
 }
 
 /// The journal's world has refused room once, so it takes the entry when it comes again, and the copy
@@ -50,7 +55,7 @@ pub fn a_lack_in_publishing_is_a_debt<N: HubName, R: Wait, L: Ledger>(
     requires named { seats.opened ≡ N.book }
     requires seated { seats.sessions ≡ N.sessions }
 {
-    let (hub, mut sessions) = ListHub::<N, &R>::new(alloc, rt, seats, NoGate)?;
+    let (mut hub, mut sessions) = ListHub::<N, &R>::new(alloc, rt, seats, NoGate)?;
     let Some((first, rest)) = sessions.split_first_mut() else {
         return Ok(false);
     };
@@ -71,8 +76,15 @@ pub fn a_lack_in_publishing_is_a_debt<N: HubName, R: Wait, L: Ledger>(
     hub.settle(rt, first)?;
     right &= standing_of(&hub, first) == settled(2, 2, 2);
     right &= add(rt, &hub, first, 8, Lack::Nothing, steps)? == Given::Added { place: 2 };
-    right &= reads(&hub, second, 1, Some(6), steps)?;
-    Ok(right && reads(&hub, second, 2, Some(8), steps)?)
+    right &= reads(&hub, second, 1, Some(6), steps)? && reads(&hub, second, 2, Some(8), steps)?;
+    let wanted = [
+        noted(0, 1, 5, Lack::MakeRoom),
+        noted(0, 2, 6, Lack::Nothing),
+        noted(0, 3, 8, Lack::Nothing),
+    ];
+    let closer = hub.close();
+    let closing = closer.done();
+    Ok(right && closing.journal == wanted.as_slice())
 }
 
 fn owing(seen: u64, calls: u64, debts: u64) -> Standing {

@@ -1,7 +1,8 @@
-//! Rows of hubs over a small machine, on one thread and on two. What each must give stands beside it;
-//! docs/ROWS.md tells more.
+//! Rows of hubs and of a book over a small machine, on one thread and on two. What each must give
+//! stands beside it; docs/ROWS.md tells more.
 #![tactic(auto)]
 
+mod books;
 mod hubs;
 mod lacks;
 mod listing;

@@ -1,6 +1,7 @@
-//! All rows, each on a hub of its own.
+//! All rows, each on a hub or a book of its own.
 ghost use Rattle.std.specs.Prelude.{◌≡◌, ◌<◌};
 
+use crate::books::a_lack_leaves_book_and_outlet;
 use crate::lacks::{a_lack_changes_nothing, a_lack_in_publishing_is_a_debt};
 use crate::sessions::{
     a_new_hub_is_settled, a_plan_stands_no_longer, a_refused_command_is_no_call,
@@ -26,8 +27,8 @@ pub fn play_all<L: Ledger, R: Threads + Wait + Sync + Print>(
     requires parts { blank.parts ≡ L.parts }
     requires some { 0 < blank.parts }
 {
-    let (book, share) = blank.open::<L>();
-    let mut steps = Steps::of(book, share);
+    let (ledger, share) = blank.open::<L>();
+    let mut steps = Steps::of(ledger, share);
     let shown = freshening_shows_a_commit::<Brand, R, L>(rt, alloc, Seats::new(2), &mut steps);
     tally.note(rt, "freshening shows a commit", shown);
     let settled = a_new_hub_is_settled::<Brand, R>(rt, alloc, Seats::new(2));
@@ -42,6 +43,8 @@ pub fn play_all<L: Ledger, R: Threads + Wait + Sync + Print>(
     tally.note(rt, "a lack changes nothing", lacks);
     let debts = a_lack_in_publishing_is_a_debt::<Brand, R, L>(rt, alloc, Seats::new(2), &mut steps);
     tally.note(rt, "a lack in publishing is a debt", debts);
+    let book = a_lack_leaves_book_and_outlet::<L>(alloc, &mut steps);
+    tally.note(rt, "a lack leaves book and outlet", book);
     let threads = two_threads_add::<Brand, R>(rt, alloc, Seats::new(2));
     tally.note(rt, "two threads add", threads);
 }

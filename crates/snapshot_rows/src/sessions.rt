@@ -1,10 +1,9 @@
 //! Rows of one or two sessions on one thread.
 ghost use Rattle.std.specs.Prelude.{◌≡◌, false};
 
-use crate::hubs::{Given, ListHub, add, at, reads, standing_of};
+use crate::hubs::{Given, ListHub, add, at, noted, reads, standing_of};
 use crate::listing::{Lack, Noted, Wish};
 use hub_core::Path;
-use machine_law::Tag;
 use osm_base::{Memory, Steps};
 use osm_outside::NoGate;
 use shared_front::HubName;
@@ -136,16 +135,10 @@ pub fn a_session_ends_twice<N: HubName, R: Wait, L: Ledger>(
     let closing = closer.done();
     let mut right = once == End::Matched && twice == End::Matched && second.seen() == 2;
     right &= closing.ends == [End::Matched, End::Matched].as_slice();
-    Ok(right && closing.journal == [noted(1, 3), noted(0, 4)].as_slice())
+    Ok(right && closing.journal == [first_noted(1, 3), first_noted(0, 4)].as_slice())
 }
 
 // The first entry of a session.
-fn noted(session: u32, number: u64) -> Noted {
-    Noted {
-        tag: Tag { session, call: 1 },
-        wish: Wish {
-            number,
-            lack: Lack::Nothing,
-        },
-    }
+fn first_noted(session: u32, number: u64) -> Noted {
+    noted(session, 1, number, Lack::Nothing)
 }
