@@ -1,15 +1,19 @@
 //! Two workers whose uploads cross: each is planned before the other is committed.
 ghost use Rattle.std.specs.Prelude.{◌≡◌};
 
+use crate::gates::{Come, Crossing, Hold};
 use crate::ports::port;
-use crate::replies::reply;
-use crate::texts::{CREATION, USERS};
+use crate::replies::reply_of;
+use crate::texts::{
+    BOBS_CREATION, CREATION, DELETION, NODE_UPLOAD, OTHER_UPLOAD, SECOND_UPLOADED, UPLOADED, USED,
+    USERS, WAY_UPLOAD, WAY_UPLOADED,
+};
 use api_desk::{HubDesk, MapHub, MapSession};
 use http_link::LinkEnd;
 use link_workers::{Service, Worker, serve_all};
 use osm_base::Memory;
 use osm_model::Entry;
-use osm_outside::{Gate, Link, MemPort, Outside, Point};
+use osm_outside::{Link, MemPort, Outside};
 use osm_serve::serve_link;
 use row_tally::Tally;
 use shared_front::HubName;
@@ -17,87 +21,68 @@ use snapshot_hub::Seats;
 use std::alloc::Global;
 use std::marker::Brand;
 use std::sync::Wait;
-use std::sync::atomic::{AtomicU64, Ordering};
-use std::thread;
 use std::thread::Threads;
 use user_table::UserTable;
 
-/// How often a session that is held looks whether it may go on.
-const TURNS: u32 = 10_000_000;
+const OK: &str = "200 OK";
 
-/// How often the two sessions came to a point.
-#[derive(Drop)]
-struct Visits {
-    first: AtomicU64,
-    second: AtomicU64,
-}
+/// Session 1 creates its changeset behind session 0, plans its upload behind the other's plan, and
+/// commits it before the other.
+const UPLOADS_CROSS: [Hold; 3] = [
+    Hold {
+        session: 1,
+        plan: 1,
+        until: Come::Answered {
+            session: 0,
+            times: 1,
+        },
+    },
+    Hold {
+        session: 1,
+        plan: 2,
+        until: Come::Planned {
+            session: 0,
+            times: 2,
+        },
+    },
+    Hold {
+        session: 0,
+        plan: 2,
+        until: Come::Answered {
+            session: 1,
+            times: 2,
+        },
+    },
+];
 
-impl Visits {
-    fn none() -> Visits {
-        Visits {
-            first: AtomicU64::new(0),
-            second: AtomicU64::new(0),
-        }
-    }
-
-    fn of(&self, session: u32) -> &AtomicU64 {
-        if session == 0 {
-            &self.first
-        } else {
-            &self.second
-        }
-    }
-}
-
-/// A gate that holds session 1 at its first plan until session 0 has its changeset, each at its
-/// second plan until the other one has planned too, and session 0 there until session 1 is answered.
-#[derive(Drop)]
-struct Crossing {
-    planned: Visits,
-    answered: Visits,
-    /// How many holds ran out of turns.
-    late: AtomicU64,
-}
-
-impl Crossing {
-    fn new() -> Crossing {
-        Crossing {
-            planned: Visits::none(),
-            answered: Visits::none(),
-            late: AtomicU64::new(0),
-        }
-    }
-
-    fn wait(&self, visits: &AtomicU64, wanted: u64) {
-        for _ in 0..TURNS {
-            if visits.load(Ordering::SeqCst) >= wanted {
-                return;
-            }
-            thread::yield_now();
-        }
-        self.late.fetch_add(1, Ordering::SeqCst);
-    }
-}
-
-impl Gate for Crossing {
-    fn at(&self, point: Point) {
-        match point {
-            Point::Planned { session } => {
-                let before = self.planned.of(session).fetch_add(1, Ordering::SeqCst);
-                match (session, before) {
-                    (0, 1) => self.wait(self.answered.of(1), 2),
-                    (1, 0) => self.wait(self.answered.of(0), 1),
-                    (1, 1) => self.wait(self.planned.of(0), 2),
-                    _ => {}
-                }
-            }
-            Point::Answered { session } => {
-                self.answered.of(session).fetch_add(1, Ordering::SeqCst);
-            }
-            Point::Committed { session: _ } => {}
-        }
-    }
-}
+/// Session 1 creates its changeset once session 0 has its node, plans its way behind the plan of that
+/// node's deletion, and commits it before the deletion.
+const WAY_COMES_FIRST: [Hold; 3] = [
+    Hold {
+        session: 1,
+        plan: 1,
+        until: Come::Answered {
+            session: 0,
+            times: 2,
+        },
+    },
+    Hold {
+        session: 1,
+        plan: 2,
+        until: Come::Planned {
+            session: 0,
+            times: 3,
+        },
+    },
+    Hold {
+        session: 0,
+        plan: 3,
+        until: Come::Answered {
+            session: 1,
+            times: 2,
+        },
+    },
+];
 
 /// Serves each link by a desk of its own, which has the worker's session meanwhile.
 #[derive(Drop)]
@@ -147,47 +132,106 @@ fn serve_at<N: HubName, R: Wait + Drop, W: Wait, L: Link>(
     }
 }
 
-/// The upload of a node to that changeset.
-fn upload(alloc: Global, changeset: u64) -> Result<String, Memory> {
-    let body =
-        "{\"osmChange\":[{\"create\":[{\"type\":\"node\",\"id\":-1,\"lat7\":481400000,\"lon7\":1}]}]}";
-    let length = body.len();
+/// A request, and the status and the body of the reply that it must get.
+#[derive(Clone, Copy)]
+struct Turn {
+    sent: &'static str,
+    status: &'static str,
+    body: &'static str,
+}
+
+/// Both sessions upload a node to their changesets. That of session 1 comes first.
+const FIRST_UPLOADS: [Turn; 2] = [
+    Turn {
+        sent: CREATION,
+        status: OK,
+        body: "1",
+    },
+    Turn {
+        sent: NODE_UPLOAD,
+        status: OK,
+        body: SECOND_UPLOADED,
+    },
+];
+
+const SECOND_UPLOADS: [Turn; 2] = [
+    Turn {
+        sent: CREATION,
+        status: OK,
+        body: "2",
+    },
+    Turn {
+        sent: OTHER_UPLOAD,
+        status: OK,
+        body: UPLOADED,
+    },
+];
+
+/// Session 0 makes a node and deletes it. A way of session 1 has come to list it meanwhile.
+const FIRST_DELETES: [Turn; 3] = [
+    Turn {
+        sent: CREATION,
+        status: OK,
+        body: "1",
+    },
+    Turn {
+        sent: NODE_UPLOAD,
+        status: OK,
+        body: UPLOADED,
+    },
+    Turn {
+        sent: DELETION,
+        status: "412 Precondition Failed",
+        body: USED,
+    },
+];
+
+const SECOND_LISTS: [Turn; 2] = [
+    Turn {
+        sent: BOBS_CREATION,
+        status: OK,
+        body: "2",
+    },
+    Turn {
+        sent: WAY_UPLOAD,
+        status: OK,
+        body: WAY_UPLOADED,
+    },
+];
+
+/// What must be written on the link of these turns.
+fn wanted(alloc: Global, turns: &[Turn]) -> Result<String, Memory> {
     let mut text = String::new(alloc);
-    write!(
-        text,
-        "POST /api/0.6/changeset/{changeset}/upload HTTP/1.1\r\nAuthorization: Bearer alicetoken\r\nContent-Length: {length}\r\n\r\n{body}"
-    )?;
+    for turn in turns {
+        let reply = reply_of(alloc, turn.status, turn.body, false)?;
+        text.push_str(reply.as_str())?;
+    }
     Ok(text)
 }
 
-/// What a link must have got: the number of its changeset, and the id of its node.
-fn wanted(alloc: Global, changeset: &str, node: u64) -> Result<String, Memory> {
-    let mut body = String::new(alloc);
-    write!(
-        body,
-        "{{\"diffResult\":[{{\"new_id\":{node},\"new_version\":1,\"old_id\":-1,\"type\":\"node\"}}],\"version\":\"0.6\"}}"
-    )?;
-    let mut both = reply(alloc, changeset, false)?;
-    both.push_str(reply(alloc, body.as_str(), false)?.as_str())?;
-    Ok(both)
-}
-
-fn got(port: Option<&MemPort>, wanted: &str) -> bool {
-    let Some(port) = port else {
-        return false;
-    };
+/// Whether the one link of the port got what it must.
+fn got(alloc: Global, port: &MemPort, turns: &[Turn]) -> Result<bool, Memory> {
+    let wanted = wanted(alloc, turns)?;
     let served = port.served();
-    served.len() == 1
+    let is_right = served.len() == 1
         && served
             .iter()
-            .all(|link| link.written() == wanted.as_bytes())
+            .all(|link| link.written() == wanted.as_bytes());
+    Ok(is_right)
 }
 
-/// Whether both uploads were accepted, that of session 1 first.
-fn both_got(alloc: Global, ports: &[MemPort]) -> Result<bool, Memory> {
-    let first = wanted(alloc, "1", 2)?;
-    let second = wanted(alloc, "2", 1)?;
-    Ok(ports.len() == 2 && got(ports.first(), first.as_str()) && got(ports.last(), second.as_str()))
+/// The turns of a session.
+fn turns_of<'t>(talks: &[&'t [Turn]], session: usize) -> &'t [Turn] {
+    talks.get(session).copied().unwrap_or(&[])
+}
+
+fn all_got(alloc: Global, ports: &[MemPort], talks: &[&[Turn]]) -> Result<bool, Memory> {
+    for (session, port) in ports.iter().enumerate() {
+        if !got(alloc, port, turns_of(talks, session))? {
+            return Ok(false);
+        }
+    }
+    Ok(ports.len() == talks.len())
 }
 
 /// The ports of workers, in their order.
@@ -199,39 +243,57 @@ fn ports_of<S: Drop, P: Drop>(alloc: Global, workers: Vec<Worker<S, P>>) -> Resu
     Ok(ports)
 }
 
-/// A worker for each session, with one link that creates a changeset and uploads a node to it.
+/// A port with one link, which sends the requests of these turns.
+fn port_of(alloc: Global, turns: &[Turn]) -> Result<MemPort, Memory> {
+    let mut sent = Vec::new(alloc);
+    for turn in turns {
+        sent.push(turn.sent)?;
+    }
+    port(alloc, 1, sent.as_slice(), &[])
+}
+
+/// A worker for each session, with one link.
 fn seats_of<N: HubName, R: Wait + Drop>(
     alloc: Global,
     _hub: &MapHub<N, Crossing, R>,
     sessions: Vec<MapSession<N>>,
+    talks: &[&[Turn]],
 ) -> Result<Vec<Worker<Option<MapSession<N>>, MemPort>>, Memory> {
     let mut workers = Vec::new(alloc);
-    let mut changeset = 1_u64;
     for session in sessions {
-        let upload = upload(alloc, changeset)?;
-        let port = port(alloc, 1, &[CREATION, upload.as_str()], &[])?;
+        let port = port_of(alloc, turns_of(talks, workers.len()))?;
         workers.push(Worker {
             session: Some(session),
             port,
             failed: false,
         })?;
-        changeset = changeset.saturating_add(1);
     }
     Ok(workers)
 }
 
-/// Whether each upload is accepted: that of session 1 first, though it was planned last.
+/// What came of two sessions that crossed.
+#[derive(Clone, Copy)]
+struct Crossed {
+    /// Whether each link got what it must.
+    is_right: bool,
+    /// Whether no wait ran out of turns.
+    is_in_time: bool,
+}
+
+/// Serves both links, each on a thread of its own.
 fn cross<N: HubName + Send + Sync, R: Threads + Wait + Sync>(
     rt: &R,
     alloc: Global,
     users: &UserTable,
     seats: Seats<Entry>,
-) -> Result<bool, Memory>
+    holds: [Hold; 3],
+    talks: &[&[Turn]],
+) -> Result<Crossed, Memory>
     requires named { seats.opened ≡ N.book }
     requires seated { seats.sessions ≡ N.sessions }
 {
-    let (hub, sessions) = MapHub::<N, Crossing, &R>::new(alloc, rt, seats, Crossing::new())?;
-    let mut workers = seats_of(alloc, &hub, sessions)?;
+    let (hub, sessions) = MapHub::<N, Crossing, &R>::new(alloc, rt, seats, Crossing::new(holds))?;
+    let mut workers = seats_of(alloc, &hub, sessions, talks)?;
     let service = CrossingService {
         rt,
         hub: &hub,
@@ -239,17 +301,50 @@ fn cross<N: HubName + Send + Sync, R: Threads + Wait + Sync>(
     };
     serve_all(rt, alloc, &service, workers.as_mut_slice());
     let ports = ports_of(alloc, workers)?;
-    let is_late = hub.gate().late.load(Ordering::SeqCst) > 0;
-    Ok(both_got(alloc, ports.as_slice())? && !is_late)
+    Ok(Crossed {
+        is_right: all_got(alloc, ports.as_slice(), talks)?,
+        is_in_time: hub.gate().is_in_time(),
+    })
 }
 
-fn two_uploads_cross<R: Threads + Wait + Sync>(rt: &R, alloc: Global) -> Result<bool, Memory> {
+fn cross_with_users<R: Threads + Wait + Sync>(
+    rt: &R,
+    alloc: Global,
+    holds: [Hold; 3],
+    talks: &[&[Turn]],
+) -> Result<Crossed, Memory> {
     match UserTable::read(alloc, USERS.as_bytes()) {
-        Ok(users) => cross::<Brand, R>(rt, alloc, &users, Seats::new(2)),
-        Err(_) => Ok(false),
+        Ok(users) => cross::<Brand, R>(rt, alloc, &users, Seats::new(2), holds, talks),
+        Err(_) => Ok(Crossed {
+            is_right: false,
+            is_in_time: true,
+        }),
     }
 }
 
+/// A wait that ran out of turns is a row of its own.
+fn note<R: Print>(rt: &R, tally: &mut Tally, names: [&str; 2], crossed: Result<Crossed, Memory>) {
+    let (right, in_time) = match crossed {
+        Ok(crossed) => (Ok(crossed.is_right), Ok(crossed.is_in_time)),
+        Err(Memory) => (Err(Memory), Err(Memory)),
+    };
+    tally.note(rt, names[0], right);
+    tally.note(rt, names[1], in_time);
+}
+
 pub fn play<R: Threads + Wait + Sync + Print>(rt: &R, alloc: Global, tally: &mut Tally) {
-    tally.note(rt, "two uploads that cross", two_uploads_cross(rt, alloc));
+    let talks = [FIRST_UPLOADS.as_slice(), SECOND_UPLOADS.as_slice()];
+    let uploads = cross_with_users(rt, alloc, UPLOADS_CROSS, talks.as_slice());
+    let names = [
+        "two uploads that cross",
+        "two uploads that cross: each wait is within its turns",
+    ];
+    note(rt, tally, names, uploads);
+    let talks = [FIRST_DELETES.as_slice(), SECOND_LISTS.as_slice()];
+    let way = cross_with_users(rt, alloc, WAY_COMES_FIRST, talks.as_slice());
+    let names = [
+        "a delete of a node that a way came to list",
+        "a delete of a node that a way came to list: each wait is within its turns",
+    ];
+    note(rt, tally, names, way);
 }
