@@ -3,15 +3,19 @@
 from __future__ import annotations
 
 import collections
+import functools
 import json
 import os
 import re
 import subprocess
 import tempfile
-from concurrent.futures import ThreadPoolExecutor
+from collections.abc import Iterable
+from concurrent.futures import ProcessPoolExecutor
+from itertools import repeat
+from typing import NamedTuple
 
 import jsonschema
-from described import Description, fault
+from described import Description, Operation, fault
 from messages import Asked, Came, replies_of, requests_of
 from session_rows import Row, row_of, rows_of
 
@@ -32,6 +36,7 @@ class Unfit(Exception):
     """What doesn't fit."""
 
 
+@functools.cache
 def description(top: str) -> Description:
     return Description(os.path.join(top, "docs", "openapi.yaml"))
 
@@ -91,73 +96,88 @@ def answered(program: str, row: Row) -> bytes:
         return subprocess.run(words, input=row.sent, capture_output=True, timeout=60, check=False).stdout
 
 
-class Sessions:
-    """What was found so far: which operations were answered with 200, and which errors came."""
+class Found(NamedTuple):
+    """Which operations were answered with 200, which errors came, and how many replies there were."""
 
-    def __init__(self, described: Description) -> None:
-        self.described = described
-        self.operations: set[str] = set()
-        self.errors: set[str] = set()
-
-    def look(self, row: Row, replies: bytes) -> int:
-        """Looks at a row's requests with these replies, and counts them."""
-        asked, came = list(requests_of(row.sent)), list(replies_of(replies))
-        for request, reply in zip(asked, came, strict=False):
-            self.look_at(row.name, request, reply)
-        if len(came) > len(asked):
-            raise Unfit(f"row {row.name}: more replies than requests")
-        return len(came)
-
-    def look_at(self, name: str, request: Asked, reply: Came) -> None:
-        why = self.described.reply_fault(request, reply) or self.request_fault(request, reply)
-        if why:
-            what = f"{request.method} {request.target[:100]} is answered {reply.status} {reply.body[:200]!r}"
-            raise Unfit(f"row {name}: {what}: {why}")
-
-    def request_fault(self, request: Asked, reply: Came) -> str:
-        """Why a request that was accepted isn't one that is described, or nothing. Counts what came."""
-        operation = self.described.operation(request)
-        if reply.status != 200:
-            why = reply.read()
-            self.errors.add(why["error"])
-            is_other = operation is not None and why.get("name", "") not in ("", *operation.parameters())
-            return "it has no such parameter" if is_other else ""
-        if operation is None:
-            return "there is no such operation"
-        self.operations.add(operation.name())
-        return self.described.request_fault(operation, request)
-
-    def unseen(self) -> str:
-        """Which operations and errors of the file never came, past those that can't."""
-        schemas = self.described.written["components"]["schemas"]
-        errors = {it["properties"]["error"]["enum"][0] for name, it in schemas.items() if name.endswith("Error")}
-        names = {it.name() for it in self.described.operations}
-        return ", ".join(sorted(names - self.operations) + sorted(errors - self.errors - UNSEEN))
+    operations: set[str]
+    errors: set[str]
+    replies: int
 
 
-def crowded(program: str, found: Sessions) -> None:
+def accepted_fault(described: Description, operation: Operation | None, request: Asked) -> str:
+    """Why a request that was answered with 200 isn't one that is described, or nothing."""
+    return described.request_fault(operation, request) if operation else "there is no such operation"
+
+
+def refused_fault(operation: Operation | None, reply: Came) -> str:
+    """Why a refusal names a parameter that the operation hasn't, or nothing."""
+    name = reply.read().get("name", "")
+    return f"it has no parameter {name}" if operation and name and name not in operation.parameters() else ""
+
+
+def look_at(described: Description, name: str, request: Asked, reply: Came) -> Found:
+    """Looks at a request and its reply."""
+    operation, is_done = described.operation(request), reply.status == 200
+    why = described.reply_fault(request, reply)
+    why = why or (accepted_fault(described, operation, request) if is_done else refused_fault(operation, reply))
+    if why:
+        what = f"{request.method} {request.target[:100]} is answered {reply.status} {reply.body[:200]!r}"
+        raise Unfit(f"row {name}: {what}: {why}")
+    return Found({operation.name()} if operation and is_done else set(), set() if is_done else {reply.read()["error"]}, 1)
+
+
+def together(parts: Iterable[Found]) -> Found:
+    made = Found(set(), set(), 0)
+    for it in parts:
+        made = Found(made.operations | it.operations, made.errors | it.errors, made.replies + it.replies)
+    return made
+
+
+def look(described: Description, row: Row, replies: bytes) -> Found:
+    """Looks at a row's requests with these replies."""
+    asked, came = list(requests_of(row.sent)), list(replies_of(replies))
+    if len(came) > len(asked):
+        raise Unfit(f"row {row.name}: more replies than requests")
+    return together(look_at(described, row.name, *pair) for pair in zip(asked, came, strict=False))
+
+
+def played(top: str, program: str, row: Row) -> Found:
+    """Has the program answer a row, and looks at what came. Where the row has its own clock, also at what it wants."""
+    described, replies = description(top), answered(program, row)
+    if row.moments:
+        look(described, row, row.wanted)
+    elif replies != row.wanted:
+        raise Unfit(f"row {row.name}: other replies than it wants: {replies[:300]!r}")
+    return look(described, row, replies)
+
+
+def crowded(top: str, program: str) -> Found:
     """Looks at the refusal of a box with too many nodes."""
     row = row_of(CROWDED)
     *_, request = requests_of(row.sent)
     *_, reply = replies_of(answered(program, row))
     if reply.read() != TOO_MANY:
         raise Unfit(f"{row.name}: {reply.status} {reply.body[:200]!r}")
-    found.look_at(row.name, request, reply)
+    return look_at(description(top), row.name, request, reply)
+
+
+def unseen(described: Description, found: Found) -> str:
+    """Which operations and errors of the file never came, past those that can't."""
+    schemas = described.written["components"]["schemas"]
+    errors = {it["properties"]["error"]["enum"][0] for name, it in schemas.items() if name.endswith("Error")}
+    names = {it.name() for it in described.operations}
+    return ", ".join(sorted(names - found.operations) + sorted(errors - found.errors - UNSEEN))
 
 
 def sessions(top: str, program: str) -> str:
     rows = [it for it in rows_of(os.path.join(top, "crates", "session_rows", "stdin")) if it.is_session()]
-    found, count = Sessions(description(top)), 0
-    with ThreadPoolExecutor(os.cpu_count()) as pool:
-        for row, replies in zip(rows, pool.map(lambda row: answered(program, row), rows), strict=True):
-            if not row.moments and replies != row.wanted:
-                raise Unfit(f"row {row.name}: other replies than it wants: {replies[:300]!r}")
-            if row.moments:
-                found.look(row, row.wanted)
-            count += found.look(row, replies)
-    crowded(program, found)
-    if unseen := found.unseen():
-        raise Unfit(f"never answered: {unseen}")
+    rows.sort(key=lambda row: -len(row.sent) - len(row.wanted))
+    with ProcessPoolExecutor() as pool:
+        last = pool.submit(crowded, top, program)
+        found = together(pool.map(played, repeat(top), repeat(program), rows))
+        count, found = found.replies, together((found, last.result()))
+    if never := unseen(description(top), found):
+        raise Unfit(f"never answered: {never}")
     return (
         f"{len(rows)} sessions, {count:,} replies; each fits, and so does each request that was accepted; "
         f"each operation was answered with 200, and each error came but {', '.join(UNSEEN)}"
