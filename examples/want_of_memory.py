@@ -455,9 +455,10 @@ class Serve(Talk):
                 return Told([], {}), status_of(process)
             self.told = Told([], {})
             try:
-                return self.served(port, first, then), process.poll()
+                told = self.served(port, first, then)
             except Lost:
                 return self.told, status_of(process)
+            return told, process.poll() if len(told.replies) == len(self.asked) else status_of(process)
 
     def served(self, port: int, first: Way, then: Then) -> Told:
         """The requests, by this link and another one in turn; then the workers are seen to answer."""
