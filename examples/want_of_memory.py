@@ -15,10 +15,10 @@ serve    every call, by two links in turn
 
 A request that is refused for want of memory, or whose link ended, is asked again, but not in `file` and `hub`.
 All other replies must then be those of a run without refusal, byte for byte (of `serve` but for moments); or,
-where the refused request is a command that this run accepts, they are so where a read is asked in its place:
-then it was kept. In `file` this holds of the replies before the first 503, in `hub` the entries and the refused replies are
-all replies, or one more. Each run must end within 10 seconds with a documented status, and no reply may be cut. Status 0 where all of it
-holds, 1 where something doesn't.
+where the refused request is a command that this run accepts, they are so where a read is asked in its place: then
+it was kept. In `file` this holds of the replies before the first 503. In `hub` the entries and the refused
+replies are all replies, or one more. Each run must end within 10 seconds with a documented status, and no reply
+may be cut. Status 0 where all of it holds, 1 where something doesn't.
 """
 
 from __future__ import annotations
