@@ -15,8 +15,8 @@ serve    every call, by two links in turn
 
 A request that is refused for want of memory, or whose link ended, is asked again, but not in `file` and `hub`.
 All other replies must then be those of a run without refusal, byte for byte (of `serve` but for moments); or,
-where the refused request is a command that this run accepts, they are so where a read is asked in its place: then
-it was kept. In `file` this holds of the replies before the first 503. In `hub` the entries and the refused
+where the refused request is a command that this run accepts, those of a run without refusal in which it is sent
+twice: then it was kept. In `file` this holds of the replies before the first 503. In `hub` the entries and the refused
 replies are all replies, or one more. Each run must end within 10 seconds with a documented status, and no reply
 may be cut. Status 0 where all of it holds, 1 where something doesn't.
 """
@@ -25,7 +25,6 @@ from __future__ import annotations
 
 import argparse
 import collections
-import enum
 import multiprocessing
 import os
 import re
@@ -114,7 +113,6 @@ REFUSED = [
     "nobody GET changesets?open=true&bbox=11,48,12,49",
     "nobody GET changeset/2/download",
 ]
-READ = request("GET", "node/1")
 CODED = b"GET /api/0.6/node/1 HTTP/1.1\r\nTransfer-Encoding: chunked\r\n\r\n"
 
 
@@ -168,7 +166,8 @@ class Part:
         finally:
             process.kill()
             process.wait()
-            self.reached = os.read(told, 1) == b"r"
+            if at:
+                self.reached = os.read(told, 1) == b"r"
             os.close(told)
 
     def run(self, at: int) -> tuple[bool, str]:
@@ -243,15 +242,6 @@ class Measure(Alone):
 # ---- requests and their replies
 
 
-class Then(enum.Enum):
-    """What is asked on the same link where a request was refused for want of memory. A read first publishes what
-    the link's session owes, so that other links see it too."""
-
-    NOTHING = 0
-    AGAIN = 1
-    READ = 2
-
-
 class Told(NamedTuple):
     """The last reply to each request, None where its link ended without one, and how requests were refused for
     want of memory."""
@@ -270,18 +260,17 @@ def ways_of(told: Told) -> str:
     return ", ".join(sorted(set(told.refused.values())))
 
 
-def converse(ask: Callable[[int, bytes], Reply | None], asked: list[bytes], then: Then) -> Told:
-    """Asks one after the other. `ask` raises Lost where nothing more can be asked."""
+def converse(ask: Callable[[int, bytes], Reply | None], asked: list[bytes], again: bool, twice: int) -> Told:
+    """Asks one after the other; again what was refused for want of memory, where that is said, and that of the
+    number `twice`. `ask` raises Lost where nothing more can be asked."""
     told = Told([], {})
     try:
         for i, one in enumerate(asked):
             reply = ask(i, one)
             if refusal(reply):
                 told.refused[i] = refusal(reply)
-                if then == Then.AGAIN:
-                    reply = ask(i, one)
-                elif then == Then.READ:
-                    ask(i, READ)
+            if i == twice or (again and refusal(reply)):
+                reply = ask(i, one)
             told.replies.append(reply)
     except Lost:
         pass
@@ -325,14 +314,14 @@ class Talk(Part):
 
     def __init__(self, it: Setting) -> None:
         super().__init__(it)
-        self.usual, self.usual_status = self.talk(0, Then.NOTHING)
+        self.usual, self.usual_status = self.talk(0, False)
 
-    def talk(self, at: int, then: Then) -> tuple[Told, int | None]:
+    def talk(self, at: int, again: bool, twice: int = -1) -> tuple[Told, int | None]:
         """What came, and the status, None where the program runs on."""
         raise NotImplementedError
 
     def outcome(self, at: int) -> str:
-        told, status = self.talk(at, Then.AGAIN)
+        told, status = self.talk(at, True)
         whole = len(told.replies) == len(self.asked)
         if status != NO_MEMORY and (status != self.usual_status or not whole):
             raise Wrong(f"status {status} after {len(told.replies)} replies")
@@ -350,35 +339,27 @@ class Talk(Part):
         return f"{how}, asked again, then all as usual" if how and whole else how or "all as usual"
 
     def kept(self, at: int, told: Told, wrong: int) -> str:
-        """What was refused is an accepted command, and where a read follows it in place of the same all is as usual."""
+        """What was refused is an accepted command, and all is as where nothing is refused and that is asked twice."""
         refused = next(iter(told.refused), 0)
-        other = self.same_refused(at, refused)
+        other, _ = self.talk(0, False, refused)
         usual = self.usual.replies[refused]
         is_command = not self.asked[refused].startswith(b"GET") and usual and usual.status == 200
-        if not is_command or other is None or differing(other, self.usual) is not None:
+        if not is_command or len(told.refused) != 1 or differing(told, other) is not None:
             raise Wrong(f"reply {wrong} is {told.replies[wrong]}, and refused were {told.refused}")
         return f"{ways_of(told)}, and the command was kept, once and whole"
-
-    def same_refused(self, at: int, refused: int) -> Told | None:
-        """A run that asks nothing again, in which the same request is refused: with threads it may be another one."""
-        for _ in range(10):
-            told, _ = self.talk(at, Then.READ)
-            if list(told.refused) == [refused]:
-                return told
-        return None
 
 
 class Pipe(Talk):
     asked = [*calls(), *map(call, REFUSED), CODED]
 
-    def talk(self, at: int, then: Then) -> tuple[Told, int | None]:
+    def talk(self, at: int, again: bool, twice: int = -1) -> tuple[Told, int | None]:
         ours, its = socket.socketpair()
         words = ["pipe", "--at", "1700000000", "--users", f"{self.it.folder}/users"]
         with ours, self.started(at, words, stdin=its, stdout=its) as process:
             its.close()
             ours.settimeout(WAIT)
             replies = Replies(ours)
-            told = converse(lambda _, asked: self.ask(ours, replies, asked), self.asked, then)
+            told = converse(lambda _, asked: self.ask(ours, replies, asked), self.asked, again, twice)
             ours.shutdown(socket.SHUT_WR)
             if next_of(ours, replies, b""):
                 raise Wrong("more replies than requests")
@@ -446,7 +427,7 @@ class Serve(Talk):
     asked = list(calls())
     users = "users"
 
-    def talk(self, at: int, then: Then) -> tuple[Told, int | None]:
+    def talk(self, at: int, again: bool, twice: int = -1) -> tuple[Told, int | None]:
         port = free_port()
         words = ["serve", "--users", f"{self.it.folder}/{self.users}", "--listen", f"127.0.0.1:{port}", "--workers", "2"]
         with self.started(at, words) as process:
@@ -455,15 +436,15 @@ class Serve(Talk):
                 return Told([], {}), status_of(process)
             self.told = Told([], {})
             try:
-                told = self.served(port, first, then)
+                told = self.served(port, first, again, twice)
             except Lost:
                 return self.told, status_of(process)
             return told, process.poll() if len(told.replies) == len(self.asked) else status_of(process)
 
-    def served(self, port: int, first: Way, then: Then) -> Told:
+    def served(self, port: int, first: Way, again: bool, twice: int = -1) -> Told:
         """The requests, by this link and another one in turn; then the workers are seen to answer."""
         ways = [first, Way(port)]
-        self.told = converse(lambda i, asked: ways[i % 2].ask(asked), self.asked, then)
+        self.told = converse(lambda i, asked: ways[i % 2].ask(asked), self.asked, again, twice)
         self.look(ways)
         for way in ways:
             way.stream.close()
@@ -507,7 +488,7 @@ class Hub(Serve):
     users = "load_users"
 
     def outcome(self, at: int) -> str:
-        told, status = self.talk(at, Then.NOTHING)
+        told, status = self.talk(at, False)
         if status == NO_MEMORY and not any(told.replies):
             return "status 5 before any reply"
         if status is not None:
