@@ -4,9 +4,11 @@
 
 Starts `PROGRAM serve` on a free port and does to it what no client should: a request that comes a byte a
 second, replies that nobody reads, links that end in the middle of a head, a body or a reply, thousands of
-links at once, random bytes, and large bodies on many links. After each the workers still answer, all at the
-same time, no descriptor is left open (after `patience` seconds at most), and the map is as it was, but for
-the uploads that were accepted. Status 0 where all of it holds, 1 where something doesn't.
+links at once, random bytes, large bodies on many links, and as many silent links as there are workers. After
+each the workers still answer, all at the same time, no descriptor is left open (after `patience` seconds at
+most), and the map is as it was, but for the uploads that were accepted. In the end the map is read back whole:
+every version stands in one changeset and in its element's history, in order, and what is visible names nothing
+that isn't. Status 0 where all of it holds, 1 where something doesn't.
 """
 
 from __future__ import annotations
@@ -23,7 +25,9 @@ import threading
 import time
 from collections.abc import Callable
 from concurrent.futures import ThreadPoolExecutor
+from multiprocessing.pool import ThreadPool
 
+import many_clients
 import serving
 from serving import Link, Replies, Server, connect, request
 
@@ -223,8 +227,26 @@ class Siege:
         held = f"at most {self.server.megabytes('VmHWM'):.0f} MB held"
         return f"{len(data):,} bytes on each of {self.it.bodies} links, {statuses.count(200)} accepted, {held}"
 
+    def silent(self) -> str:
+        """A link for each worker that says nothing, or half a head and then nothing. They stay open."""
+        self.silence = [connect(self.port) for _ in range(self.server.workers)]
+        for stream in self.silence[::2]:
+            stream.sendall(request("GET", BOX)[:20])
+        return f"{len(self.silence)} links that say nothing, or half a head"
+
+    def legal(self) -> str:
+        """All changesets, downloads and histories: how many versions there are."""
+        with ThreadPool(4) as pool:
+            found = many_clients.Map(pool, self.port, 4)
+        for fault in many_clients.check_histories(found):
+            self.say(fault)
+        rows = [(row["id"], row["changes_count"], len(found.downloads[row["id"]])) for row in found.rows]
+        if any(count != made for _, count, made in rows) or len(found.versions) != self.nodes:
+            self.say(f"changesets with their counts and versions: {rows}, and {self.nodes} nodes were accepted")
+        return f"{len(found.versions)} versions in {len(rows)} changesets"
+
     def all(self) -> int:
-        for name in ("cut", "flood", "noise", "bodies", "deaf", "drip"):
+        for name in ("cut", "flood", "noise", "bodies", "deaf", "drip", "silent", "legal"):
             began = time.monotonic()
             what: Callable[[], str] = getattr(self, name)
             try:

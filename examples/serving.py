@@ -43,14 +43,21 @@ def connect(port: int, wait: float = 120) -> socket.socket:
     return stream
 
 
-class Replies:
-    """The replies that come on a stream, one after another."""
+def free_port() -> int:
+    with socket.socket() as free:
+        free.bind(("127.0.0.1", 0))
+        port: int = free.getsockname()[1]
+    return port
 
-    def __init__(self, stream: socket.socket) -> None:
-        self.stream, self.held = stream, b""
+
+class Replies:
+    """The replies that come on a stream, one after another, behind the bytes that are held already."""
+
+    def __init__(self, stream: socket.socket | None, held: bytes = b"") -> None:
+        self.stream, self.held = stream, held
 
     def more(self) -> None:
-        part = self.stream.recv(1 << 20)
+        part = self.stream.recv(1 << 20) if self.stream else b""
         if not part:
             raise Lost(f"after {self.held[:60]!r}")
         self.held += part
@@ -113,9 +120,7 @@ class Server:
         path = os.path.join(self.folder.name, "users.txt")
         with open(path, "w") as file:
             file.write(users)
-        with socket.socket() as free:
-            free.bind(("127.0.0.1", 0))
-            self.port: int = free.getsockname()[1]
+        self.port = free_port()
         words = ["serve", "--users", path, "--listen", f"127.0.0.1:{self.port}", "--workers", str(workers)]
         self.process = subprocess.Popen([program, *words], stdin=subprocess.DEVNULL)
         self.workers = workers
