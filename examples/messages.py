@@ -6,9 +6,12 @@ import json
 from collections.abc import Iterator
 from typing import Any, NamedTuple
 
+# The most bytes of a head.
+HEAD_LIMIT = 16_384
+
 
 class Asked(NamedTuple):
-    """A request; method and target are empty where its first line can't be read."""
+    """A request; method and target are empty where its first line can't be read, or its head is too long."""
 
     method: str
     target: str
@@ -37,10 +40,12 @@ def fields_of(lines: list[str]) -> dict[str, str]:
 
 def requests_of(data: bytes) -> Iterator[Asked]:
     while data:
+        whole = len(data)
         (first, *lines), data = head_of(data)
         words, length = first.split(" "), fields_of(lines).get("content-length", "")
         count = int(length) if length.isdigit() else 0
-        method, target = words[:2] if len(words) == 3 else ("", "")
+        is_read = len(words) == 3 and whole - len(data) <= HEAD_LIMIT
+        method, target = words[:2] if is_read else ("", "")
         yield Asked(method, target, data[:count])
         data = data[count:]
 
