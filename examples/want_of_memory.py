@@ -141,6 +141,10 @@ class Wrong(Exception):
     """What no run may come to."""
 
 
+class OneThread(Exception):
+    """One thread serves both links, one after the other."""
+
+
 class Setting(NamedTuple):
     program: str
     folder: str
@@ -176,6 +180,8 @@ class Part:
             what = self.outcome(at)
         except Wrong as why:
             what = f"wrong: {why}"
+        except OneThread:
+            what = "a thread wasn't started: a link waits until the other one ends, and is then answered"
         except (TimeoutError, subprocess.TimeoutExpired):
             what = "wrong: nothing for 10 s"
         return self.reached, what
@@ -439,11 +445,13 @@ class Serve(Talk):
                 told = self.served(port, first, again, twice)
             except Lost:
                 return self.told, status_of(process)
+            except TimeoutError as why:
+                raise self.waited(process, why) from None
             return told, process.poll() if len(told.replies) == len(self.asked) else status_of(process)
 
     def served(self, port: int, first: Way, again: bool, twice: int = -1) -> Told:
         """The requests, by this link and another one in turn; then the workers are seen to answer."""
-        ways = [first, Way(port)]
+        ways = self.ways = [first, Way(port)]
         self.told = converse(lambda i, asked: ways[i % 2].ask(asked), self.asked, again, twice)
         self.look(ways)
         for way in ways:
@@ -451,6 +459,14 @@ class Serve(Talk):
         if not self.it.lasting:
             workers_answer(port)
         return self.told
+
+    def waited(self, process: subprocess.Popen[bytes], why: TimeoutError) -> Exception:
+        """What it is that nothing came on the second link. It isn't wrong where one thread serves both links."""
+        first, second = self.ways
+        if len(os.listdir(f"/proc/{process.pid}/task")) != 1 or first.stream.fileno() < 0:
+            return why
+        first.stream.close()
+        return OneThread() if second.replies.next() else why
 
     def look(self, ways: list[Way]) -> None:
         """What else is asked before the links are closed."""
