@@ -81,10 +81,10 @@ def loaded(server: Server, links: int, path: str, box: Box) -> None:
     elements = osm_file.read(path)
     costs = Costs(server)
     told = run("import_osm.py", *importing(server, links, path))
-    print(f"{links} links, loaded: {costs.told(len(elements))}; at the end the server holds {server.megabytes():.0f} MB")
+    print(f"links {links}, loaded: {costs.told(len(elements))}; at the end the server holds {server.megabytes():.0f} MB")
     for line in re.findall(r"^left out: .*|^\d+ operations in .*", told, re.MULTILINE):
         print(f"  {line}")
-    check_export(server, f"{links} links, written back", elements, f"{path}.whole.osm.pbf")
+    check_export(server, f"links {links}, written back", elements, f"{path}.whole.osm.pbf")
     edges = ",".join(degrees(it) for it in box)
     check_export(server, "the box", inside(elements, box), f"{path}.box.osm.pbf", f"--box={edges}")
 
@@ -101,7 +101,8 @@ def broken_off(server: Server, links: int, path: str, uploads: int) -> None:
     made, sent = (lines_with(f"{path}.sent", word) for word in ('"made"', '"before"'))
     print(f"killed: {sent} uploads were sent, and of {made} the reply was noted")
     told = run("import_osm.py", *importing(server, links, path))
-    print("  started again: " + "".join(re.findall(r"^\d+ operations in .*", told, re.MULTILINE)))
+    again = lines_with(f"{path}.sent", '"before"') - lines_with(f"{path}.sent", '"made"')
+    print(f"  started again: {again} of them hadn't come, and were sent anew; " + re.findall(r"\d+ operations in .*", told)[0])
     check_export(server, "written back", osm_file.read(path), f"{path}.again.osm.pbf")
 
 
