@@ -20,6 +20,7 @@ matplotlib.use("Agg")
 from matplotlib import pyplot
 from matplotlib.collections import LineCollection, PathCollection
 from matplotlib.path import Path
+from PIL import Image
 
 from export_osm import Box, box_of, read_box
 from map_client import Client, Element, Key, Lost, Refused, key, references
@@ -49,6 +50,8 @@ AREAS = (
     Style("leisure", "park", "#bfe0a8"),
     Style("natural", "wood scrub", "#93bf86"),
     Style("landuse", "forest", "#93bf86"),
+    Style("landuse", "vineyard orchard allotments", "#d3dd9c"),
+    Style("landuse", "cemetery", "#bccfae"),
     Style("landuse", "meadow grass farmland", "#dcebc0"),
     Style("landuse", "residential commercial industrial retail", "#ebe6df"),
 )
@@ -185,6 +188,8 @@ class Drawing:
             look = {"ha": "right", "va": "bottom", "fontsize": 7, "bbox": box, "zorder": 99}
             self.axes.text(0.995, 0.006, credit, transform=self.axes.transAxes, **look)
         self.figure.savefig(path, dpi=120)
+        if path.endswith(".png"):  # with a palette it has a third of the bytes
+            Image.open(path).convert("RGB").quantize(256, method=Image.Quantize.FASTOCTREE).save(path, optimize=True)
 
 
 def with_whole_areas(client: Client, elements: dict[Key, Element]) -> dict[Key, Element]:

@@ -26,7 +26,8 @@ class Reader(osmium.SimpleHandler):
         self.elements[kind, it.id] = {"type": kind, "id": it.id, "deleted": True} if it.deleted else element
 
     def node(self, it: Any) -> None:
-        self.keep("node", it, **({"lat7": it.location.y, "lon7": it.location.x} if it.location.valid() else {}))
+        place = it.location
+        self.keep("node", it, **({"lat7": place.y, "lon7": place.x} if place.valid() else {}))
 
     def way(self, it: Any) -> None:
         self.keep("way", it, nodes=[node.ref for node in it.nodes])

@@ -49,21 +49,20 @@ def refined(colours: Colours, lists: dict[Key, list[tuple[Key, str]]]) -> Colour
     }
 
 
-def colours_of(elements: dict[Key, Element], is_clipped: bool) -> Colours:
-    """The colours of a map, refined until no more elements are told apart."""
-    lists = {name: [it for it in links(element) if not is_clipped or it[0] in elements] for name, element in elements.items()}
-    colours = first_colours(elements)
+def colours_of(maps: list[dict[Key, Element]], is_clipped: bool) -> list[Colours]:
+    """The colours of maps, refined until in none of them more elements are told apart, and as often in each."""
+    lists = [{name: [it for it in links(one) if not is_clipped or it[0] in some] for name, one in some.items()} for some in maps]
+    colours = [first_colours(it) for it in maps]
     while True:
-        finer = refined(colours, lists)
-        if len(set(finer.values())) == len(set(colours.values())):
+        finer = [refined(*it) for it in zip(colours, lists, strict=True)]
+        if [len(set(it.values())) for it in finer] == [len(set(it.values())) for it in colours]:
             return finer
         colours = finer
 
 
 def alone(maps: list[dict[Key, Element]], is_clipped: bool) -> list[Counter[str]]:
     """Of two maps how many elements of each kind the other one hasn't."""
-    colours = [colours_of(it, is_clipped) for it in maps]
-    counts = [Counter((name[0], colour) for name, colour in it.items()) for it in colours]
+    counts = [Counter((name[0], colour) for name, colour in it.items()) for it in colours_of(maps, is_clipped)]
     left = [counts[i] - counts[1 - i] for i in (0, 1)]
     return [Counter(kind for kind, _ in it.elements()) for it in left]
 
