@@ -3,11 +3,14 @@
 from __future__ import annotations
 
 import json
+import re
 from collections.abc import Iterator
 from typing import Any, NamedTuple
 
 # The most bytes of a head.
 HEAD_LIMIT = 16_384
+# A method is a token of RFC 9110, section 5.6.2; the server reads two versions.
+REQUEST_LINE = re.compile(r"[!#$%&'*+.^_`|~0-9A-Za-z-]+ [^ ]+ HTTP/1\.[01]")
 
 
 class Asked(NamedTuple):
@@ -28,9 +31,9 @@ class Came(NamedTuple):
 
 
 def head_of(data: bytes) -> tuple[list[str], bytes]:
-    """The lines of the first head, and what stands behind it."""
-    head, _, rest = data.lstrip(b"\r\n").partition(b"\r\n\r\n")
-    return head.decode("latin-1").split("\r\n"), rest
+    """The lines of the first head, each ended by LF with or without CR, and what stands behind it."""
+    head, *rest = re.split(rb"\r?\n\r?\n", data.lstrip(b"\r\n"), maxsplit=1)
+    return re.split(r"\r?\n", head.decode("latin-1")), b"".join(rest)
 
 
 def fields_of(lines: list[str]) -> dict[str, str]:
@@ -44,7 +47,7 @@ def requests_of(data: bytes) -> Iterator[Asked]:
         (first, *lines), data = head_of(data)
         words, length = first.split(" "), fields_of(lines).get("content-length", "")
         count = int(length) if length.isdigit() else 0
-        is_read = len(words) == 3 and whole - len(data) <= HEAD_LIMIT
+        is_read = whole - len(data) <= HEAD_LIMIT and REQUEST_LINE.fullmatch(first)
         method, target = words[:2] if is_read else ("", "")
         yield Asked(method, target, data[:count])
         data = data[count:]
