@@ -266,7 +266,7 @@ def wrk(url: str, links: int, seconds: int) -> str:
     text = run("wrk", "-t2", f"-c{links}", f"-d{seconds}", "--latency", url).decode()
     want("other statuses", None, re.search(r"Non-2xx.*|Socket errors.*", text) and text)
     found: Any = re.search(r"Requests/sec:\s*([\d.]+)", text)
-    half, most = (re.search(rf"{part}%\s+(\S+)", text) for part in (50, 99))
+    half, most = (re.search(rf"^\s+{part}%\s+(\S+)", text, re.M) for part in (50, 99))
     return f"{float(found[1]):,.0f} requests a second, half within {half and half[1]}, 99 in 100 within {most and most[1]}"
 
 
