@@ -23,3 +23,19 @@ checked_number value = if is_number value then Some value else None
 -- the number that a text gives
 abbrev pub number_of : List ℕ → Option ℕ
 number_of text = if is_digits text then checked_number (digits_value 10 text) else None
+
+-- up to 9,223,372,036,854,775,807
+abbrev pub checked_limit : ℕ → Option ℕ
+checked_limit value = if nat_lt value (2 ^ 63) then Some value else None
+
+-- the limit that a text gives: zero is one
+abbrev pub limit_of : List ℕ → Option ℕ
+limit_of text = if is_digits text then checked_limit (digits_value 10 text) else None
+
+-- one digit at least, and nothing else
+abbrev pub is_whole : List ℕ → Bool
+is_whole text = nat_lt 0 (length text) && list_all is_ascii_digit text
+
+-- the number of digits alone, where it fits 64 bits; zeros may lead
+abbrev pub whole_of : List ℕ → Option ℕ
+whole_of text = if is_whole text && nat_lt (digits_value 10 text) (2 ^ 64) then Some (digits_value 10 text) else None

@@ -25,13 +25,13 @@ pub use items::{Ids, Items};
 pub use key_lists::is_listed;
 pub use keys::{Key, Kind};
 pub use limits::{
-    AREA_LIMIT, BODY_LIMIT, CHANGE_LIMIT, CHARACTER_LIMIT, FIELD_LIMIT, HEAD_LIMIT, MAP_NODE_LIMIT,
-    MOMENT_LIMIT, QUERY_LIMIT, RELATION_LIMIT, REQUEST_LIMIT, SESSION_LIMIT, USERS_LIMIT,
-    WAY_LIMIT,
+    AREA_LIMIT, BODY_LIMIT, CHANGE_LIMIT, CHARACTER_LIMIT, FIELD_LIMIT, HEAD_LIMIT,
+    LARGE_CHANGE_LIMIT, MAP_NODE_LIMIT, MOMENT_LIMIT, QUERY_LIMIT, RELATION_LIMIT, REQUEST_LIMIT,
+    SESSION_LIMIT, USERS_LIMIT, WAY_LIMIT,
 };
 pub use memory::Memory;
 pub use moments::Stamp;
-pub use numbers::path_number;
+pub use numbers::{limit_number, path_number, whole_number};
 pub use parts::split_once;
 pub use people::{Owner, User};
 pub use places::{Box7, Coord, is_on_globe};

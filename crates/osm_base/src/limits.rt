@@ -28,6 +28,9 @@ pub const RELATION_LIMIT: usize = 32_000;
 /// The most changes of a changeset.
 pub const CHANGE_LIMIT: u64 = 10_000;
 
+/// The most changes of a changeset that was created from the moment of the users text on.
+pub const LARGE_CHANGE_LIMIT: u64 = 50_000;
+
 /// The largest area of a map call's box, in square units of 1e-7 degrees: 0.25 square degrees.
 pub const AREA_LIMIT: u64 = 25_000_000_000_000;
 
@@ -61,6 +64,8 @@ const _: () = prove!(WAY_LIMIT == 2_000);
 const _: () = prove!(RELATION_LIMIT == 32_000);
 
 const _: () = prove!(CHANGE_LIMIT == 10_000);
+
+const _: () = prove!(LARGE_CHANGE_LIMIT == 50_000);
 
 const _: () = prove!(AREA_LIMIT == 25_000_000_000_000);
 

@@ -3,7 +3,7 @@ ghost use Rattle.std.specs.Prelude.{◌≡◌, ◌<◌, ◌^◌, true};
 ghost use Rattle.std.specs.List.{list_all};
 ghost use Rattle.std.specs.Char.{is_ascii_digit};
 ghost use Rattle.std.specs.Str.Parse.{digits_value};
-ghost use Rattle.osm_base.specs.Number.{is_digits, checked_number, number_of};
+ghost use Rattle.osm_base.specs.Number.{is_digits, checked_number, number_of, checked_limit, limit_of, is_whole, whole_of};
 
 /// The most digits of a number in a path.
 const DIGIT_LIMIT: usize = 19;
@@ -16,6 +16,44 @@ pub fn path_number(text: &[u8]) -> Option<u64>
         checked(value_of(text))
     } else {
         None
+    }
+}
+
+/// The number of a limit in a users text, which may be 0. Leading zeros are allowed.
+pub fn limit_number(text: &[u8]) -> Option<u64>
+    ensures { result ≡ limit_of text.now }
+{
+    if is_digits(text) {
+        checked_limit(value_of(text))
+    } else {
+        None
+    }
+}
+
+/// The number of digits alone, where it fits 64 bits. Leading zeros are allowed.
+pub fn whole_number(text: &str) -> Option<u64>
+    ensures { result ≡ whole_of text.now }
+{
+    if is_whole(text.as_bytes()) {
+        parsed(text)
+    } else {
+        None
+    }
+}
+
+fn is_whole(text: &[u8]) -> bool
+    ensures { result ≡ is_whole text.now }
+{
+    !text.is_empty() && are_digits(text)
+}
+
+fn parsed(text: &str) -> Option<u64>
+    requires { is_whole text.now ≡ true }
+    ensures { result ≡ whole_of text.now }
+{
+    match text.parse::<u64>() {
+        Ok(number) => Some(number),
+        Err(_) => None,
     }
 }
 
@@ -36,6 +74,16 @@ fn checked(value: u64) -> Option<u64>
     ensures { result ≡ checked_number value }
 {
     if 0 < value && value <= 9_223_372_036_854_775_807 {
+        Some(value)
+    } else {
+        None
+    }
+}
+
+fn checked_limit(value: u64) -> Option<u64>
+    ensures { result ≡ checked_limit value }
+{
+    if value <= 9_223_372_036_854_775_807 {
         Some(value)
     } else {
         None

@@ -1,9 +1,7 @@
 -- The values of options.
-use Rattle.std.specs.Prelude.{ℕ, ◌^◌, ◌*◌, Bool, ◌&&◌, not, ◌==◌, nat_lt, nat_le, List, length, slice_index, Option, Some, None, if◌then◌else◌}
+use Rattle.std.specs.Prelude.{ℕ, ◌*◌, Bool, ◌&&◌, not, ◌==◌, nat_lt, nat_le, List, length, slice_index, Option, Some, None, if◌then◌else◌}
 use Rattle.std.specs.Option.{option_and_then}
-use Rattle.std.specs.List.{list_all}
-use Rattle.std.specs.Char.{is_ascii_digit}
-use Rattle.std.specs.Str.Parse.{digits_value}
+use Rattle.osm_base.specs.Number.{whole_of}
 use Rattle.osm_words.specs.declared.words.TheConstants.{UPLOADS_A_SESSION}
 use Rattle.osm_words.specs.declared.words.LoadOptions.{LoadOptions}
 
@@ -14,20 +12,12 @@ is_text text = nat_lt 0 (length text) && not (slice_index text 0 == 45)
 abbrev pub text_of : List ℕ → Option (List ℕ)
 text_of text = if is_text text then Some text else None
 
--- one digit at least, and nothing else
-abbrev pub is_digits : List ℕ → Bool
-is_digits text = nat_lt 0 (length text) && list_all is_ascii_digit text
-
--- the number of digits alone, where it fits 64 bits; zeros may lead
-abbrev pub number_of : List ℕ → Option ℕ
-number_of text = if is_digits text && nat_lt (digits_value 10 text) (2 ^ 64) then Some (digits_value 10 text) else None
-
 -- the number, where it lies from the least to the most
 abbrev pub checked : ℕ → ℕ → ℕ → Option ℕ
 checked least most number = if nat_le least number && nat_le number most then Some number else None
 
 abbrev pub number_in : ℕ → ℕ → List ℕ → Option ℕ
-number_in least most text = option_and_then (checked least most) (number_of text)
+number_in least most text = option_and_then (checked least most) (whole_of text)
 
 -- the load, where none of its changesets is filled
 abbrev pub fitting : ℕ → ℕ → ℕ → Option LoadOptions

@@ -11,7 +11,8 @@ use Rattle.osm_words.specs.declared.words.Words.{Words}
 use Rattle.osm_words.specs.declared.words.Words.TheVariants.{Pipe, Serve, Measure, Export, Replay}
 use Rattle.osm_words.specs.declared.words.WordsFault.{WordsFault}
 use Rattle.osm_words.specs.declared.words.WordsFault.TheVariants.{NoReading, Memory}
-use Rattle.osm_words.specs.Values.{text_of, number_of, number_in, fitting}
+use Rattle.osm_words.specs.Values.{text_of, number_in, fitting}
+use Rattle.osm_base.specs.Number.{whole_of}
 use Rattle.osm_words.specs.Commands.{pipe_app, serve_app, load_app, plain, found}
 
 -- a command of the program, with its options
@@ -37,7 +38,7 @@ shown Replay = replay
 -- the moment may be missing, and has to be a number where it isn't
 abbrev pub pipe_at : Text → Option Text → Option Reading
 pipe_at users None = Some (pipe users None)
-pipe_at users (Some text) = option_map (λ at. pipe users (Some at)) (number_of text)
+pipe_at users (Some text) = option_map (λ at. pipe users (Some at)) (whole_of text)
 
 abbrev pub pipe_of : List Row → Option Reading
 pipe_of rows =
@@ -56,7 +57,7 @@ load_of rows =
     option_and_then (λ seed. option_and_then (λ sessions. option_and_then (λ uploads. fitting seed sessions uploads)
     (option_and_then (number_in 0 UPLOAD_LIMIT) (first_of (codes "uploads") rows)))
     (option_and_then (number_in 1 SESSION_LIMIT) (first_of (codes "sessions") rows)))
-    (option_and_then number_of (first_of (codes "seed") rows))
+    (option_and_then whole_of (first_of (codes "seed") rows))
 
 -- ---- the words
 

@@ -1,13 +1,14 @@
 //! The options in what `clap` found.
 ghost use Rattle.std.specs.Prelude.{◌≡◌, ◌≤◌, IfSome, option_map, option_and_then};
 ghost use Rattle.clap.specs.Words.{first_of, found_of, rows_of};
-ghost use Rattle.osm_words.specs.Values.{text_of, number_of, number_in};
+ghost use Rattle.osm_words.specs.Values.{text_of, number_in};
+ghost use Rattle.osm_base.specs.Number.{whole_of};
 ghost use Rattle.osm_words.specs.Words.{HasSessions, HaveSessions, shown, pipe_of, serve_of, load_of};
 
-use crate::values::{checked, fitting, is_text, number_of};
+use crate::values::{checked, fitting, is_text};
 use crate::words::{LoadOptions, UPLOAD_LIMIT, Words};
 use clap::ArgMatches;
-use osm_base::SESSION_LIMIT;
+use osm_base::{SESSION_LIMIT, whole_number};
 
 fn value_of<'a>(matches: &ArgMatches<'a>, name: &str) -> Option<&'a str>
     ensures { option_map (λ text. text.now) result ≡ first_of name.now (rows_of (found_of matches.now)) }
@@ -16,9 +17,9 @@ fn value_of<'a>(matches: &ArgMatches<'a>, name: &str) -> Option<&'a str>
 }
 
 fn number_at(matches: &ArgMatches<'_>, name: &str) -> Option<u64>
-    ensures { result ≡ option_and_then number_of (first_of name.now (rows_of (found_of matches.now))) }
+    ensures { result ≡ option_and_then whole_of (first_of name.now (rows_of (found_of matches.now))) }
 {
-    number_of(value_of(matches, name)?)
+    whole_number(value_of(matches, name)?)
 }
 
 fn number_in(matches: &ArgMatches<'_>, name: &str, least: u32, most: u32) -> Option<u32>
@@ -44,7 +45,7 @@ pub fn pipe_of<'a>(matches: &ArgMatches<'a>) -> Option<Words<'a>>
 {
     let users = text_at(matches, "users")?;
     let at = match value_of(matches, "at") {
-        Some(text) => Some(number_of(text)?),
+        Some(text) => Some(whole_number(text)?),
         None => None,
     };
     Some(Words::Pipe { users, at })

@@ -1,8 +1,6 @@
 //! The values of options.
-ghost use Rattle.std.specs.Prelude.{◌≡◌, ◌≤◌, true, IfSome};
-ghost use Rattle.std.specs.List.{list_all};
-ghost use Rattle.std.specs.Char.{is_ascii_digit};
-ghost use Rattle.osm_words.specs.Values.{is_text, is_digits, number_of, checked, fitting};
+ghost use Rattle.std.specs.Prelude.{◌≡◌, ◌≤◌, IfSome};
+ghost use Rattle.osm_words.specs.Values.{is_text, checked, fitting};
 
 use crate::words::{LoadOptions, UPLOADS_A_SESSION};
 
@@ -13,39 +11,6 @@ pub fn is_text(text: &str) -> bool
     match text.as_bytes() {
         [] => false,
         [first, ..] => *first != b'-',
-    }
-}
-
-fn are_digits(text: &[u8]) -> bool
-    ensures { result ≡ list_all is_ascii_digit text.now }
-{
-    text.iter().all(|byte| byte.is_ascii_digit())
-}
-
-fn is_digits(text: &[u8]) -> bool
-    ensures { result ≡ is_digits text.now }
-{
-    !text.is_empty() && are_digits(text)
-}
-
-/// The number of digits alone, where it fits 64 bits. Leading zeros are allowed.
-pub fn number_of(text: &str) -> Option<u64>
-    ensures { result ≡ number_of text.now }
-{
-    if is_digits(text.as_bytes()) {
-        parsed(text)
-    } else {
-        None
-    }
-}
-
-fn parsed(text: &str) -> Option<u64>
-    requires { is_digits text.now ≡ true }
-    ensures { result ≡ number_of text.now }
-{
-    match text.parse::<u64>() {
-        Ok(number) => Some(number),
-        Err(_) => None,
     }
 }
 

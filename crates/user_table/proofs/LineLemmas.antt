@@ -9,40 +9,39 @@ use Rattle.std.proofs.lemmas.List.Sums.{count_by-le-length}
 use Rattle.std.proofs.lemmas.Str.{IsUtf8-from_is_utf8, is_utf8-from_IsUtf8}
 use Rattle.std.proofs.lemmas.Bool.{le-ltb}
 use Rattle.osm_base.specs.declared.limits.TheConstants.{USERS_LIMIT}
-use Rattle.user_table.specs.Rows.{Row}
-use Rattle.user_table.specs.Users.{go_on, with_line, with_lines, table_of, Refuses}
+use Rattle.user_table.specs.Users.{Users, nobody, go_on, with_line, with_lines, table_of, Refuses}
 use Rattle.user_table.specs.declared.faults.UsersFault.{UsersFault}
 use Rattle.user_table.specs.declared.faults.UsersFault.TheVariants as fault
 
 -- the lines from a place on: the one there, and the rest
-pub with_lines-drop : (n : ℕ) (rows : List Row) (all : List (List ℕ)) (line : List ℕ) → (n < length all) × (line ≡ get_or all n line) → with_lines (n + 1) rows (drop n all) ≡ go_on (with_line (n + 1) rows line) (λ users. with_lines (n + 1 + 1) users (drop (n + 1) all))
+pub with_lines-drop : (n : ℕ) (rows : Users) (all : List (List ℕ)) (line : List ℕ) → (n < length all) × (line ≡ get_or all n line) → with_lines (n + 1) rows (drop n all) ≡ go_on (with_line (n + 1) rows line) (λ users. with_lines (n + 1 + 1) users (drop (n + 1) all))
 with_lines-drop n rows all line at =
     at_drop_more (with_lines (n + 1) rows) all n line at.0
     ∙ ap (λ (there : List ℕ). go_on (with_line (n + 1) rows there) (λ users. with_lines (n + 1 + 1) users (drop (n + 1) all))) (sym at.1)
 
 -- a line without a fault
-pub line_passes : (n : ℕ) (rows left : List Row) (all : List (List ℕ)) (line : List ℕ) (whole : Result (List Row) UsersFault) → (n < length all) × (line ≡ get_or all n line) → with_lines (n + 1) rows (drop n all) ≡ whole → with_line (n + 1) rows line ≡ Ok left → with_lines (n + 1 + 1) left (drop (n + 1) all) ≡ whole
+pub line_passes : (n : ℕ) (rows left : Users) (all : List (List ℕ)) (line : List ℕ) (whole : Result Users UsersFault) → (n < length all) × (line ≡ get_or all n line) → with_lines (n + 1) rows (drop n all) ≡ whole → with_line (n + 1) rows line ≡ Ok left → with_lines (n + 1 + 1) left (drop (n + 1) all) ≡ whole
 line_passes n rows left all line whole at kept passed =
-    sym (ap (λ (r : Result (List Row) UsersFault). go_on r (λ users. with_lines (n + 1 + 1) users (drop (n + 1) all))) passed)
+    sym (ap (λ (r : Result Users UsersFault). go_on r (λ users. with_lines (n + 1 + 1) users (drop (n + 1) all))) passed)
     ∙ sym (with_lines-drop n rows all line at) ∙ kept
 
-Refuses-go_on : (expected : Result (List Row) UsersFault) (next : List Row → Result (List Row) UsersFault) (found : UsersFault) → Refuses expected found → Refuses (go_on expected next) found
-Refuses-go_on expected next fault.Long refused = ap (λ (r : Result (List Row) UsersFault). go_on r next) refused
-Refuses-go_on expected next fault.NotUtf8 refused = ap (λ (r : Result (List Row) UsersFault). go_on r next) refused
-Refuses-go_on expected next (fault.Line n) refused = ap (λ (r : Result (List Row) UsersFault). go_on r next) refused
-Refuses-go_on expected next (fault.DoubleId n) refused = ap (λ (r : Result (List Row) UsersFault). go_on r next) refused
-Refuses-go_on expected next (fault.DoubleToken n) refused = ap (λ (r : Result (List Row) UsersFault). go_on r next) refused
-Refuses-go_on expected next (fault.DoubleName n) refused = ap (λ (r : Result (List Row) UsersFault). go_on r next) refused
+Refuses-go_on : (expected : Result Users UsersFault) (next : Users → Result Users UsersFault) (found : UsersFault) → Refuses expected found → Refuses (go_on expected next) found
+Refuses-go_on expected next fault.Long refused = ap (λ (r : Result Users UsersFault). go_on r next) refused
+Refuses-go_on expected next fault.NotUtf8 refused = ap (λ (r : Result Users UsersFault). go_on r next) refused
+Refuses-go_on expected next (fault.Line n) refused = ap (λ (r : Result Users UsersFault). go_on r next) refused
+Refuses-go_on expected next (fault.DoubleId n) refused = ap (λ (r : Result Users UsersFault). go_on r next) refused
+Refuses-go_on expected next (fault.DoubleToken n) refused = ap (λ (r : Result Users UsersFault). go_on r next) refused
+Refuses-go_on expected next (fault.DoubleName n) refused = ap (λ (r : Result Users UsersFault). go_on r next) refused
 Refuses-go_on expected next fault.Memory refused = refused
 
 -- a line with a fault
-pub line_fails : (n : ℕ) (rows : List Row) (all : List (List ℕ)) (line : List ℕ) (whole : Result (List Row) UsersFault) (found : UsersFault) → (n < length all) × (line ≡ get_or all n line) → with_lines (n + 1) rows (drop n all) ≡ whole → Refuses (with_line (n + 1) rows line) found → Refuses whole found
+pub line_fails : (n : ℕ) (rows : Users) (all : List (List ℕ)) (line : List ℕ) (whole : Result Users UsersFault) (found : UsersFault) → (n < length all) × (line ≡ get_or all n line) → with_lines (n + 1) rows (drop n all) ≡ whole → Refuses (with_line (n + 1) rows line) found → Refuses whole found
 line_fails n rows all line whole found at kept refused =
-    subst (λ (r : Result (List Row) UsersFault). Refuses r found) (sym (with_lines-drop n rows all line at) ∙ kept)
+    subst (λ (r : Result Users UsersFault). Refuses r found) (sym (with_lines-drop n rows all line at) ∙ kept)
     (Refuses-go_on (with_line (n + 1) rows line) (λ users. with_lines (n + 1 + 1) users (drop (n + 1) all)) found refused)
 
 -- after the last line
-pub no_line_left : (n : ℕ) (rows : List Row) (all : List (List ℕ)) → length all ≤ n → with_lines (n + 1) rows (drop n all) ≡ Ok rows
+pub no_line_left : (n : ℕ) (rows : Users) (all : List (List ℕ)) → length all ≤ n → with_lines (n + 1) rows (drop n all) ≡ Ok rows
 no_line_left n rows all end = at_drop_all (with_lines (n + 1) rows) all n end
 
 -- ---- how many lines there are
@@ -73,17 +72,17 @@ table_of-not_utf8 text short not_utf8 =
     not_test true h = absurd (h refl)
     not_test false h = refl
 
-pub table_of-lines : (text : List ℕ) → length text ≤ USERS_LIMIT → IsUtf8 text → table_of text ≡ with_lines 1 [] (lines text)
+pub table_of-lines : (text : List ℕ) → length text ≤ USERS_LIMIT → IsUtf8 text → table_of text ≡ with_lines 1 nobody (lines text)
 table_of-lines text short utf8 =
     let test = le-ltb USERS_LIMIT (length text) short in
     let holds = is_utf8-from_IsUtf8 text utf8 in rw (test, holds) refl
 
 -- the lines of a text that is short enough and UTF-8 give its table, and its faults
-pub lines_give : (text read : List ℕ) (rows : List Row) → length text ≤ USERS_LIMIT → IsUtf8 text → read ≡ text → with_lines 1 [] (lines read) ≡ Ok rows → table_of text ≡ Ok rows
+pub lines_give : (text read : List ℕ) (rows : Users) → length text ≤ USERS_LIMIT → IsUtf8 text → read ≡ text → with_lines 1 nobody (lines read) ≡ Ok rows → table_of text ≡ Ok rows
 lines_give text read rows short utf8 same gives =
-    table_of-lines text short utf8 ∙ sym (ap (λ (bytes : List ℕ). with_lines 1 [] (lines bytes)) same) ∙ gives
+    table_of-lines text short utf8 ∙ sym (ap (λ (bytes : List ℕ). with_lines 1 nobody (lines bytes)) same) ∙ gives
 
-pub lines_refuse : (text read : List ℕ) (found : UsersFault) → length text ≤ USERS_LIMIT → IsUtf8 text → read ≡ text → Refuses (with_lines 1 [] (lines read)) found → Refuses (table_of text) found
+pub lines_refuse : (text read : List ℕ) (found : UsersFault) → length text ≤ USERS_LIMIT → IsUtf8 text → read ≡ text → Refuses (with_lines 1 nobody (lines read)) found → Refuses (table_of text) found
 lines_refuse text read found short utf8 same refused =
-    subst (λ (r : Result (List Row) UsersFault). Refuses r found)
-    (ap (λ (bytes : List ℕ). with_lines 1 [] (lines bytes)) same ∙ sym (table_of-lines text short utf8)) refused
+    subst (λ (r : Result Users UsersFault). Refuses r found)
+    (ap (λ (bytes : List ℕ). with_lines 1 nobody (lines bytes)) same ∙ sym (table_of-lines text short utf8)) refused

@@ -11,7 +11,7 @@ use Rattle.osm_base.specs.declared.people.User.{User}
 use Rattle.user_table.specs.Rows.{Row}
 use Rattle.user_table.specs.Drafts.{rows_of, texts_of}
 use Rattle.user_table.specs.Who.{place_of}
-use Rattle.user_table.specs.Users.{has_id, has_token, has_name, with_row}
+use Rattle.user_table.specs.Users.{Users, with_user, has_id, has_token, has_name, with_row}
 use Rattle.user_table.specs.declared.faults.UsersFault.TheVariants as fault
 
 not_true : (b : Bool) → not b ≡ true → b ≡ false
@@ -66,29 +66,29 @@ pub told_name : (names : List (List ℕ)) (rows : List Row) (name : List ℕ) (i
 told_name names rows name is_new kept told =
     told ∙ ap (λ (keys : List (List ℕ)). not (list_any (bytes_eq name) keys)) kept ∙ ap not (has_name-keys rows name)
 
-module _ (number : ℕ) (rows : List Row) (row : Row) (new_id : Bool) (of_id : new_id ≡ not (has_id rows row.user.id)) where
-  pub with_row-double_id : new_id ≡ false → with_row number rows row ≡ Err (fault.DoubleId number)
+module _ (number : ℕ) (users : Users) (row : Row) (new_id : Bool) (of_id : new_id ≡ not (has_id users.rows row.user.id)) where
+  pub with_row-double_id : new_id ≡ false → with_row number users row ≡ Err (fault.DoubleId number)
   with_row-double_id old =
-      let id = not_false new_id (has_id rows row.user.id) of_id old in rw id refl
+      let id = not_false new_id (has_id users.rows row.user.id) of_id old in rw id refl
 
-  module _ (first : new_id ≡ true) (new_token : Bool) (of_token : new_token ≡ not (has_token rows row.token)) where
-    pub with_row-double_token : new_token ≡ false → with_row number rows row ≡ Err (fault.DoubleToken number)
+  module _ (first : new_id ≡ true) (new_token : Bool) (of_token : new_token ≡ not (has_token users.rows row.token)) where
+    pub with_row-double_token : new_token ≡ false → with_row number users row ≡ Err (fault.DoubleToken number)
     with_row-double_token old =
-        let id = new_false new_id (has_id rows row.user.id) of_id first in
-        let token = not_false new_token (has_token rows row.token) of_token old in rw (id, token) refl
+        let id = new_false new_id (has_id users.rows row.user.id) of_id first in
+        let token = not_false new_token (has_token users.rows row.token) of_token old in rw (id, token) refl
 
-    module _ (second : new_token ≡ true) (new_name : Bool) (of_name : new_name ≡ not (has_name rows row.user.name)) where
-      pub with_row-double_name : new_name ≡ false → with_row number rows row ≡ Err (fault.DoubleName number)
+    module _ (second : new_token ≡ true) (new_name : Bool) (of_name : new_name ≡ not (has_name users.rows row.user.name)) where
+      pub with_row-double_name : new_name ≡ false → with_row number users row ≡ Err (fault.DoubleName number)
       with_row-double_name old =
-          let id = new_false new_id (has_id rows row.user.id) of_id first in
-          let token = new_false new_token (has_token rows row.token) of_token second in
-          let name = not_false new_name (has_name rows row.user.name) of_name old in rw (id, token, name) refl
+          let id = new_false new_id (has_id users.rows row.user.id) of_id first in
+          let token = new_false new_token (has_token users.rows row.token) of_token second in
+          let name = not_false new_name (has_name users.rows row.user.name) of_name old in rw (id, token, name) refl
 
-      pub with_row-new : new_name ≡ true → with_row number rows row ≡ Ok (rows ++ row ∷ [])
+      pub with_row-new : new_name ≡ true → with_row number users row ≡ Ok (with_user users row)
       with_row-new third =
-          let id = new_false new_id (has_id rows row.user.id) of_id first in
-          let token = new_false new_token (has_token rows row.token) of_token second in
-          let name = new_false new_name (has_name rows row.user.name) of_name third in rw (id, token, name) refl
+          let id = new_false new_id (has_id users.rows row.user.id) of_id first in
+          let token = new_false new_token (has_token users.rows row.token) of_token second in
+          let name = new_false new_name (has_name users.rows row.user.name) of_name third in rw (id, token, name) refl
 
 -- ---- what `insert` leaves
 not_not : (b : Bool) → b ≡ not (not b)

@@ -3,20 +3,29 @@ ghost use Rattle.std.specs.Prelude.{◌≡◌, true, length};
 ghost use Rattle.std.specs.List.{list_all};
 ghost use Rattle.std.specs.Str.{chars};
 ghost use Rattle.std.specs.Option.{option_map};
+ghost use Rattle.osm_base.specs.Number.{limit_of};
 ghost use Rattle.user_table.specs.Drafts.{shown};
-ghost use Rattle.user_table.specs.Rows.{parted, is_token_byte, is_token, is_name, moderator_of, row_of_parts, row_after_token, row_after_id, row_of};
+ghost use Rattle.user_table.specs.Rows.{is_slash, parted, parted_at, is_token_byte, is_token, is_name, moderator_of, limited, role_of, row_of_parts, row_after_token, row_after_id, row_of, moment_of};
 
-use osm_base::{CHARACTER_LIMIT, path_number};
+use osm_base::{CHARACTER_LIMIT, limit_number, path_number, whole_number};
 
 /// The most bytes of a token.
 const TOKEN_LIMIT: usize = 128;
+
+/// What a user may do: redact, and how large an area the user's uploads may give a changeset's box, in
+/// square units of 1e-7 degrees.
+#[derive(Clone, Copy)]
+pub struct Role {
+    pub moderator: bool,
+    pub limit: Option<u64>,
+}
 
 /// The user of a line of the users text.
 #[derive(Clone, Copy)]
 pub struct Listed<'a> {
     pub id: u64,
     pub token: &'a [u8],
-    pub moderator: bool,
+    pub role: Role,
     pub name: &'a str,
 }
 
@@ -46,13 +55,13 @@ fn of_parts<'a>(id: &'a str, token: &'a str, role: &'a str, name: &'a str) -> Op
     ensures { option_map shown result ≡ row_of_parts id.now token.now role.now name.now }
 {
     let id = path_number(id.as_bytes())?;
-    let moderator = moderator_of(role)?;
+    let role = role_of(role)?;
     let token = token.as_bytes();
     if is_token(token) && is_name(name) {
         Some(Listed {
             id,
             token,
-            moderator,
+            role,
             name,
         })
     } else {
@@ -64,6 +73,12 @@ fn parted(text: &str) -> Option<(&str, &str)>
     ensures { option_map (λ part. (part.0.now, part.1.now)) result ≡ parted text.now }
 {
     text.split_once(' ')
+}
+
+fn slashed(text: &str) -> Option<(&str, &str)>
+    ensures { option_map (λ part. (part.0.now, part.1.now)) result ≡ parted_at is_slash text.now }
+{
+    text.split_once('/')
 }
 
 fn is_token(token: &[u8]) -> bool
@@ -98,6 +113,44 @@ fn moderator_of(role: &str) -> Option<bool>
         Some(false)
     } else if role == "moderator" {
         Some(true)
+    } else {
+        None
+    }
+}
+
+fn limited(name: &str, limit: &str) -> Option<Role>
+    ensures { result ≡ limited (moderator_of name.now) (limit_of limit.now) }
+{
+    let moderator = moderator_of(name)?;
+    let limit = limit_number(limit.as_bytes())?;
+    Some(Role {
+        moderator,
+        limit: Some(limit),
+    })
+}
+
+fn role_of(role: &str) -> Option<Role>
+    ensures { result ≡ role_of role.now }
+{
+    match slashed(role) {
+        Some((name, limit)) => limited(name, limit),
+        None => {
+            let moderator = moderator_of(role)?;
+            Some(Role {
+                moderator,
+                limit: None,
+            })
+        }
+    }
+}
+
+/// The moment of a line `@large-from SECONDS`.
+pub fn read_moment(line: &str) -> Option<u64>
+    ensures { result ≡ moment_of line.now }
+{
+    let (name, moment) = parted(line)?;
+    if name == "@large-from" {
+        whole_number(moment)
     } else {
         None
     }

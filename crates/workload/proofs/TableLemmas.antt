@@ -13,8 +13,7 @@ use Rattle.std.proofs.lemmas.List.Splits.{slice_split_at, length-slice_split}
 use Rattle.std.proofs.lemmas.Str.{IsUtf8-from_ascii, is_utf8-from_IsUtf8}
 use Rattle.std.proofs.lemmas.Str.Ascii.{IsAscii-from_all}
 use Rattle.osm_base.specs.declared.limits.TheConstants.{USERS_LIMIT}
-use Rattle.user_table.specs.Rows.{Row}
-use Rattle.user_table.specs.Users.{go_on, with_line, with_lines, table_of}
+use Rattle.user_table.specs.Users.{Users, nobody, go_on, with_line, with_lines, table_of}
 use Rattle.user_table.specs.declared.faults.UsersFault.{UsersFault}
 use Rattle.workload.specs.Users.{user_line, users_text}
 use Rattle.workload.proofs.UserLemmas.{ended_line}
@@ -125,29 +124,29 @@ abbrev user_lines : ℕ → List (List ℕ)
 user_lines sessions = map user_line (range_with_len 1 sessions)
 
 -- the most users that a load has are read
-all_are_read : (rows : List Row) × (with_lines 1 [] (user_lines 64) ≡ Ok rows)
+all_are_read : (users : Users) × (with_lines 1 nobody (user_lines 64) ≡ Ok users)
 unfolding user_line digits chars
 all_are_read = (_, refl)
 
-abbrev AreRead : ℕ → List Row → List (List ℕ) → Type 0
-AreRead number rows some_lines = (users : List Row) × (with_lines number rows some_lines ≡ Ok users)
+abbrev AreRead : ℕ → Users → List (List ℕ) → Type 0
+AreRead number begun some_lines = (users : Users) × (with_lines number begun some_lines ≡ Ok users)
 
 -- and so are the first of lines that are
-first_are_read : (number : ℕ) (rows : List Row) (xs ys : List (List ℕ)) (all : List Row) → with_lines number rows (xs ++ ys) ≡ Ok all → AreRead number rows xs
-first_are_read number rows [] ys all whole = (rows, refl)
-first_are_read number rows (x ∷ xs) ys all whole =
-    by_line (λ users rest. first_are_read (number + 1) users xs ys all rest) (with_line number rows x) refl
+first_are_read : (number : ℕ) (begun : Users) (xs ys : List (List ℕ)) (all : Users) → with_lines number begun (xs ++ ys) ≡ Ok all → AreRead number begun xs
+first_are_read number begun [] ys all whole = (begun, refl)
+first_are_read number begun (x ∷ xs) ys all whole =
+    by_line (λ users rest. first_are_read (number + 1) users xs ys all rest) (with_line number begun x) refl
   where
-    by_line : ((users : List Row) → with_lines (number + 1) users (xs ++ ys) ≡ Ok all → AreRead (number + 1) users xs)
-        → (r : Result (List Row) UsersFault) → with_line number rows x ≡ r → AreRead number rows (x ∷ xs)
+    by_line : ((users : Users) → with_lines (number + 1) users (xs ++ ys) ≡ Ok all → AreRead (number + 1) users xs)
+        → (r : Result Users UsersFault) → with_line number begun x ≡ r → AreRead number begun (x ∷ xs)
     by_line more (Ok users) is_read =
-        let rest = more users (sym (ap (λ (r : Result (List Row) UsersFault). go_on r (λ u. with_lines (number + 1) u (xs ++ ys))) is_read) ∙ whole) in
-        (rest.0, ap (λ (r : Result (List Row) UsersFault). go_on r (λ u. with_lines (number + 1) u xs)) is_read ∙ rest.1)
+        let rest = more users (sym (ap (λ (r : Result Users UsersFault). go_on r (λ u. with_lines (number + 1) u (xs ++ ys))) is_read) ∙ whole) in
+        (rest.0, ap (λ (r : Result Users UsersFault). go_on r (λ u. with_lines (number + 1) u xs)) is_read ∙ rest.1)
     by_line more (Err found) is_read =
-        let refused : Err found ≡ Ok all = sym (ap (λ (r : Result (List Row) UsersFault). go_on r (λ u. with_lines (number + 1) u (xs ++ ys))) is_read) ∙ whole in
+        let refused : Err found ≡ Ok all = sym (ap (λ (r : Result Users UsersFault). go_on r (λ u. with_lines (number + 1) u (xs ++ ys))) is_read) ∙ whole in
         absurd (cc)
 
-table_of-lines : (text : List ℕ) → length text ≤ USERS_LIMIT → IsUtf8 text → table_of text ≡ with_lines 1 [] (lines text)
+table_of-lines : (text : List ℕ) → length text ≤ USERS_LIMIT → IsUtf8 text → table_of text ≡ with_lines 1 nobody (lines text)
 table_of-lines text short utf8 =
     let test = le-ltb USERS_LIMIT (length text) short in
     let holds = is_utf8-from_IsUtf8 text utf8 in rw (test, holds) refl
@@ -156,16 +155,16 @@ users_text_is : (sessions : ℕ) → users_text sessions ≡ text_from 1 session
 unfolding users_text
 users_text_is sessions = refl
 
-pub users_read : (sessions : ℕ) → sessions ≤ 64 → (rows : List Row) × (table_of (users_text sessions) ≡ Ok rows)
+pub users_read : (sessions : ℕ) → sessions ≤ 64 → (users : Users) × (table_of (users_text sessions) ≡ Ok users)
 users_read sessions few =
     let cut : user_lines sessions ++ drop sessions (user_lines 64) ≡ user_lines 64 =
     ap (λ front. front ++ drop sessions (user_lines 64)) (sym (take-map-range_with_len user_line 1 64 sessions few))
     ∙ take-append-drop sessions (user_lines 64) in
-    let read = first_are_read 1 [] (user_lines sessions) (drop sessions (user_lines 64)) all_are_read.0
-    (ap (with_lines 1 []) cut ∙ all_are_read.1) in
+    let read = first_are_read 1 nobody (user_lines sessions) (drop sessions (user_lines 64)) all_are_read.0
+    (ap (with_lines 1 nobody) cut ∙ all_are_read.1) in
     let utf8 = IsUtf8-from_ascii (text_from 1 sessions) (IsAscii-from_all (text_from 1 sessions) (text_is_ascii 1 sessions (omega arith) (omega arith))) in
     let short : length (text_from 1 sessions) ≤ USERS_LIMIT = omega (arith, text_is_short 1 sessions (omega arith) (omega arith)) in (
       read.0,
       ap table_of (users_text_is sessions) ∙ table_of-lines (text_from 1 sessions) short utf8
-          ∙ ap (with_lines 1 []) (lines-text_from 1 sessions (omega arith) (omega arith)) ∙ read.1,
+          ∙ ap (with_lines 1 nobody) (lines-text_from 1 sessions (omega arith) (omega arith)) ∙ read.1,
     )

@@ -10,6 +10,6 @@ returns-clause-new c =
 
 pub returns-clause-added : goal.returns-clause-added
 returns-clause-added c = λ holds.
-    user_added c.args.users.now c.insert.new.self c.in_ok-token.token (record { id = c.args.listed.id; name = c.in_ok-of.field-0; moderator = c.args.listed.moderator }) c.in_ok-before.before c.is_none.result c.in_ok-before.ensures.old c.in_ok-before.ensures.entries c.is_none.ensures holds
-    ∙ ap (λ (token : List ℕ). rows_of c.args.users.now.entries ++ record { token = token; user = record { id = c.args.listed.id; name = c.in_ok-of.field-0; moderator = c.args.listed.moderator } } ∷ []) c.in_ok-token.ensures.items
-    ∙ ap (λ (name : List ℕ). rows_of c.args.users.now.entries ++ record { token = c.args.listed.token.now; user = record { id = c.args.listed.id; name = name; moderator = c.args.listed.moderator } } ∷ []) c.in_ok-of.ensures
+    user_added c.args.users.now c.insert.new.self c.in_ok-token.token (record { id = c.args.listed.id; name = c.in_ok-of.field-0; moderator = c.args.listed.role.moderator; limit = c.args.listed.role.limit }) c.in_ok-before.before c.is_none.result c.in_ok-before.ensures.old c.in_ok-before.ensures.entries c.is_none.ensures holds
+    ∙ ap (λ (token : List ℕ). rows_of c.args.users.now.entries ++ record { token = token; user = record { id = c.args.listed.id; name = c.in_ok-of.field-0; moderator = c.args.listed.role.moderator; limit = c.args.listed.role.limit } } ∷ []) c.in_ok-token.ensures.items
+    ∙ ap (λ (name : List ℕ). rows_of c.args.users.now.entries ++ record { token = c.args.listed.token.now; user = record { id = c.args.listed.id; name = name; moderator = c.args.listed.role.moderator; limit = c.args.listed.role.limit } } ∷ []) c.in_ok-of.ensures

@@ -1,7 +1,7 @@
-use Rattle.std.proofs.Common.{◌≡◌, ◌+◌, [], length, drop}
+use Rattle.std.proofs.Common.{◌≡◌, ◌+◌, length, drop}
 use Rattle.std.specs.Str.Lines.{lines}
-use Rattle.user_table.specs.Users.{with_lines}
-use Rattle.user_table.specs.Drafts.{rows_of, IsIndexed}
+use Rattle.user_table.specs.Users.{nobody, with_lines}
+use Rattle.user_table.specs.Drafts.{users_of, IsIndexed}
 use Rattle.user_table.proofs.drafts.read_lines.Given as goal
 
 abbrev pub invariant-loop-line : goal.invariant-loop-line
@@ -10,5 +10,5 @@ invariant-loop-line l = record {
   is_finite : (goal.iterator-loop-line).is_finite l.line-iterator;
   indexed : IsIndexed l.draft;
   counted : l.number ≡ length l.yielded;
-  rest : with_lines (l.number + 1) (rows_of l.draft.users.entries) (drop l.number (lines l.text)) ≡ with_lines 1 [] (lines l.text);
+  rest : with_lines (l.number + 1) (users_of l.draft) (drop l.number (lines l.text)) ≡ with_lines 1 nobody (lines l.text);
 }
