@@ -1,9 +1,10 @@
 -- Changesets: when they are open, their box, and their record after work (wiki, "Changesets").
-use Rattle.std.specs.Prelude.{ℕ, ◌+◌, min, Bool, nat_lt, if◌then◌else◌, List, [], ◌∷◌, ◌++◌, length, ◌==◌, fold, filter_map, Option, Some, None, option_to_list, option_and_then}
+use Rattle.std.specs.Prelude.{ℕ, ◌+◌, min, Bool, true, false, not, ◌&&◌, nat_lt, if◌then◌else◌, List, [], ◌∷◌, ◌++◌, length, ◌==◌, fold, filter_map, Option, Some, None, option_to_list, option_and_then}
 use Rattle.std.specs.Option.{option_map_or}
-use Rattle.osm_base.specs.Place.{Position, Area, at_position, area_with, area_join}
+use Rattle.osm_base.specs.Place.{Position, Area, at_position, area_with, area_join, square_units}
 use Rattle.osm_base.specs.declared.keys.Key.{Key}
-use Rattle.osm_base.specs.declared.limits.TheConstants.{CHANGE_LIMIT}
+use Rattle.osm_base.specs.declared.limits.TheConstants.{CHANGE_LIMIT, LARGE_CHANGE_LIMIT}
+use Rattle.std.specs.Ordering.{int_eq}
 use Rattle.osm_base.specs.declared.people.Owner.{Owner}
 use Rattle.osm_element.specs.Elements.{position, position_in, refs_in, refs_of}
 use Rattle.osm_element.specs.Tags.{Tag}
@@ -26,21 +27,27 @@ is_open r t = nat_lt t (closes r)
 abbrev pub closed_at : ChangesetRecord → ℕ → Option ℕ
 closed_at r t = if is_open r t then None else Some (closes r)
 
+-- the most changes of a changeset that is created at a stamp, by the moment from which they may be many
+abbrev pub first_limit : Option ℕ → ℕ → ℕ
+first_limit None t = CHANGE_LIMIT
+first_limit (Some from) t = if nat_lt t from then CHANGE_LIMIT else LARGE_CHANGE_LIMIT
+
 -- the record of a changeset that its owner opens at a stamp
-abbrev pub first_record : Owner → List Tag → ℕ → ChangesetRecord
-first_record owner tags t = record {
+abbrev pub first_record : Owner → List Tag → ℕ → ℕ → ChangesetRecord
+first_record owner tags t limit = record {
   owner = owner;
   tags = tags;
   created = t;
   activity = t;
   ended = None;
+  limit = limit;
   touched = None;
   did = [];
 }
 
 -- the most changes that it may make
 abbrev pub limit_of : ChangesetRecord → ℕ
-limit_of r = CHANGE_LIMIT
+limit_of r = r.limit
 
 -- other tags, which is activity
 abbrev pub retagged : ChangesetRecord → List Tag → ℕ → ChangesetRecord
@@ -77,6 +84,22 @@ abbrev pub join_areas : Option Area → Option Area → Option Area
 join_areas None more = more
 join_areas (Some a) None = Some a
 join_areas (Some a) (Some b) = Some (area_join a b)
+
+abbrev pub area_eq : Area → Area → Bool
+area_eq a b = int_eq a.left b.left && int_eq a.bottom b.bottom && int_eq a.right b.right && int_eq a.top b.top
+
+-- the two areas, of which there may be none, are one
+abbrev pub same_area : Option Area → Option Area → Bool
+same_area None None = true
+same_area None (Some b) = false
+same_area (Some a) None = false
+same_area (Some a) (Some b) = area_eq a b
+
+-- the area past a limit that the record has with this area, where that is another than before
+abbrev pub past_limit : ℕ → Option Area → Option Area → Option ℕ
+past_limit limit before None = None
+past_limit limit before (Some after) =
+    if not (same_area before (Some after)) && nat_lt limit (square_units after) then Some (square_units after) else None
 
 -- the record after an upload at a stamp that made these versions, none where nothing was applied,
 -- and touched this area: what was applied is activity

@@ -1,7 +1,7 @@
 //! A changeset with promised room for its work.
 ghost use Rattle.std.specs.Prelude.{◌≡◌, ◌+◌, ◌-◌, ◌<◌, ◌≤◌, ◌∷◌, [], ◌++◌, length, Some, None, true, is_ok, if◌then◌else◌};
 ghost use Rattle.osm_base.specs.declared.limits.TheConstants.{MOMENT_LIMIT};
-ghost use Rattle.changeset_core.specs.Changeset.{closes, first_record, is_open, retagged, ended_at, widen, join_areas};
+ghost use Rattle.changeset_core.specs.Changeset.{closes, first_record, is_open, limit_of, retagged, ended_at, widen, join_areas};
 ghost use Rattle.changeset_core.specs.Timely.{IsTimelyMoment, IsTimelyRecord};
 
 use crate::areas::{join_boxes, widened};
@@ -22,6 +22,7 @@ pub struct Changeset {
     created: Stamp,
     activity: Stamp,
     ended: Option<Stamp>,
+    limit: u64,
     touched: Option<Box7>,
     did: Roomy<Work>,
 }
@@ -33,16 +34,16 @@ impl Model for Changeset {
 
     ghost Value = { Kept };
 
-    ghost view = { λ c. record { id = c.id; kept = record { owner = c.owner; tags = c.tags; created = c.created; activity = c.activity; ended = c.ended; touched = c.touched; did = c.did.items }; free = c.did.free } };
+    ghost view = { λ c. record { id = c.id; kept = record { owner = c.owner; tags = c.tags; created = c.created; activity = c.activity; ended = c.ended; limit = c.limit; touched = c.touched; did = c.did.items }; free = c.did.free } };
 
     ghost invariant = { λ c. IsTimelyMoment c.created × IsTimelyMoment c.activity × ForSome c.ended IsTimelyMoment };
 }
 
 impl Changeset {
     /// A changeset without changes, opened at a stamp. It takes no memory.
-    pub fn new(alloc: Global, id: u64, owner: Owner, tags: Tags, at: Stamp) -> Changeset
+    pub fn new(alloc: Global, id: u64, owner: Owner, tags: Tags, at: Stamp, limit: u64) -> Changeset
         requires { IsTimelyMoment at }
-        ensures { result ≡ record { id = id; kept = first_record owner tags at; free = 0 } }
+        ensures { result ≡ record { id = id; kept = first_record owner tags at limit; free = 0 } }
     {
         Changeset {
             id,
@@ -51,6 +52,7 @@ impl Changeset {
             created: at,
             activity: at,
             ended: None,
+            limit,
             touched: None,
             did: Roomy::none(alloc),
         }
@@ -105,6 +107,13 @@ impl Changeset {
         ensures { result ≡ length self.now.kept.did }
     {
         self.did.items().len() as u64
+    }
+
+    /// How many changes it may make.
+    pub fn limit(&self) -> u64
+        ensures { result ≡ limit_of self.now.kept }
+    {
+        self.limit
     }
 
     /// The least box of what its changes touched.

@@ -23,7 +23,7 @@ pub fn ends_are_bounded()
 
 /// What is done at a moment that is told apart leaves such moments.
 pub fn records_stay_timely()
-    ensures opened { (owner : Owner) (tags : List Tag) (t : ℕ) → IsTimelyMoment t → IsTimelyRecord (first_record owner tags t) }
+    ensures opened { (owner : Owner) (tags : List Tag) (t limit : ℕ) → IsTimelyMoment t → IsTimelyRecord (first_record owner tags t limit) }
     ensures retagged { (r : ChangesetRecord) (tags : List Tag) (t : ℕ) → IsTimelyRecord r → IsTimelyMoment t
         → IsTimelyRecord (retagged r tags t) }
     ensures ended { (r : ChangesetRecord) (t : ℕ) → IsTimelyRecord r → IsTimelyMoment t → IsTimelyRecord (ended_at r t) }

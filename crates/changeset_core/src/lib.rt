@@ -11,7 +11,7 @@ mod places;
 mod records;
 mod touched;
 
-pub use areas::join_boxes;
+pub use areas::{first_limit, join_boxes, past_limit};
 pub use changesets::Changeset;
 pub use law::{boxes_are_joined, ends_are_bounded, records_stay_timely};
 pub use places::Places;

@@ -1,7 +1,7 @@
 //! A changeset as a plain record, and what it did.
 use crate::areas::join_boxes;
 use crate::lives::{closed_at, closes};
-use osm_base::{Box7, CHANGE_LIMIT, Items, Key, Memory, Owner, Stamp};
+use osm_base::{Box7, Items, Key, Memory, Owner, Stamp};
 use osm_element::Tags;
 use std::alloc::Global;
 
@@ -13,7 +13,7 @@ pub struct Work {
 }
 
 /// What is known of a changeset (OpenStreetMap wiki, "Changesets"). It has made the versions of
-/// `did`, in that order, and `touched` is the least box of what they touched.
+/// `did`, in that order, at most `limit` of them, and `touched` is the least box of what they touched.
 #[derive(Drop)]
 pub struct ChangesetRecord {
     pub owner: Owner,
@@ -21,6 +21,7 @@ pub struct ChangesetRecord {
     pub created: Stamp,
     pub activity: Stamp,
     pub ended: Option<Stamp>,
+    pub limit: u64,
     pub touched: Option<Box7>,
     pub did: Items<Work>,
 }
@@ -32,8 +33,8 @@ impl ChangesetRecord {
     ghost use Rattle.changeset_core.specs.Timely.{IsTimelyRecord};
 
     /// The record of a changeset that is opened at a stamp. It takes no memory.
-    pub fn new(alloc: Global, owner: Owner, tags: Tags, at: Stamp) -> ChangesetRecord
-        ensures { result ≡ first_record owner tags at }
+    pub fn new(alloc: Global, owner: Owner, tags: Tags, at: Stamp, limit: u64) -> ChangesetRecord
+        ensures { result ≡ first_record owner tags at limit }
     {
         ChangesetRecord {
             owner,
@@ -41,6 +42,7 @@ impl ChangesetRecord {
             created: at,
             activity: at,
             ended: None,
+            limit,
             touched: None,
             did: Items::none(alloc),
         }
@@ -80,7 +82,7 @@ impl ChangesetRecord {
     pub fn limit(&self) -> u64
         ensures { result ≡ limit_of self.now }
     {
-        CHANGE_LIMIT
+        self.limit
     }
 
     /// Enters the versions that an upload made at a stamp, and the box of what it touched. Work is

@@ -74,6 +74,13 @@ pub enum Refusal {
         count: u64,
         limit: u64,
     },
+    /// The upload would widen the changeset's box to `area`, past the caller's limit. Both are in square
+    /// units of 1e-7 degrees.
+    BoxTooLarge {
+        area: u64,
+        changeset: u64,
+        limit: u64,
+    },
     NoElement {
         id: Said,
         op: Option<u32>,

@@ -36,6 +36,7 @@ refusal_status (refusals.NoChangeset id) = 404
 refusal_status (refusals.NotOwner changeset owner) = 409
 refusal_status (refusals.Closed changeset closed_at) = 409
 refusal_status (refusals.Full applied changeset count limit) = 409
+refusal_status (refusals.BoxTooLarge area changeset limit) = 413
 refusal_status (refusals.NoElement id op k) = 404
 refusal_status (refusals.NoSuchVersion id k version) = 404
 refusal_status (refusals.WrongVersion found id op provided k) = 409
@@ -84,6 +85,7 @@ error_name (refusals.NoChangeset id) = codes "no_changeset"
 error_name (refusals.NotOwner changeset owner) = codes "owner"
 error_name (refusals.Closed changeset closed_at) = codes "closed"
 error_name (refusals.Full applied changeset count limit) = codes "full"
+error_name (refusals.BoxTooLarge area changeset limit) = codes "box_too_large"
 error_name (refusals.NoElement id op k) = codes "no_element"
 error_name (refusals.NoSuchVersion id k version) = codes "no_such_version"
 error_name (refusals.WrongVersion found id op provided k) = codes "version"
@@ -109,6 +111,8 @@ before_error (refusals.Full applied changeset count limit) =
     field (codes "applied") (natural applied)
     ∷ field (codes "changeset") (natural changeset)
     ∷ field (codes "count") (natural count) ∷ []
+before_error (refusals.BoxTooLarge area changeset limit) =
+    field (codes "area") (natural area) ∷ field (codes "changeset") (natural changeset) ∷ []
 before_error (refusals.MapArea area limit) = field (codes "area") (natural area) ∷ []
 before_error _ = []
 
@@ -129,6 +133,7 @@ unfoldable pub of_changeset : Refusal → List Field
 of_changeset (refusals.NoChangeset id) = field (codes "id") (natural id) ∷ []
 of_changeset (refusals.NotOwner changeset owner) = field (codes "owner") (natural owner) ∷ []
 of_changeset (refusals.Full applied changeset count limit) = field (codes "limit") (natural limit) ∷ []
+of_changeset (refusals.BoxTooLarge area changeset limit) = field (codes "limit") (natural limit) ∷ []
 of_changeset (refusals.NoRedaction id) = field (codes "id") (natural id) ∷ []
 of_changeset (refusals.MapArea area limit) = field (codes "limit") (natural limit) ∷ []
 of_changeset (refusals.MapNodes limit nodes) = field (codes "limit") (natural limit) ∷ field (codes "nodes") (natural nodes) ∷ []

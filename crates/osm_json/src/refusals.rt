@@ -55,6 +55,7 @@ fn error_name(fault: &Refusal) -> &'static str
         Refusal::NotOwner { .. } => "owner",
         Refusal::Closed { .. } => "closed",
         Refusal::Full { .. } => "full",
+        Refusal::BoxTooLarge { .. } => "box_too_large",
         Refusal::NoElement { .. } => "no_element",
         Refusal::NoSuchVersion { .. } => "no_such_version",
         Refusal::WrongVersion { .. } => "version",
@@ -106,6 +107,17 @@ fn before_error(alloc: Global, out: &mut Writer, fault: &Refusal) -> Result<(), 
                 ("count", Shown::Natural(*count)),
             ],
         ),
+        Refusal::BoxTooLarge {
+            area,
+            changeset,
+            ..
+        } => members(
+            out,
+            &[
+                ("area", Shown::Natural(*area)),
+                ("changeset", Shown::Natural(*changeset)),
+            ],
+        ),
         Refusal::MapArea { area, .. } => members(out, &[("area", Shown::Natural(*area))]),
         _ => Ok(()),
     }
@@ -148,6 +160,7 @@ fn of_changeset(out: &mut Writer, fault: &Refusal) -> Result<(), AllocError>
         Refusal::NoChangeset { id } => members(out, &[("id", Shown::Natural(*id))]),
         Refusal::NotOwner { owner, .. } => members(out, &[("owner", Shown::Natural(*owner))]),
         Refusal::Full { limit, .. } => members(out, &[("limit", Shown::Natural(*limit))]),
+        Refusal::BoxTooLarge { limit, .. } => members(out, &[("limit", Shown::Natural(*limit))]),
         Refusal::NoRedaction { id } => members(out, &[("id", Shown::Natural(*id))]),
         Refusal::MapArea { limit, .. } => members(out, &[("limit", Shown::Natural(*limit))]),
         Refusal::MapNodes { limit, nodes } => members(

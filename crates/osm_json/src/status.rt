@@ -41,7 +41,7 @@ fn refusal_status(fault: &Refusal) -> u16
         | Refusal::WrongVersion { .. } => 409,
         Refusal::Gone { .. } => 410,
         Refusal::Missing { .. } | Refusal::Used { .. } => 412,
-        Refusal::BodyLong => 413,
+        Refusal::BodyLong | Refusal::BoxTooLarge { .. } => 413,
         Refusal::Xml => 415,
         Refusal::HeadLong => 431,
         Refusal::Coded => 501,

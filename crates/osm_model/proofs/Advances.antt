@@ -176,9 +176,9 @@ advances-end t P c =
     (λ r at was. record { created = was.created; activity = was.activity; ended = some_timely t at })
     (λ r was. was)
 
-advances-created : (t : ℕ) (P : State) (user : User) (tags : List Tag) → Advances t P (with_changeset P (new_changeset user t tags))
-advances-created t P user tags =
-    let r : ChangesetRecord = new_changeset user t tags in
+advances-created : (t : ℕ) (P : State) (user : User) (tags : List Tag) (large_from : Option ℕ) → Advances t P (with_changeset P (new_changeset user t tags large_from))
+advances-created t P user tags large_from =
+    let r : ChangesetRecord = new_changeset user t tags large_from in
     let Q : State = with_changeset P r in
     let grown : length Q.changesets ≡ length P.changesets + 1 = length-append P.changesets (r ∷ []) in
     let more : length P.changesets ≤ length Q.changesets = omega (arith, grown) in
@@ -269,7 +269,8 @@ pub judge-advances :
     (P : State) (user : User) (t : ℕ) (c : Command) (done : Effect)
     → judge P user t c ≡ Ok done
     → Advances t P done.state
-judge-advances P user t (command.CreateChangeset tags) done same = by-effect t P (create_changeset P user t tags) done same (advances-created t P user tags)
+judge-advances P user t (command.CreateChangeset tags large_from) done same =
+    by-effect t P (create_changeset P user t tags large_from) done same (advances-created t P user tags large_from)
 judge-advances P user t (command.Retag c tags) done same =
     let own = bind-Ok
     (own_changeset P user t c)

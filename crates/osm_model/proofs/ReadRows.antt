@@ -104,6 +104,7 @@ opened user touched = record {
   created = 0;
   activity = 0;
   ended = None;
+  limit = 10000;
   touched = touched;
   did = record { key = node; version = 1 } ∷ record { key = node; version = 3 } ∷ [];
 }

@@ -24,7 +24,7 @@ use Rattle.osm_model.specs.State.{empty, changeset}
 use Rattle.osm_model.specs.Act.{act}
 
 abbrev alice : User
-alice = record { id = 1; name = []; moderator = false }
+alice = record { id = 1; name = []; moderator = false; limit = None }
 
 abbrev run : State → List Command → State
 run P cs = fold (λ P c. (act P alice 1700000000 c).0) P cs
@@ -39,7 +39,7 @@ abbrev up : List Op → Command
 up ops = command.Upload 1 ops
 
 abbrev made : Command
-made = command.CreateChangeset []
+made = command.CreateChangeset [] None
 
 abbrev row_of : Option ℕ → Option ℕ → DiffRow
 row_of id version = record { kind = kind.Node; old_id = pos 1; new_id = id; new_version = version }
@@ -265,3 +265,41 @@ one_more_in_a_full_changeset :
     (act (full (run empty (made ∷ with_way ∷ []))) alice 1700000000 (up (Create (negsuc 0) (node 1 1) [] ∷ []))).1
     ≡ answer.Refused (refused.Full 1 1 10000 10000)
 one_more_in_a_full_changeset = refl
+
+-- ---- a limit on the box
+
+abbrev limited : User
+limited = record { id = 1; name = []; moderator = false; limit = Some 1000000 }
+
+abbrev corner : ℕ → Command
+corner lon = up (Create (negsuc 0) (node 481400000 115400000) [] ∷ Create (negsuc 1) (node 481401000 lon) [] ∷ [])
+
+box_at_the_limit :
+    (act (run empty (made ∷ [])) limited 1700000000 (corner 115401000)).1
+    ≡ answer.Diff (
+    record { kind = kind.Node; old_id = negsuc 0; new_id = Some 1; new_version = Some 1 }
+    ∷ record { kind = kind.Node; old_id = negsuc 1; new_id = Some 2; new_version = Some 1 }
+    ∷ [])
+box_at_the_limit = refl
+
+box_past_the_limit :
+    (act (run empty (made ∷ [])) limited 1700000000 (corner 115401001)).1
+    ≡ answer.Refused (refused.BoxTooLarge 1001000 1 1000000)
+box_past_the_limit = refl
+
+-- a box that is too large already and stays as it is
+same_box_past_the_limit :
+    (act (run empty (made ∷ corner 115401001 ∷ [])) limited 1700000000 (up (Modify (Old 1) 1 (node 481400000 115400000) [] ∷ []))).1
+    ≡ answer.Diff (row_of (Some 1) (Some 2) ∷ [])
+same_box_past_the_limit = refl
+
+-- ---- limits by the creation
+
+abbrev limit_of_first : State → Option ℕ
+limit_of_first P = option_and_then (λ r. Some r.limit) (changeset P 1)
+
+created_at_the_moment : limit_of_first (run empty (command.CreateChangeset [] (Some 1700000000) ∷ [])) ≡ Some 50000
+created_at_the_moment = refl
+
+created_before_the_moment : limit_of_first (run empty (command.CreateChangeset [] (Some 1700000001) ∷ [])) ≡ Some 10000
+created_before_the_moment = refl

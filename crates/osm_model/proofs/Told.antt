@@ -3,6 +3,7 @@ use Rattle.std.proofs.Common.{◌≡◌, ℕ, ◌+◌, Bool, true, false, List, 
 use Rattle.std.specs.Prelude.{Option, Result, MatchResult, All, not, is_some, find, nat_lt, ◌||◌, ◌==◌, if◌then◌else◌}
 use Rattle.std.specs.Option.{option_map_or, ForSome}
 use Rattle.osm_base.specs.Outcome.{◌>>=◌, refuse_if}
+use Rattle.osm_base.specs.Place.{Area}
 use Rattle.osm_base.specs.Stamp.{stamp_after}
 use Rattle.osm_base.specs.declared.keys.Kind.{Kind}
 use Rattle.osm_base.specs.declared.keys.Key.{Key}
@@ -22,7 +23,7 @@ use Rattle.osm_change.specs.declared.operations.Op.TheVariants.{Create, Modify, 
 use Rattle.osm_change.specs.declared.refusals.Refusal.{Refusal}
 use Rattle.osm_change.specs.declared.refusals.Refusal.TheVariants as refused
 use Rattle.osm_change.specs.declared.refusals.Said.TheVariants.{Id}
-use Rattle.changeset_core.specs.Changeset.{closes_by, closes, is_open, limit_of, retagged}
+use Rattle.changeset_core.specs.Changeset.{closes_by, closes, is_open, join_areas, limit_of, past_limit, retagged}
 use Rattle.changeset_core.specs.Timely.{IsTimelyMoment, IsTimelyRecord}
 use Rattle.changeset_core.specs.declared.records.ChangesetRecord.{ChangesetRecord}
 use Rattle.osm_model.specs.declared.states.State.{State}
@@ -35,7 +36,7 @@ use Rattle.osm_model.specs.Timely.{IsTimely}
 use Rattle.osm_model.specs.Upload.{Upload}
 use Rattle.osm_model.specs.Names.{known_key}
 use Rattle.osm_model.specs.Operation.{number, named_key, named_version, is_missing, missing, references_visible, created, modified, modify_known, modify_current, or_skipped, delete_unless_used, delete_visible, delete_known, used, gone, operate, operate_all}
-use Rattle.osm_model.specs.Fold.{start, applied_count, task, upload, upload_own, upload_counted, uploaded}
+use Rattle.osm_model.specs.Fold.{start, applied_count, task, upload, upload_own, upload_counted, upload_tested, box_allowed, uploaded}
 use Rattle.osm_model.specs.Act.{Effect, judge, settle, act, single_number, known_version, known_redaction, old_version, marked}
 use Rattle.osm_model.proofs.Advances.{changeset-all}
 
@@ -182,26 +183,39 @@ retagged_shown c t tags r at timely = row_shown c t (retagged r tags t) (record 
 
 -- ---- a command
 
+-- the box of a changeset tells no moment
+pub told-past : (limit c : ℕ) (o : Option ℕ) → Told {A = Unit {0}} (option_map_or (λ area. Err (refused.BoxTooLarge area c limit)) o (Ok tt))
+told-past limit c None = tt
+told-past limit c (Some area) = tt
+
+pub told-box : (limit : Option ℕ) (c : ℕ) (before after : Option Area) → Told (box_allowed limit c before after)
+told-box None c before after = tt
+told-box (Some limit) c before after = told-past limit c (past_limit limit before after)
+
+told-tested : (user : User) (u : Upload) (r : ChangesetRecord) (g : Progress) → Told (upload_tested user u r g)
+told-tested user u r g =
+    let boxed : Result (Unit {0}) Refusal = box_allowed user.limit u.changeset r.touched (join_areas r.touched g.touched) in
+    told-bind
+    (upload_counted u r g)
+    (λ (fine : Unit {0}). boxed >>= λ (fine : Unit {0}). Ok g)
+    (told-refuse_if (nat_lt (limit_of r) (length r.did + applied_count g)) (refused.Full (applied_count g) u.changeset (length r.did) (limit_of r)) tt)
+    (λ fine. told-bind boxed (λ (fine : Unit {0}). Ok g) (told-box user.limit u.changeset r.touched (join_areas r.touched g.touched)) (λ fine. tt))
+
 told-upload : (P : State) (user : User) (t c : ℕ) (ops : List Op) → All IsTimelyRecord P.changesets → Told (upload P user t c ops)
 told-upload P user t c ops all =
     let u : Upload = task P.elements c t ops in
     bind_ends
     (own_changeset P user t c)
-    (λ (r : ChangesetRecord). upload_own u r)
+    (λ (r : ChangesetRecord). upload_own user u r)
     IsTimelyRecord
     (λ (g : Progress). Unit {0})
     (own_changeset_shown P user t c all)
     (λ r own.
     told-bind
     (operate_all u (start P.elements) ops)
-    (λ (g : Progress). upload_counted u r g)
+    (λ (g : Progress). upload_tested user u r g)
     (told-operate_all u (start P.elements) ops)
-    (λ g.
-    told-bind
-    (refuse_if (nat_lt (limit_of r) (length r.did + applied_count g)) (refused.Full (applied_count g) c (length r.did) (limit_of r)))
-    (λ (fine : Unit {0}). Ok g)
-    (told-refuse_if (nat_lt (limit_of r) (length r.did + applied_count g)) (refused.Full (applied_count g) c (length r.did) (limit_of r)) tt)
-    (λ fine. tt)))
+    (λ g. told-tested user u r g))
 
 told-known_version : (P : State) (k : Key) (n : ℕ) → Told (known_version P k n)
 told-known_version P k n =
@@ -220,7 +234,7 @@ judge_shown :
     → IsTimelyMoment t
     → All IsTimelyRecord P.changesets
     → MatchResult (judge P user t c) Shown RefusalHasShownEnd
-judge_shown P user t (command.CreateChangeset tags) at all = tt
+judge_shown P user t (command.CreateChangeset tags large_from) at all = tt
 judge_shown P user t (command.Retag c tags) at all =
     bind_ends
     (own_changeset P user t c)

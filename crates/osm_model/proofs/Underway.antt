@@ -1,13 +1,13 @@
 -- How far an upload has come: whatever a visible element lists is visible, ids that were given have
 -- versions, histories only grow, and the versions that it made are there.
 use Rattle.std.proofs.Common.{◌≡◌, ℕ, ◌+◌, ◌<◌, ◌≤◌, Bool, true, false, List, [], ◌∷◌, ◌++◌, length, Some, None, Ok, Err, refl, sym, ap, ◌∙◌, ⊎_elim, subst, length-append, append-nil, arith}
-use Rattle.std.specs.Prelude.{Option, All, slice_get, option_and_then, nat_lt, ◌==◌, if◌then◌else◌}
+use Rattle.std.specs.Prelude.{Option, Result, All, slice_get, option_and_then, nat_lt, ◌==◌, if◌then◌else◌}
 use Rattle.std.specs.Option.{option_map_or}
 use Rattle.std.proofs.lemmas.Bool.Decides.{nat_tests}
 use Rattle.std.proofs.lemmas.Bool.{cases_Bool}
 use Rattle.std.proofs.lemmas.List.Elements.{All-nil, All-push}
 use Rattle.osm_base.specs.Key.{kind_eq, lists_key}
-use Rattle.osm_base.specs.Outcome.{refuse_if}
+use Rattle.osm_base.specs.Outcome.{◌>>=◌, refuse_if}
 use Rattle.osm_base.specs.declared.keys.Kind.{Kind}
 use Rattle.osm_base.specs.declared.keys.Key.{Key}
 use Rattle.osm_base.specs.declared.people.User.{User}
@@ -31,7 +31,7 @@ use Rattle.osm_change.specs.declared.operations.OpDone.{OpDone}
 use Rattle.osm_change.specs.declared.operations.OpDone.TheVariants.{Applied, Skipped}
 use Rattle.osm_change.specs.declared.refusals.Refusal.{Refusal}
 use Rattle.osm_change.specs.declared.refusals.Refusal.TheVariants as refused
-use Rattle.changeset_core.specs.Changeset.{limit_of}
+use Rattle.changeset_core.specs.Changeset.{join_areas}
 use Rattle.changeset_core.specs.declared.records.ChangesetRecord.{ChangesetRecord}
 use Rattle.changeset_core.specs.declared.records.Work.{Work}
 use Rattle.osm_model.specs.declared.states.State.{State}
@@ -41,7 +41,7 @@ use Rattle.osm_model.specs.State.{own_changeset}
 use Rattle.osm_model.specs.Upload.{Upload}
 use Rattle.osm_model.specs.Names.{of_kind, known_key, with_ids}
 use Rattle.osm_model.specs.Operation.{number, named_key, references_visible, next_key, made_version, applied, skipped, operate, operate_all}
-use Rattle.osm_model.specs.Fold.{start, applied_count, works, task, upload, upload_own, upload_counted}
+use Rattle.osm_model.specs.Fold.{start, works, task, upload, upload_own, upload_counted, upload_tested, box_allowed}
 use Rattle.osm_model.proofs.References.{references-visible}
 use Rattle.osm_model.proofs.Steps.{bind-Ok, Ok-same, passed-operate}
 use Rattle.osm_model.proofs.Versions.{pushed-version, works-later, works-push}
@@ -278,6 +278,17 @@ begins Q u = record {
   there = All-nil (IsVersion u.before);
 }
 
+-- what is taken is what was done
+pub tested-same :
+    (user : User) (u : Upload) (r : ChangesetRecord) (x : Result Progress Refusal) (g h : Progress)
+    → x ≡ Ok g
+    → upload_tested user u r g ≡ Ok h
+    → x ≡ Ok h
+tested-same user u r x g h done passed =
+    let boxed : Result (Unit {0}) Refusal = box_allowed user.limit u.changeset r.touched (join_areas r.touched g.touched) in
+    let counted = bind-Ok (upload_counted u r g) (λ (fine : Unit {0}). boxed >>= λ (fine : Unit {0}). Ok g) h passed in
+    done ∙ (bind-Ok boxed (λ (fine : Unit {0}). Ok g) h counted.2).2
+
 -- an accepted upload is the fold of its operations, on a changeset that its user may work on
 pub record IsFolded (P : State) (user : User) (t c : ℕ) (ops : List Op) (g : Progress) : Type 0 where
   pub kept : ChangesetRecord
@@ -290,15 +301,9 @@ pub upload-folded :
     → IsFolded P user t c ops g
 upload-folded P user t c ops g passed =
     let u : Upload = task P.elements c t ops in
-    let own = bind-Ok (own_changeset P user t c) (λ (r : ChangesetRecord). upload_own u r) g passed in
-    let fold = bind-Ok (operate_all u (start P.elements) ops) (λ (h : Progress). upload_counted u own.0 h) g own.2 in
-    let full = bind-Ok
-    (refuse_if (nat_lt (limit_of own.0) (length own.0.did + applied_count fold.0)) (refused.Full (applied_count fold.0) c (length own.0.did) (limit_of own.0)))
-    (λ (fine : Unit {0}). Ok fold.0)
-    g
-    fold.2
-    in
-    record { kept = own.0; own = own.1; folded = fold.1 ∙ full.2 }
+    let own = bind-Ok (own_changeset P user t c) (λ (r : ChangesetRecord). upload_own user u r) g passed in
+    let fold = bind-Ok (operate_all u (start P.elements) ops) (λ (h : Progress). upload_tested user u own.0 h) g own.2 in
+    record { kept = own.0; own = own.1; folded = tested-same user u own.0 (operate_all u (start P.elements) ops) fold.0 g fold.1 fold.2 }
 
 pub upload-underway :
     (Q : Version → Type 0) (P : State) (user : User) (t c : ℕ) (ops : List Op) (g : Progress)

@@ -30,9 +30,9 @@ pub record Effect : Type 0 where
   pub answer : Answer
 
 -- changeset c is the c-th
-abbrev pub create_changeset : State → User → ℕ → List Tag → Effect
-create_changeset P user t tags = record {
-  state = with_changeset P (new_changeset user t tags);
+abbrev pub create_changeset : State → User → ℕ → List Tag → Option ℕ → Effect
+create_changeset P user t tags large_from = record {
+  state = with_changeset P (new_changeset user t tags large_from);
   answer = answer.Number (length P.changesets + 1);
 }
 
@@ -96,7 +96,7 @@ unredact P k n = known_version P k n >>= λ there. Ok (marked P k n None)
 
 -- what a command comes to at a stamp
 abbrev pub judge : State → User → ℕ → Command → Result Effect Refusal
-judge P user t (command.CreateChangeset tags) = Ok (create_changeset P user t tags)
+judge P user t (command.CreateChangeset tags large_from) = Ok (create_changeset P user t tags large_from)
 judge P user t (command.Retag c tags) = retag P user t c tags
 judge P user t (command.CloseChangeset c) = close_changeset P user t c
 judge P user t (command.Upload c ops) = upload_change P user t c ops

@@ -1,5 +1,5 @@
 -- Changesets as the client is told of them, and who may work on them (wiki, "Changesets").
-use Rattle.std.specs.Prelude.{ℕ, ◌==◌, if◌then◌else◌, List, length, Result, Ok, Err}
+use Rattle.std.specs.Prelude.{ℕ, ◌==◌, if◌then◌else◌, List, length, Option, Result, Ok, Err}
 use Rattle.osm_base.specs.declared.people.Owner.{Owner}
 use Rattle.osm_base.specs.declared.people.User.{User}
 use Rattle.osm_element.specs.Tags.{Tag}
@@ -7,15 +7,15 @@ use Rattle.osm_change.specs.declared.answers.ChangesetRow.{ChangesetRow}
 use Rattle.osm_change.specs.declared.refusals.Refusal.{Refusal}
 use Rattle.osm_change.specs.declared.refusals.Refusal.TheVariants as refused
 use Rattle.changeset_core.specs.declared.records.ChangesetRecord.{ChangesetRecord}
-use Rattle.changeset_core.specs.Changeset.{closes, closed_at, is_open, first_record}
+use Rattle.changeset_core.specs.Changeset.{closes, closed_at, is_open, first_limit, first_record}
 
 -- the user as the owner of a changeset
 abbrev pub owner_of : User → Owner
 owner_of user = record { id = user.id; name = user.name }
 
--- the record of a changeset that a user opens at a stamp
-abbrev pub new_changeset : User → ℕ → List Tag → ChangesetRecord
-new_changeset user t tags = first_record (owner_of user) tags t
+-- the record of a changeset that a user opens at a stamp, by the moment from which its changes may be many
+abbrev pub new_changeset : User → ℕ → List Tag → Option ℕ → ChangesetRecord
+new_changeset user t tags large_from = first_record (owner_of user) tags t (first_limit large_from t)
 
 -- a changeset as the client is told at a stamp: its changes are counted
 abbrev pub changeset_row : ℕ → ChangesetRecord → ℕ → ChangesetRow

@@ -1,7 +1,8 @@
 -- A whole upload (wiki, API v0.6, "Diff upload").
-use Rattle.std.specs.Prelude.{ℕ, ◌+◌, nat_lt, List, [], ◌∷◌, ◌++◌, length, count_by, fold, filter_map, Option, Some, None, Result, Ok}
+use Rattle.std.specs.Prelude.{ℕ, ◌+◌, nat_lt, List, [], ◌∷◌, ◌++◌, length, count_by, fold, filter_map, Option, Some, None, Result, Ok, Err}
 use Rattle.std.specs.Option.{option_map_or}
 use Rattle.osm_base.specs.Outcome.{◌>>=◌, refuse_if}
+use Rattle.osm_base.specs.Place.{Area}
 use Rattle.osm_base.specs.declared.keys.Key.{Key}
 use Rattle.osm_base.specs.declared.people.User.{User}
 use Rattle.osm_element.specs.Elements.{version, push_version}
@@ -13,7 +14,7 @@ use Rattle.osm_change.specs.declared.operations.OpDone.{OpDone}
 use Rattle.osm_change.specs.declared.operations.OpDone.TheVariants.{Applied, Skipped}
 use Rattle.osm_change.specs.declared.refusals.Refusal.{Refusal}
 use Rattle.osm_change.specs.declared.refusals.Refusal.TheVariants as refused
-use Rattle.changeset_core.specs.Changeset.{limit_of}
+use Rattle.changeset_core.specs.Changeset.{join_areas, limit_of, past_limit}
 use Rattle.changeset_core.specs.declared.records.ChangesetRecord.{ChangesetRecord}
 use Rattle.changeset_core.specs.declared.records.Work.{Work}
 use Rattle.osm_model.specs.State.{own_changeset, with_work}
@@ -40,22 +41,33 @@ works (k ∷ ks) [] = []
 works (k ∷ ks) (d ∷ ds) = work_of k d ++ works ks ds
 
 -- the changeset takes so many changes
-abbrev pub upload_counted : Upload → ChangesetRecord → Progress → Result Progress Refusal
+abbrev pub upload_counted : Upload → ChangesetRecord → Progress → Result (Unit {0}) Refusal
 upload_counted u r g =
     refuse_if
     (nat_lt (limit_of r) (length r.did + applied_count g))
     (refused.Full (applied_count g) u.changeset (length r.did) (limit_of r))
-    >>= λ fine. Ok g
 
-abbrev pub upload_own : Upload → ChangesetRecord → Result Progress Refusal
-upload_own u r = operate_all u (start u.before) u.operations >>= λ g. upload_counted u r g
+-- a changeset with the one box may have the other, by the user's limit, if the user has one
+abbrev pub box_allowed : Option ℕ → ℕ → Option Area → Option Area → Result (Unit {0}) Refusal
+box_allowed None c before after = Ok tt
+box_allowed (Some limit) c before after =
+    option_map_or (λ area. Err (refused.BoxTooLarge area c limit)) (past_limit limit before after) (Ok tt)
+
+-- the changeset takes what was done: so many changes, then its box with theirs
+abbrev pub upload_tested : User → Upload → ChangesetRecord → Progress → Result Progress Refusal
+upload_tested user u r g =
+    upload_counted u r g
+    >>= (λ fine. box_allowed user.limit u.changeset r.touched (join_areas r.touched g.touched) >>= λ fine. Ok g)
+
+abbrev pub upload_own : User → Upload → ChangesetRecord → Result Progress Refusal
+upload_own user u r = operate_all u (start u.before) u.operations >>= λ g. upload_tested user u r g
 
 abbrev pub task : Elements → ℕ → ℕ → List Op → Upload
 task E c t ops = record { before = E; changeset = c; stamp = t; operations = ops }
 
--- the changeset's tests, then the operations in order, then the changeset's limit
+-- whether the changeset is the user's and open, then the operations in order, then whether it takes them
 abbrev pub upload : State → User → ℕ → ℕ → List Op → Result Progress Refusal
-upload P user t c ops = own_changeset P user t c >>= λ r. upload_own (task P.elements c t ops) r
+upload P user t c ops = own_changeset P user t c >>= λ r. upload_own user (task P.elements c t ops) r
 
 -- the map after it: the elements as it leaves them, and what it did entered in its changeset
 abbrev pub uploaded : State → ℕ → ℕ → Progress → State

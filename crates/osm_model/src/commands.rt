@@ -9,6 +9,9 @@ use std::alloc::Global;
 pub enum Command {
     CreateChangeset {
         tags: Tags,
+        /// The moment from which new changesets may make 50,000 changes, in seconds since 1970, as
+        /// it was known when this one was created.
+        large_from: Option<u64>,
     },
     Retag {
         changeset: u64,
@@ -42,8 +45,9 @@ pub enum Command {
 impl TryCopy for Command {
     fn copy(&self, alloc: Global) -> Result<Command, Memory> {
         match self {
-            Command::CreateChangeset { tags } => Ok(Command::CreateChangeset {
+            Command::CreateChangeset { tags, large_from } => Ok(Command::CreateChangeset {
                 tags: tags.copy(alloc)?,
+                large_from: *large_from,
             }),
             Command::Retag { changeset, tags } => Ok(Command::Retag {
                 changeset: *changeset,

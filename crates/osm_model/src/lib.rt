@@ -2,6 +2,7 @@
 //! that they make.
 #![tactic(auto)]
 
+mod boxes;
 mod commands;
 mod faults;
 mod law;
@@ -9,6 +10,7 @@ mod queries;
 mod states;
 mod uploads;
 
+pub use boxes::box_allowed;
 pub use commands::{Command, Entry};
 pub use faults::Fault;
 pub use law::{

@@ -1,6 +1,6 @@
 -- What each accepted command leaves.
-use Rattle.std.proofs.Common.{◌≡◌, ℕ, zero, suc, ◌+◌, ◌-◌, ◌<◌, ◌≤◌, Bool, true, false, List, [], ◌∷◌, length, Some, None, Ok, Err, refl, sym, ap, ◌∙◌, subst, arith}
-use Rattle.std.specs.Prelude.{Option, Result, IsOk, slice_get, nat_lt, not, is_some, ◌==◌, if◌then◌else◌}
+use Rattle.std.proofs.Common.{◌≡◌, ℕ, zero, suc, ◌-◌, ◌<◌, ◌≤◌, Bool, true, false, List, [], ◌∷◌, length, Some, None, Ok, Err, refl, sym, ap, ◌∙◌, subst, arith}
+use Rattle.std.specs.Prelude.{Option, Result, IsOk, slice_get, not, is_some, ◌==◌, if◌then◌else◌}
 use Rattle.std.specs.Option.{option_map_or}
 use Rattle.std.proofs.lemmas.Bool.Decides.{nat_tests}
 use Rattle.osm_base.specs.Outcome.{◌>>=◌, refuse_if}
@@ -15,17 +15,18 @@ use Rattle.osm_change.specs.declared.operations.Op.{Op}
 use Rattle.osm_change.specs.declared.refusals.Refusal.{Refusal}
 use Rattle.osm_change.specs.declared.refusals.Refusal.TheVariants as refused
 use Rattle.osm_change.specs.declared.refusals.Said.TheVariants.{Id}
-use Rattle.changeset_core.specs.Changeset.{closes, ended_at, is_open, limit_of, retagged}
+use Rattle.changeset_core.specs.Changeset.{closes, ended_at, is_open, retagged}
 use Rattle.changeset_core.specs.declared.records.ChangesetRecord.{ChangesetRecord}
 use Rattle.osm_model.specs.Act.{Effect, judge, create_changeset, single_number, make_redaction, known_version, known_redaction, old_version, marked}
 use Rattle.osm_model.specs.Changeset.{changeset_row, new_changeset, open_record, own_record}
-use Rattle.osm_model.specs.Fold.{applied_count, start, task, upload, upload_own, upload_counted, uploaded}
+use Rattle.osm_model.specs.Fold.{start, task, upload, upload_own, upload_tested, uploaded}
 use Rattle.osm_model.specs.Operation.{operate_all}
 use Rattle.osm_model.specs.State.{HasChangeset, changeset, own_changeset, with_changeset, with_end, with_mark, with_record, with_redaction, with_tags}
 use Rattle.osm_model.specs.declared.commands.Command.{Command}
 use Rattle.osm_model.specs.declared.commands.Command.TheVariants as command
 use Rattle.osm_model.specs.declared.states.State.{State}
 use Rattle.osm_model.specs.declared.uploads.Progress.{Progress}
+use Rattle.osm_model.proofs.Underway.{tested-same}
 use Rattle.osm_world.specs.World.{Runs}
 use Rattle.osm_world.proofs.Operations.{bind-Ok}
 
@@ -103,8 +104,11 @@ pub record IsChanged (P : State) (t c : ℕ) (f : ChangesetRecord → ChangesetR
 changed-is : (P : State) (t c : ℕ) (r : ChangesetRecord) (f : ChangesetRecord → ChangesetRecord) → IsOwn P t c r → option_map_or (λ r. with_record P c (f r)) (changeset P c) P ≡ with_record P c (f r)
 changed-is P t c r f is = ap (λ (o : Option ChangesetRecord). option_map_or (λ r. with_record P c (f r)) o P) is.known
 
-pub created : (P : State) (user : User) (t : ℕ) (tags : List Tag) (done : Effect) → judge P user t (command.CreateChangeset tags) ≡ Ok done → done.state ≡ with_changeset P (new_changeset user t tags)
-created P user t tags done passed = state-of (create_changeset P user t tags) done passed
+pub created :
+    (P : State) (user : User) (t : ℕ) (tags : List Tag) (large_from : Option ℕ) (done : Effect)
+    → judge P user t (command.CreateChangeset tags large_from) ≡ Ok done
+    → done.state ≡ with_changeset P (new_changeset user t tags large_from)
+created P user t tags large_from done passed = state-of (create_changeset P user t tags large_from) done passed
 
 pub retagging : (P : State) (user : User) (t c : ℕ) (tags : List Tag) (done : Effect) → judge P user t (command.Retag c tags) ≡ Ok done → IsChanged P t c (λ r. retagged r tags t) done
 retagging P user t c tags done passed =
@@ -143,16 +147,10 @@ record IsPassed (P : State) (t c : ℕ) (ops : List Op) (g : Progress) : Type 0 
 passed-upload : (P : State) (user : User) (t c : ℕ) (ops : List Op) (g : Progress) → upload P user t c ops ≡ Ok g → IsPassed P t c ops g
 passed-upload P user t c ops g e =
     let u = task P.elements c t ops in
-    let mine = bind-Ok (own_changeset P user t c) (λ (r : ChangesetRecord). upload_own u r) g e in
-    let fold = bind-Ok (operate_all u (start P.elements) ops) (λ (h : Progress). upload_counted u mine.0 h) g mine.2 in
-    let full = bind-Ok
-    (refuse_if (nat_lt (limit_of mine.0) (length mine.0.did + applied_count fold.0)) (refused.Full (applied_count fold.0) c (length mine.0.did) (limit_of mine.0)))
-    (λ (fine : Unit {0}). Ok fold.0)
-    g
-    fold.2
-    in
+    let mine = bind-Ok (own_changeset P user t c) (λ (r : ChangesetRecord). upload_own user u r) g e in
+    let fold = bind-Ok (operate_all u (start P.elements) ops) (λ (h : Progress). upload_tested user u mine.0 h) g mine.2 in
     record {
-      runs = fold.1 ∙ full.2;
+      runs = tested-same user u mine.0 (operate_all u (start P.elements) ops) fold.0 g fold.1 fold.2;
       there = (own P user t c mine.0 mine.1).there;
     }
 

@@ -5,7 +5,7 @@ use Rattle.osm_base.specs.Place.{Position}
 use Rattle.osm_base.specs.Row.{Row}
 use Rattle.osm_base.specs.declared.keys.Kind.TheVariants as kind
 use Rattle.osm_base.specs.declared.keys.Key.{Key}
-use Rattle.osm_element.specs.Elements.{key, next_id, is_visible}
+use Rattle.osm_element.specs.Elements.{next_id, is_visible}
 use Rattle.osm_element.specs.Tags.{Tag}
 use Rattle.osm_element.specs.declared.contents.Content.{Content}
 use Rattle.osm_element.specs.declared.contents.Content.TheVariants as content

@@ -68,7 +68,7 @@ pub record HasUploadRoom (s : Stores) (laid : Laid) (c : ℕ) (ops : List Op) : 
 
 -- a command needs no memory
 abbrev pub HasRoomFor : Stores → Laid → Command → Type 0
-HasRoomFor s laid (command.CreateChangeset tags) = 0 < s.changesets.free
+HasRoomFor s laid (command.CreateChangeset tags large_from) = 0 < s.changesets.free
 HasRoomFor s laid (command.Retag c tags) = ⊤
 HasRoomFor s laid (command.CloseChangeset c) = ⊤
 HasRoomFor s laid (command.Upload c ops) = HasUploadRoom s laid c ops

@@ -7,7 +7,7 @@ ghost use Rattle.osm_base.specs.declared.people.User.{User};
 ghost use Rattle.osm_model.specs.Changeset.{new_changeset};
 ghost use Rattle.osm_world.specs.Records.{records, rooms, ids, AreNumbered, HasNoMoreRoom};
 
-use changeset_core::Changeset;
+use changeset_core::{Changeset, first_limit};
 use osm_base::{Memory, Owner, Roomy, Stamp, Text, User};
 use osm_element::Tags;
 use std::alloc::Global;
@@ -18,7 +18,7 @@ pub fn vacant(alloc: Global) -> Changeset {
         id: 0,
         name: Text::from_string(String::new(alloc)),
     };
-    Changeset::new(alloc, 0, owner, Tags::none(alloc), Stamp(0))
+    Changeset::new(alloc, 0, owner, Tags::none(alloc), Stamp(0), 0)
 }
 
 /// Adds a changeset that a user opens at a stamp.
@@ -28,10 +28,11 @@ pub fn add_changeset(
     user: User,
     tags: Tags,
     at: Stamp,
+    large_from: Option<u64>,
 )
     requires room { 0 < changesets.old.free }
     requires timely { IsTimelyMoment at }
-    ensures records { records changesets.new.items ≡ records changesets.old.items ++ new_changeset user at tags ∷ [] }
+    ensures records { records changesets.new.items ≡ records changesets.old.items ++ new_changeset user at tags large_from ∷ [] }
     ensures numbered { AreNumbered changesets.old.items → AreNumbered changesets.new.items }
     ensures rooms { HasNoMoreRoom changesets.old.items changesets.new.items }
 {
@@ -40,7 +41,8 @@ pub fn add_changeset(
         id: user.id,
         name: user.name,
     };
-    changesets.push(Changeset::new(alloc, id, owner, tags, at));
+    let limit = first_limit(large_from, at);
+    changesets.push(Changeset::new(alloc, id, owner, tags, at, limit));
 }
 
 /// Gives a changeset other tags, which is activity.

@@ -57,8 +57,8 @@ impl Stores {
         ensures rooms { HasNoMoreRoom self.old.changesets.items self.new.changesets.items }
     {
         match command {
-            Command::CreateChangeset { tags } => {
-                add_changeset(alloc, &mut self.changesets, user, tags, at)
+            Command::CreateChangeset { tags, large_from } => {
+                add_changeset(alloc, &mut self.changesets, user, tags, at, large_from)
             }
             Command::Retag { changeset, tags } => {
                 set_tags(alloc, &mut self.changesets, changeset, tags, at)

@@ -4,7 +4,7 @@ ghost use Rattle.changeset_core.specs.Changeset.{is_open, retagged};
 ghost use Rattle.osm_model.specs.Changeset.{new_changeset, changeset_row};
 ghost use Rattle.osm_model.specs.State.{changeset, own_changeset, HasChangeset};
 
-use changeset_core::ChangesetRecord;
+use changeset_core::{ChangesetRecord, first_limit};
 use osm_base::{Memory, Stamp, TryCopy, User};
 use osm_change::{ChangesetRow, Refusal};
 use osm_element::Tags;
@@ -17,12 +17,14 @@ pub fn new_changeset(
     user: &User,
     at: Stamp,
     tags: &Tags,
+    large_from: Option<u64>,
 ) -> Result<ChangesetRecord, Memory>
-    ensures { IfOk result (λ made. made ≡ new_changeset user.now at tags.now) }
+    ensures { IfOk result (λ made. made ≡ new_changeset user.now at tags.now large_from) }
 {
     let owner = user.owner(alloc)?;
     let tags = tags.copy(alloc)?;
-    Ok(ChangesetRecord::new(alloc, owner, tags, at))
+    let limit = first_limit(large_from, at);
+    Ok(ChangesetRecord::new(alloc, owner, tags, at, limit))
 }
 
 /// A changeset as the client is told at a stamp.

@@ -9,9 +9,10 @@ ghost use Rattle.plain_model.specs.Outcome.{Leaves};
 use crate::changesets::own_changeset;
 use crate::operations::operate;
 use crate::uploads::{UploadTask, applied_count, start};
+use changeset_core::join_boxes;
 use osm_base::{Stamp, User};
 use osm_change::{Change, Refusal};
-use osm_model::{Fault, Progress, State};
+use osm_model::{Fault, Progress, State, box_allowed};
 use std::alloc::Global;
 
 /// Judges one operation after the other, each on what the earlier ones left.
@@ -61,5 +62,7 @@ pub fn upload(
             limit,
         }));
     }
+    let touched = join_boxes(kept.touched, progress.touched);
+    box_allowed(user.limit, id, kept.touched, touched)?;
     Ok(progress)
 }

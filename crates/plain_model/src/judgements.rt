@@ -209,8 +209,8 @@ pub fn judge(
     ensures { StepsTo state.now (judge state.now user.now at command.now) result }
 {
     match command {
-        Command::CreateChangeset { tags } => {
-            let made = new_changeset(alloc, user, at, tags)?;
+        Command::CreateChangeset { tags, large_from } => {
+            let made = new_changeset(alloc, user, at, tags, *large_from)?;
             let id = state.changesets.items().len() as u64 + 1;
             Ok((Alteration::AddChangeset(made), Answer::Number(id)))
         }

@@ -17,7 +17,7 @@ returns-in-CreateChangeset-clause-done c done e =
     let P : State = stored_state c.args.self.now in
     let J : Command → Type 0 = λ d. judge P c.args.user c.args.at d ≡ Ok done in
     ap (λ (rs : List ChangesetRecord). record P { changesets = rs }) c.add_changeset.ensures.records
-    ∙ sym (created P c.args.user c.args.at c.in-CreateChangeset.tags done (subst J c.in-CreateChangeset.is e))
+    ∙ sym (created P c.args.user c.args.at c.in-CreateChangeset.tags c.in-CreateChangeset.large_from done (subst J c.in-CreateChangeset.is e))
 
 pub set_tags-requires-clause-counted : goal.set_tags-requires-clause-counted
 set_tags-requires-clause-counted c =
