@@ -15,7 +15,7 @@ use Rattle.upload_check.specs.declared.standings.Holds.{Holds}
 use Rattle.upload_check.specs.declared.standings.Holds.TheVariants.{AsBefore, Nothing, FromOperation}
 
 pub all_alike : (E : Elements) (o : Overlaid) → StandsAlike E o o
-all_alike E o = record { keys = refl; next = refl; standings = λ k. refl }
+all_alike E o = record { keys = refl; next = refl; standings = λ k. refl; touched = refl }
 
 pub alike_stands : (E : Elements) (ops : List Op) (old new : Overlaid) → StandsAlike E old new → (g : Progress) → StandsFor (sight E ops old) g → StandsFor (sight E ops new) g
 alike_stands E ops old new alike g st = record {
@@ -35,6 +35,7 @@ alike_stands E ops old new alike g st = record {
       (subst (λ (ks : List Key). IsEarlier (length ks) (standing_in E old.notes k).holds) (sym alike.keys) (st.earlier k));
   given = λ place k found. st.given place k (ap (λ (ks : List Key). slice_get ks place) (sym alike.keys) ∙ found);
   grown = st.grown;
+  touched = alike.touched ∙ st.touched;
 }
   where
     same : (k : Key) (h : Holds) → content_by (sight E ops new) k h ≡ content_by (sight E ops old) k h

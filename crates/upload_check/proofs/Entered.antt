@@ -1,9 +1,10 @@
 -- The overlay after an operation stands for what the operation left.
-use Rattle.std.proofs.Common.{◌≡◌, ℕ, ◌+◌, ◌<◌, ◌≤◌, Bool, true, false, ◌&&◌, ◌||◌, List, [], ◌∷◌, ◌++◌, length, length-append, take, Some, Ok, Err, refl, sym, ap, ◌∙◌, ⊎_elim, subst, arith}
+use Rattle.std.proofs.Common.{◌≡◌, ℕ, ◌+◌, ◌<◌, ◌≤◌, Bool, true, false, ◌&&◌, ◌||◌, List, [], ◌∷◌, ◌++◌, length, length-append, take, Some, None, Ok, Err, refl, sym, ap, ◌∙◌, ⊎_elim, subst, arith}
 use Rattle.std.specs.Prelude.{Option, Result, ℤ, not, slice_get, option_and_then, ◌==◌, if◌then◌else◌}
 use Rattle.std.proofs.lemmas.Bool.Decides.{nat_tests}
 use Rattle.std.proofs.lemmas.List.{take-append-le, take_all}
 use Rattle.osm_base.specs.Key.{kind_eq, key_eq, lists_key}
+use Rattle.osm_base.specs.Place.{Area}
 use Rattle.osm_base.specs.declared.keys.Kind.{Kind}
 use Rattle.osm_base.specs.declared.keys.Kind.TheVariants as kind
 use Rattle.osm_base.specs.declared.keys.Key.{Key}
@@ -16,7 +17,8 @@ use Rattle.osm_element.specs.declared.contents.Content.{Content}
 use Rattle.osm_element.specs.declared.elements.Elements.{Elements}
 use Rattle.osm_element.specs.declared.versions.Version.{Version}
 use Rattle.osm_element.proofs.Later.{next-push, later-push}
-use Rattle.osm_element.proofs.Pushed.{history-push, content-push}
+use Rattle.osm_element.proofs.Pushed.{last_content, history-push, content-push}
+use Rattle.osm_element.proofs.Used as used
 use Rattle.osm_change.specs.Change.{kind_of}
 use Rattle.osm_change.specs.Keys.{one_more, ids_after}
 use Rattle.osm_change.specs.declared.operations.FirstIds.{FirstIds}
@@ -25,12 +27,13 @@ use Rattle.osm_change.specs.declared.operations.Op.{Op}
 use Rattle.osm_change.specs.declared.operations.Op.TheVariants.{Create, Modify, Delete}
 use Rattle.osm_change.specs.declared.operations.OpDone.{OpDone}
 use Rattle.osm_change.specs.declared.operations.OpDone.TheVariants.{Applied, Skipped}
+use Rattle.changeset_core.specs.Changeset.{join_areas}
 use Rattle.osm_model.specs.Fold.{task}
 use Rattle.osm_model.specs.Operation.{made_version, applied, skipped, operate}
 use Rattle.osm_model.specs.declared.uploads.Progress.{Progress}
 use Rattle.osm_world.specs.Beds.{first_ids, content_of_op, tags_of_op}
-use Rattle.upload_check.specs.Overlay.{Notes, Overlaid, Sight, sight, standing_in, standing, content_by, content_now, IsEarlier, StandsFor}
-use Rattle.upload_check.specs.Effects.{user_counts, HasUsers, holds_of, IsApplied, AreNotesOf, IsEntered, done_of}
+use Rattle.upload_check.specs.Overlay.{Notes, Overlaid, Sight, sight, standing_in, standing, content_by, content_now, touched_now, IsEarlier, StandsFor}
+use Rattle.upload_check.specs.Effects.{user_counts, HasUsers, holds_of, IsApplied, AreNotesOf, touched_after, IsEntered, IsFresh, done_of}
 use Rattle.upload_check.specs.Checks.{makes, check}
 use Rattle.upload_check.specs.Judged.{Passes, GoesOn}
 use Rattle.osm_base.specs.Outcome.{◌>>=◌}
@@ -43,6 +46,7 @@ use Rattle.upload_check.specs.declared.standings.Holds.TheVariants.{AsBefore, No
 use Rattle.upload_check.proofs.Agrees.{stepped, after, next-same, check-agrees}
 use Rattle.upload_check.proofs.Given.{IsGiven, IsOn, check-on, on-given, on-key}
 use Rattle.upload_check.proofs.Given.IsOn.{creates, names}
+use Rattle.upload_check.proofs.Touched.{touched-same}
 use Rattle.upload_check.proofs.Users.{listed-used, counts-push}
 
 -- ---- the ids that come next
@@ -188,8 +192,9 @@ module _ (s : Sight) (g : Progress) (c t : ℕ) (o : Op) (k : Key) (new : Overla
       → new.keys ≡ s.over.keys ++ k ∷ []
       → new.next ≡ first_ids left-applied.elements
       → IsApplied s o k new.notes
+      → new.touched ≡ touched_after true s o k
       → StandsFor (sight s.before s.operations new) left-applied
-  stands-applied st there counted reached keys next on = record {
+  stands-applied st there counted reached keys next on touched = record {
     keys = keys ∙ ap (λ (ks : List Key). ks ++ k ∷ []) st.keys;
     next = next;
     versions = λ b. on.versions b ∙ count-step b (key_eq b k) refl;
@@ -207,6 +212,10 @@ module _ (s : Sight) (g : Progress) (c t : ℕ) (o : Op) (k : Key) (new : Overla
     earlier = λ b. subst (IsEarlier (length new.keys)) (sym (on.holds b)) (earlier-step b (key_eq b k));
     given = λ place x found. given-step place x (sym (ap (λ (ks : List Key). slice_get ks place) keys) ∙ found);
     grown = λ q. omega (arith, st.grown q, (later-push g.elements k version-made counted reached).grown q);
+    touched = touched
+        ∙ ap (λ (area : Option Area). join_areas area (touched_now s k (content_of_op s.over.keys o))) st.touched
+        ∙ ap (λ (ks : List Key). join_areas g.touched (touched_now s k (content_of_op ks o))) st.keys
+        ∙ ap (join_areas g.touched) (touched-same s g k (content_of_op g.keys o) st);
   }
     where
       F : Elements
@@ -255,8 +264,9 @@ stands-skipped :
     → new.keys ≡ s.over.keys ++ k ∷ []
     → new.next ≡ s.over.next
     → new.notes ≡ s.over.notes
+    → new.touched ≡ s.over.touched
     → StandsFor (sight s.before s.operations new) (skipped g k)
-stands-skipped s g k new st given keys next notes = record {
+stands-skipped s g k new st given keys next notes touched = record {
   keys = keys ∙ ap (λ (ks : List Key). ks ++ k ∷ []) st.keys;
   next = next ∙ st.next;
   versions = λ b. ap (λ (x : Standing). x.versions) (stays b) ∙ st.versions b;
@@ -272,6 +282,7 @@ stands-skipped s g k new st given keys next notes = record {
       (λ own. subst (λ (y : Key). (0 < y.id) × (y.id < next_id g.elements y.kind)) (sym own.1) (given.counted, given.below))
       (found_in_push s.over.keys k place x (sym (ap (λ (ks : List Key). slice_get ks place) keys) ∙ found));
   grown = st.grown;
+  touched = touched ∙ st.touched;
 }
   where
     stays : (b : Key) → standing_in s.before new.notes b ≡ standing s b
@@ -307,6 +318,7 @@ stands-stepped s g c t o step new st there (creates placeholder content tags is 
     let k = key q (next_id g.elements q) in
     let same : step ≡ makes k = step_is ∙ ap makes (next-same s g q st) in
     let notes : IsApplied s o k new.notes = subst (λ (x : Step). AreNotesOf x.applies s o x.key new.notes) same on.notes in
+    let touched : new.touched ≡ touched_after true s o k = subst (λ (x : Step). new.touched ≡ touched_after x.applies s o x.key) same on.touched in
     let next : new.next ≡ first_ids (left-applied s g c t o k new).elements =
     on.next
     ∙ ap (ids_after s.over.next) is
@@ -314,8 +326,8 @@ stands-stepped s g c t o step new st there (creates placeholder content tags is 
     ∙ sym (made-next g.elements q (version-made s g c t o k new))
     in
     subst (λ (x : Step). StandsFor (sight s.before s.operations new) (stepped (task s.before c t s.operations) g o x)) (sym same)
-    (stands-applied s g c t o k new st there (omega arith) (omega arith) (on.keys ∙ ap (λ (x : Step). s.over.keys ++ x.key ∷ []) same) next notes)
-stands-stepped s g c t o step new st there (names q name known_is key_is other) on = by step.applies on.notes
+    (stands-applied s g c t o k new st there (omega arith) (omega arith) (on.keys ∙ ap (λ (x : Step). s.over.keys ++ x.key ∷ []) same) next notes touched)
+stands-stepped s g c t o step new st there (names q name known_is key_is other) on = by step.applies on.notes on.touched
   where
     given : IsGiven g.elements step.key
     given = on-given s g q name step.key st known_is
@@ -323,12 +335,13 @@ stands-stepped s g c t o step new st there (names q name known_is key_is other) 
     next : new.next ≡ s.over.next
     next = on.next ∙ ids-kept s.over.next o other
 
-    by : (b : Bool) → AreNotesOf b s o step.key new.notes → StandsFor (sight s.before s.operations new) (if b then applied (task s.before c t s.operations) g step.key (content_of_op g.keys o) (tags_of_op o) else skipped g step.key)
-    by true notes =
+    by : (b : Bool) → AreNotesOf b s o step.key new.notes → new.touched ≡ touched_after b s o step.key → StandsFor (sight s.before s.operations new) (if b then applied (task s.before c t s.operations) g step.key (content_of_op g.keys o) (tags_of_op o) else skipped g step.key)
+    by true notes touched =
         stands-applied s g c t o step.key new st there given.counted (omega (arith, given.below)) on.keys
         (next ∙ st.next ∙ sym (made-again g.elements step.key (version-made s g c t o step.key new) given))
         notes
-    by false notes = stands-skipped s g step.key new st given on.keys next notes
+        touched
+    by false notes touched = stands-skipped s g step.key new st given on.keys next notes touched
 
 pub passes :
     (s : Sight) (g : Progress) (c t : ℕ) (o : Op) (step : Step) (new : Overlaid)
@@ -375,6 +388,31 @@ entered-is : (E : Elements) (ops seen : List Op) (old new : Overlaid) (place : �
 entered-is E ops seen old new place o found step is on =
     subst (λ (x : Op). IsEntered (sight E ops old) x step new) (found-is E ops seen old place o found is)
     (subst (λ (l : List Op). IsEntered (sight E l old) found step new) is.all on)
+
+-- what is created is none of the elements so far
+stands-fresh : (s : Sight) (g : Progress) (o : Op) (step : Step) → StandsFor s g → IsOn s o step → IsFresh s o step.key
+stands-fresh s g o step st (creates placeholder content tags is step_is) =
+    let q = kind_of content in
+    let k = key q (next_id g.elements q) in
+    subst (λ (x : Op). IsFresh s x step.key) (sym is)
+    (subst (λ (x : Step). content_now s x.key ≡ None) (sym (step_is ∙ ap makes (next-same s g q st)))
+    (st.content k ∙ ap last_content (nothing k (omega arith))))
+  where
+    nothing : (k : Key) → next_id g.elements k.kind ≤ k.id → history g.elements k ≡ []
+    nothing k high = ⊎_elim (λ none. none) (λ there. absurd (omega (arith, there.1, high))) (used.known g.elements k)
+stands-fresh s g (Create placeholder content tags) step st (names q name known_is key_is other) = absurd (other placeholder content tags refl)
+stands-fresh s g (Modify name' version content tags) step st (names q name known_is key_is other) = tt
+stands-fresh s g (Delete q' name' version if_unused) step st (names q name known_is key_is other) = tt
+
+pub is-fresh :
+    (E : Elements) (ops seen : List Op) (over : Overlaid) (g : Progress) (o : Op) (step : Step)
+    → StandsFor (sight E ops over) g
+    → seen ≡ ops
+    → check (sight E seen over) o ≡ Ok step
+    → IsFresh (sight E seen over) o step.key
+is-fresh E ops seen over g o step st all checked =
+    let now = subst (λ (l : List Op). StandsFor (sight E l over) g) (sym all) st in
+    stands-fresh (sight E seen over) g o step now (check-on (sight E seen over) o step checked)
 
 pub judged-passed :
     (E : Elements) (ops seen : List Op) (old new : Overlaid) (place : ℕ) (o found : Op) (step : Step) (d : OpDone)

@@ -2,8 +2,11 @@ mod Noted
 mod Users
 mod FirstUser
 mod Named
+mod Touched
 mod Changed
 mod Kept
+mod Shifted
+mod Walks
 mod Agrees
 mod Given
 mod Entered

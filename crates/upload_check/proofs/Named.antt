@@ -1,12 +1,11 @@
 -- What a content of an upload lists, by the elements that its names stand for.
-use Rattle.std.proofs.Common.{◌≡◌, Bool, true, false, ◌||◌, List, [], ◌∷◌, ◌++◌, Ok, Err, refl, sym, ap, ◌∙◌}
+use Rattle.std.proofs.Common.{◌≡◌, Bool, ◌||◌, List, [], ◌∷◌, ◌++◌, map, Ok, Err, refl, sym, ap, ◌∙◌}
 use Rattle.std.specs.Prelude.{Result, OnOk}
 use Rattle.std.specs.List.{list_any}
 use Rattle.osm_base.specs.Key.{key_eq, lists_key}
 use Rattle.osm_base.specs.declared.keys.Kind.TheVariants as kind
 use Rattle.osm_base.specs.declared.keys.Key.{Key}
 use Rattle.osm_base.specs.declared.memory.Memory.{Memory}
-use Rattle.osm_base.proofs.KeyLists.{lists-append}
 use Rattle.osm_element.specs.Elements.{key, refs}
 use Rattle.osm_element.specs.declared.contents.Content.{Content}
 use Rattle.osm_element.specs.declared.contents.Content.TheVariants as content
@@ -23,29 +22,39 @@ pub members_listed : (ks : List Key) (ms : List (Member Name)) (b : Key) → lis
 members_listed ks [] b = refl
 members_listed ks (m ∷ ms) b = ap (λ (p : Bool). key_eq (key m.kind (id_of ks m.name)) b || p) (members_listed ks ms b)
 
--- nothing more is listed
-pub none_listed : (p : Bool) → p ≡ (p || false)
-none_listed true = refl
-none_listed false = refl
+-- the same in list order
+way_refs : (ks : List Key) (names : List Name) → refs (with_ids ks (content.Way names)) ≡ map (λ name. key kind.Node (id_of ks name)) names
+way_refs ks [] = refl
+way_refs ks (n ∷ ns) = ap (λ (rs : List Key). key kind.Node (id_of ks n) ∷ rs) (way_refs ks ns)
+
+relation_refs : (ks : List Key) (ms : List (Member Name)) → refs (with_ids ks (content.Relation ms)) ≡ map (λ m. key m.kind (id_of ks m.name)) ms
+relation_refs ks [] = refl
+relation_refs ks (m ∷ ms) = ap (λ (rs : List Key). key m.kind (id_of ks m.name) ∷ rs) (relation_refs ks ms)
 
 -- the nodes of a way were added to a list
 pub nodes_added :
     (r : Result (Unit {0}) Memory) (ks : List Key) (names more : List Name) (c : Content Name) (old new : List Key)
     → more ≡ names
     → c ≡ content.Way names
-    → OnOk r ((b : Key) → lists_key new b ≡ lists_key old b || list_any (λ name. key_eq (key kind.Node (id_of ks name)) b) more)
-    → OnOk r ((b : Key) → lists_key new b ≡ lists_key old b || lists_key (refs (with_ids ks c)) b)
-nodes_added (Ok u) ks names more c old new same is added = λ b.
-    added b
-    ∙ ap (λ (ns : List Name). lists_key old b || list_any (λ name. key_eq (key kind.Node (id_of ks name)) b) ns) same
-    ∙ ap (λ (p : Bool). lists_key old b || p) (sym (nodes_listed ks names b))
-    ∙ ap (λ (x : Content Name). lists_key old b || lists_key (refs (with_ids ks x)) b) (sym is)
+    → OnOk r (new ≡ old ++ map (λ name. key kind.Node (id_of ks name)) more)
+    → OnOk r (new ≡ old ++ refs (with_ids ks c))
+nodes_added (Ok u) ks names more c old new same is added =
+    added
+    ∙ ap (λ (ns : List Name). old ++ map (λ name. key kind.Node (id_of ks name)) ns) same
+    ∙ ap (λ (rs : List Key). old ++ rs) (sym (way_refs ks names))
+    ∙ ap (λ (x : Content Name). old ++ refs (with_ids ks x)) (sym is)
 nodes_added (Err e) ks names more c old new same is added = added
 
--- keys were added to a list
-pub keys_added :
-    (r : Result (Unit {0}) Memory) (old more new : List Key)
-    → OnOk r (new ≡ old ++ more)
-    → OnOk r ((b : Key) → lists_key new b ≡ lists_key old b || lists_key more b)
-keys_added (Ok u) old more new added = λ b. ap (λ (ks : List Key). lists_key ks b) added ∙ lists-append old more b
-keys_added (Err e) old more new added = added
+-- and the members of a relation
+pub members_added :
+    (r : Result (Unit {0}) Memory) (ks : List Key) (members more : List (Member Name)) (c : Content Name) (old new : List Key)
+    → more ≡ members
+    → c ≡ content.Relation members
+    → OnOk r (new ≡ old ++ map (λ m. key m.kind (id_of ks m.name)) more)
+    → OnOk r (new ≡ old ++ refs (with_ids ks c))
+members_added (Ok u) ks members more c old new same is added =
+    added
+    ∙ ap (λ (ms : List (Member Name)). old ++ map (λ m. key m.kind (id_of ks m.name)) ms) same
+    ∙ ap (λ (rs : List Key). old ++ rs) (sym (relation_refs ks members))
+    ∙ ap (λ (x : Content Name). old ++ refs (with_ids ks x)) (sym is)
+members_added (Err e) ks members more c old new same is added = added

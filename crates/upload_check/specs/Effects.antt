@@ -1,6 +1,7 @@
 -- What an operation that is passed makes of the overlay.
-use Rattle.std.specs.Prelude.{◌≡◌, ℕ, ◌+◌, ◌<◌, ◌^◌, Bool, true, false, if◌then◌else◌, List, [], ◌∷◌, ◌++◌, length}
+use Rattle.std.specs.Prelude.{◌≡◌, ℕ, ◌+◌, ◌<◌, ◌^◌, Bool, true, false, if◌then◌else◌, List, [], ◌∷◌, ◌++◌, length, Option, None}
 use Rattle.osm_base.specs.Key.{key_eq, lists_key}
+use Rattle.osm_base.specs.Place.{Area}
 use Rattle.osm_base.specs.declared.keys.Key.{Key}
 use Rattle.osm_element.specs.Elements.{refs_in}
 use Rattle.osm_element.specs.declared.elements.Elements.{Elements}
@@ -9,8 +10,9 @@ use Rattle.osm_change.specs.declared.operations.Op.{Op}
 use Rattle.osm_change.specs.declared.operations.Op.TheVariants.{Create, Modify, Delete}
 use Rattle.osm_change.specs.declared.operations.OpDone.{OpDone}
 use Rattle.osm_change.specs.declared.operations.OpDone.TheVariants.{Applied, Skipped}
+use Rattle.changeset_core.specs.Changeset.{join_areas}
 use Rattle.osm_world.specs.Beds.{content_of_op}
-use Rattle.upload_check.specs.Overlay.{Notes, Overlaid, Sight, IsNoted, standing_in, standing, content_now}
+use Rattle.upload_check.specs.Overlay.{Notes, Overlaid, Sight, IsNoted, standing_in, standing, content_now, touched_now}
 use Rattle.upload_check.specs.Users.{others, AreLowered, AreRaised}
 use Rattle.upload_check.specs.declared.standings.Holds.{Holds}
 use Rattle.upload_check.specs.declared.standings.Standing.{Standing}
@@ -25,6 +27,12 @@ user_counts E n b = (standing_in E n b).users
 pub record HasUsers (s : Sight) (k : Key) : Type 0 where
   pub each : (b : Key) → others k (refs_in (content_now s k)) b ≡ true → 0 < (standing s b).users
 
+-- what an operation creates holds nothing yet
+abbrev pub IsFresh : Sight → Op → Key → Type 0
+IsFresh s (Create placeholder content tags) k = content_now s k ≡ None
+IsFresh s (Modify name version content tags) k = Unit {0}
+IsFresh s (Delete kind name version if_unused) k = Unit {0}
+
 -- two notes that differ in numbers of users alone
 pub record SameElements (E : Elements) (old new : Notes) : Type 0 where
   pub versions : (b : Key) → (standing_in E new b).versions ≡ (standing_in E old b).versions
@@ -37,15 +45,6 @@ AreAsBefore E old new = (b : Key) → standing_in E new b ≡ standing_in E old 
 -- something is still noted of each element of which something was
 abbrev pub StayNoted : Notes → Notes → Type 0
 StayNoted old new = (b : Key) → IsNoted old b → IsNoted new b
-
--- one user more or less of an element takes no memory, and its number has a next
-pub record IsReady (E : Elements) (n : Notes) (k : Key) : Type 0 where
-  pub noted : IsNoted n k
-  pub room : user_counts E n k + 1 < 2 ^ 64
-
--- the same of each of a list
-abbrev pub AreReady : Elements → Notes → List Key → Type 0
-AreReady E n ks = (b : Key) → lists_key ks b ≡ true → IsReady E n b
 
 -- where the content of an operation stands
 abbrev pub holds_of : ℕ → Op → Holds
@@ -86,8 +85,14 @@ AreNotesOf false s o k new = new ≡ s.over.notes
 abbrev pub done_of : Sight → Step → OpDone
 done_of s step = if step.applies then Applied ((standing s step.key).versions + 1) else Skipped (standing s step.key).versions
 
+-- the box after an operation
+abbrev pub touched_after : Bool → Sight → Op → Key → Option Area
+touched_after true s o k = join_areas s.over.touched (touched_now s k (content_of_op s.over.keys o))
+touched_after false s o k = s.over.touched
+
 -- the overlay after an operation
 pub record IsEntered (s : Sight) (o : Op) (step : Step) (new : Overlaid) : Type 0 where
   pub keys : new.keys ≡ s.over.keys ++ step.key ∷ []
   pub next : new.next ≡ ids_after s.over.next o
   pub notes : AreNotesOf step.applies s o step.key new.notes
+  pub touched : new.touched ≡ touched_after step.applies s o step.key

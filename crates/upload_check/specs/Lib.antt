@@ -2,6 +2,7 @@ pub mod Users
 pub mod Overlay
 pub mod Checks
 pub mod Effects
+pub mod Shifts
 pub mod Judged
 pub mod Asked
 pub mod Planned

@@ -1,18 +1,20 @@
 -- What an upload has come to after some of its operations, beside the elements of before.
-use Rattle.std.specs.Prelude.{◌≡◌, ℕ, ◌-◌, ◌<◌, ◌≤◌, nat_lt, if◌then◌else◌, Bool, true, false, not, ◌&&◌, List, [], length, take, slice_get, Option, Some, None, is_some, option_and_then, unwrap_or}
+use Rattle.std.specs.Prelude.{◌≡◌, ℕ, ◌-◌, ◌<◌, ◌≤◌, nat_lt, if◌then◌else◌, Bool, true, false, not, ◌&&◌, List, [], ◌∷◌, ◌++◌, length, take, filter_map, slice_get, Option, Some, None, is_some, option_and_then, option_to_list, unwrap_or}
 use Rattle.std.specs.Map.{lookup}
 use Rattle.std.specs.Option.{option_or}
 use Rattle.std.specs.Ordering.{nat_cmp}
 use Rattle.std.specs.BTreeMap.{is_at}
 use Rattle.osm_base.specs.Key.{key_eq, lists_key}
+use Rattle.osm_base.specs.Place.{Area, Position}
 use Rattle.osm_base.specs.declared.keys.Kind.{Kind}
 use Rattle.osm_base.specs.declared.keys.Kind.TheVariants as kind
 use Rattle.osm_base.specs.declared.keys.Key.{Key}
-use Rattle.osm_element.specs.Elements.{next_id, count, content_of, refs_in, users}
+use Rattle.osm_element.specs.Elements.{next_id, count, content_of, position_in, refs_in, users}
 use Rattle.osm_element.specs.declared.contents.Content.{Content}
 use Rattle.osm_element.specs.declared.elements.Elements.{Elements}
 use Rattle.osm_change.specs.declared.operations.FirstIds.{FirstIds}
 use Rattle.osm_change.specs.declared.operations.Op.{Op}
+use Rattle.changeset_core.specs.Changeset.{new_position, widen_all}
 use Rattle.osm_model.specs.declared.uploads.Progress.{Progress}
 use Rattle.osm_world.specs.Beds.{first_ids, content_of_op}
 use Rattle.upload_check.specs.declared.standings.Standing.{Standing}
@@ -57,11 +59,13 @@ noted n k = noted_at (notes_of n k.kind) k.id
 abbrev pub IsNoted : Notes → Key → Type 0
 IsNoted n k = is_some (noted n k) ≡ true
 
--- the elements of the operations so far, the ids that come next, and what is noted
+-- the elements of the operations so far, the ids that come next, what is noted, and the box of what
+-- was touched
 pub record Overlaid : Type 0 where
   pub keys : List Key
   pub next : FirstIds
   pub notes : Notes
+  pub touched : Option Area
 
 -- an overlay over the elements of before, for some operations
 pub record Sight : Type 0 where
@@ -99,6 +103,17 @@ is_visible s k = is_some (content_now s k)
 abbrev pub uses : Sight → Key → Key → Bool
 uses s a b = lists_key (refs_in (content_now s a)) b && not (key_eq a b)
 
+-- where an element lies, if it is a visible node
+abbrev pub position_now : Sight → Key → Option Position
+position_now s k = option_and_then position_in (content_now s k)
+
+-- the least box of what a new content of an element touches, if that is anything
+abbrev pub touched_now : Sight → Key → Option (Content ℕ) → Option Area
+touched_now s k new =
+    widen_all
+    None
+    (filter_map (position_now s) (k ∷ (refs_in (content_now s k) ++ refs_in new)) ++ option_to_list (new_position new))
+
 -- the content isn't that of a later operation
 abbrev pub IsEarlier : ℕ → Holds → Type 0
 IsEarlier n AsBefore = Unit {0}
@@ -119,10 +134,12 @@ pub record StandsFor (s : Sight) (g : Progress) : Type 0 where
   -- the elements of the operations so far have ids that were given, and none was taken back
   pub given : (place : ℕ) (k : Key) → slice_get s.over.keys place ≡ Some k → (0 < k.id) × (k.id < next_id g.elements k.kind)
   pub grown : (q : Kind) → next_id s.before q ≤ next_id g.elements q
+  pub touched : s.over.touched ≡ g.touched
 
--- Two overlays that stand for the same, whatever it is: they have the same elements and the same ids
--- that come next, and each element stands alike. What is noted may differ.
+-- Two overlays that stand for the same, whatever it is: they have the same elements, the same ids that
+-- come next and the same box, and each element stands alike. What is noted may differ.
 pub record StandsAlike (E : Elements) (old new : Overlaid) : Type 0 where
   pub keys : new.keys ≡ old.keys
   pub next : new.next ≡ old.next
   pub standings : (k : Key) → standing_in E new.notes k ≡ standing_in E old.notes k
+  pub touched : new.touched ≡ old.touched

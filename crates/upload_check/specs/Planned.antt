@@ -2,6 +2,7 @@
 use Rattle.std.specs.Prelude.{◌≡◌, ℕ, List, slice_get, Some, Result, Ok, Err, MatchResult}
 use Rattle.osm_base.specs.Key.{IsRising}
 use Rattle.osm_base.specs.Outcome.{◌>>=◌}
+use Rattle.osm_base.specs.declared.people.User.{User}
 use Rattle.osm_change.specs.Moments.{RefusalHasShownEnd}
 use Rattle.osm_change.specs.declared.operations.OpDone.{OpDone}
 use Rattle.osm_change.specs.declared.refusals.Refusal.{Refusal}
@@ -10,23 +11,23 @@ use Rattle.osm_element.specs.declared.elements.Elements.{Elements}
 use Rattle.osm_later.specs.declared.looks.CountLook.{CountLook}
 use Rattle.osm_later.specs.declared.looks.UsersLook.{UsersLook}
 use Rattle.osm_later.specs.declared.looks.Look.{Look}
-use Rattle.osm_later.specs.Settle.{counted_done}
+use Rattle.osm_later.specs.Settle.{Done, tested_done}
 use Rattle.osm_later.specs.Plan.{Plan, StandsOn, IsPlannedOn}
 use Rattle.osm_later.specs.Still.{Differs}
 use Rattle.upload_check.specs.Asked.{AskedUpload}
 use Rattle.upload_check.specs.declared.plans.Found.{Found}
-use Rattle.upload_check.specs.declared.plans.Found.TheVariants.{Done, Refused}
+use Rattle.upload_check.specs.declared.plans.Found.TheVariants as found
 
--- what is asked for, the looks, and what the operations did
+-- what is asked for, the looks, and what the operations did and touched
 pub record Planned : Type 0 where
   pub asked : AskedUpload
   pub counts : List CountLook
   pub users : List UsersLook
-  pub outcome : Result (List OpDone) Refusal
+  pub outcome : Result Done Refusal
 
-abbrev pub outcome_of : Found → Result (List OpDone) Refusal
-outcome_of (Done ds) = Ok ds
-outcome_of (Refused r) = Err r
+abbrev pub outcome_of : Found → Result Done Refusal
+outcome_of (found.Done rows touched) = Ok (record { rows = rows; touched = touched })
+outcome_of (found.Refused r) = Err r
 
 -- as the rules of plans see it
 abbrev pub plan_of : Planned → Plan
@@ -48,11 +49,11 @@ abbrev pub IsStill : Result (Unit {0}) Look → Planned → Elements → Type 0
 IsStill told p E = MatchResult told (λ _. StandsOn (plan_of p) E) (λ look. ¬ StandsOn (plan_of p) E × Differs look (plan_of p) E)
 
 -- what was found out, where the changeset takes it
-abbrev pub taken_by : ℕ → ChangesetRecord → Result (List OpDone) Refusal → Result (List OpDone) Refusal
-taken_by c r outcome = outcome >>= counted_done c r
+abbrev pub taken_by : User → ℕ → ChangesetRecord → Result Done Refusal → Result (List OpDone) Refusal
+taken_by user c r outcome = outcome >>= tested_done user c r
 
-abbrev pub IsShown : Result (List OpDone) Refusal → Type 0
-IsShown (Ok ds) = Unit {0}
+abbrev pub IsShown : Result Done Refusal → Type 0
+IsShown (Ok d) = Unit {0}
 IsShown (Err r) = RefusalHasShownEnd r
 
 -- what every plan has: its lists of users are in order, and each moment of its refusal has a text

@@ -8,7 +8,7 @@ ghost use Rattle.upload_check.specs.Planned.{outcome_of, taken_by};
 
 use crate::planning::judge_change;
 use crate::plans::Found;
-use crate::settles::has_room;
+use crate::settles::{has_box, has_room};
 use changeset_core::Changeset;
 use osm_base::{Memory, Stamp, Steps, User};
 use osm_change::Change;
@@ -52,16 +52,19 @@ fn is_taken(world: &World, user: &User, at: Stamp, id: u64, found: &Found) -> bo
     ensures { result ≡ is_ok (settle_done (state_of world.now) user.now at id (outcome_of found.now)) }
 {
     match world.own_changeset(user, at, id) {
-        Ok(kept) => has_room_for(kept, id, found),
+        Ok(kept) => takes(kept, user, id, found),
         Err(_) => false,
     }
 }
 
-fn has_room_for(kept: &Changeset, id: u64, found: &Found) -> bool
-    ensures { result ≡ is_ok (taken_by id kept.now.kept (outcome_of found.now)) }
+/// Whether the changeset takes what was found out.
+fn takes(kept: &Changeset, user: &User, id: u64, found: &Found) -> bool
+    ensures { result ≡ is_ok (taken_by user.now id kept.now.kept (outcome_of found.now)) }
 {
     match found {
-        Found::Done(rows) => has_room(kept, id, rows.items()).is_ok(),
+        Found::Done { rows, touched } => {
+            has_room(kept, id, rows.items()).is_ok() && has_box(kept, user, id, *touched).is_ok()
+        }
         Found::Refused(_) => false,
     }
 }

@@ -70,6 +70,15 @@ pub fn copy_refusal(alloc: Global, refusal: &Refusal) -> Result<Refusal, Memory>
             count: *count,
             limit: *limit,
         },
+        Refusal::BoxTooLarge {
+            area,
+            changeset,
+            limit,
+        } => Refusal::BoxTooLarge {
+            area: *area,
+            changeset: *changeset,
+            limit: *limit,
+        },
         Refusal::NoElement { id, op, kind } => Refusal::NoElement {
             id: *id,
             op: *op,

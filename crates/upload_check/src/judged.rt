@@ -3,7 +3,7 @@ ghost use Rattle.std.specs.Prelude.{◌≡◌, ℕ, ◌+◌, ◌<◌, ◌^◌, l
 ghost use Rattle.osm_change.specs.declared.operations.Op.{Op};
 ghost use Rattle.osm_model.specs.declared.uploads.Progress.{Progress};
 ghost use Rattle.osm_world.specs.World.{state_of};
-ghost use Rattle.upload_check.specs.Effects.{HasUsers, IsEntered, done_of};
+ghost use Rattle.upload_check.specs.Effects.{HasUsers, IsEntered, IsFresh, done_of};
 ghost use Rattle.upload_check.specs.Judged.{IsAt, IsJudged, Leaves};
 ghost use Rattle.upload_check.specs.Overlay.{sight, StandsAlike, StandsFor};
 
@@ -75,6 +75,7 @@ fn pass(
 ) -> Result<OpDone, Memory>
     requires few { length over.old.keys < 2 ^ 32 }
     requires users { HasUsers (sight (state_of world.now).elements operations.now over.old) step.key }
+    requires fresh { IsFresh (sight (state_of world.now).elements operations.now over.old) operation.now step.key }
     ensures entered { OnOk result (IsEntered (sight (state_of world.now).elements operations.now over.old) operation.now step over.new) }
     ensures done { IfOk result (λ done. done ≡ done_of (sight (state_of world.now).elements operations.now over.old) step) }
     ensures memory { OnErr result (StandsAlike (state_of world.now).elements over.old over.new) }

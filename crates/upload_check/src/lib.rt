@@ -4,6 +4,7 @@
 #![tactic(auto)]
 
 mod acceptance;
+mod boxes;
 mod checks;
 mod copies;
 mod counts;
@@ -18,6 +19,7 @@ mod planning;
 mod plans;
 mod references;
 mod settles;
+mod shifts;
 mod sights;
 mod standings;
 mod stills;

@@ -1,22 +1,22 @@
 //! What an upload has come to so far, beside the map of before.
-ghost use Rattle.std.specs.Prelude.{◌≡◌, ℕ, ◌<◌, ◌^◌, [], ◌∷◌, ◌++◌, List, length, IfOk, OnOk, OnErr};
-ghost use Rattle.osm_base.specs.Key.{lists_key, IsRising};
-ghost use Rattle.osm_base.specs.declared.keys.Key.{Key};
+ghost use Rattle.std.specs.Prelude.{◌≡◌, ℕ, ◌<◌, ◌^◌, [], ◌∷◌, ◌++◌, List, None, length, IfOk, OnOk, OnErr};
 ghost use Rattle.osm_element.specs.Elements.{refs_in};
 ghost use Rattle.osm_change.specs.declared.operations.Op.{Op};
+ghost use Rattle.changeset_core.specs.Changeset.{join_areas};
 ghost use Rattle.diff_result.specs.Counted.{HasNumbers};
 ghost use Rattle.osm_model.specs.Fold.{start};
 ghost use Rattle.osm_world.specs.Beds.{first_ids, content_of_op};
 ghost use Rattle.osm_world.specs.World.{state_of};
-ghost use Rattle.upload_check.specs.Effects.{holds_of, HasUsers, IsApplied, IsEntered};
-ghost use Rattle.upload_check.specs.Overlay.{content_now, sight, StandsAlike, StandsFor};
+ghost use Rattle.upload_check.specs.Effects.{holds_of, HasUsers, IsApplied, IsEntered, IsFresh};
+ghost use Rattle.upload_check.specs.Overlay.{content_now, sight, touched_now, StandsAlike, StandsFor};
 
 use crate::checks::Step;
 use crate::counts::make;
 use crate::references::add_given;
 use crate::sights::View;
 use crate::standings::{Holds, Standings};
-use osm_base::{Key, Kind, Memory};
+use changeset_core::join_boxes;
+use osm_base::{Box7, Key, Kind, Memory};
 use osm_change::{FirstIds, Op};
 use osm_world::World;
 use rising_lists::keys_sorted_once;
@@ -25,13 +25,14 @@ use std::marker::Model;
 use std::mem;
 
 /// What the operations of an upload have come to so far, beside the map of before: their elements,
-/// the ids that come next, and where each element stands of which they changed anything. The lists
-/// `ended` and `begun` serve one operation after the other.
+/// the ids that come next, where each element stands of which they changed anything, and the box of
+/// what they touched. The lists `ended` and `begun` serve one operation after the other.
 #[derive(Drop)]
 pub struct Overlay {
     keys: Vec<Key>,
     next: FirstIds,
     standings: Standings,
+    touched: Option<Box7>,
     ended: Vec<Key>,
     begun: Vec<Key>,
 }
@@ -41,7 +42,7 @@ impl Model for Overlay {
 
     ghost Value = { Overlaid };
 
-    ghost view = { λ o. record { keys = o.keys.items; next = o.next; notes = o.standings } };
+    ghost view = { λ o. record { keys = o.keys.items; next = o.next; notes = o.standings; touched = o.touched } };
 }
 
 impl Overlay {
@@ -59,6 +60,7 @@ impl Overlay {
             keys,
             next,
             standings: Standings::new(alloc, next),
+            touched: None,
             ended: Vec::new(alloc),
             begun: Vec::new(alloc),
         })
@@ -76,6 +78,13 @@ impl Overlay {
         ensures { result ≡ self.now.next }
     {
         self.next
+    }
+
+    /// The least box of what the operations so far touched, if that is anything.
+    pub fn touched(&self) -> Option<Box7>
+        ensures { result ≡ self.now.touched }
+    {
+        self.touched
     }
 
     /// What is noted of elements.
@@ -96,6 +105,7 @@ impl Overlay {
     ) -> Result<(), Memory>
         requires few { length self.old.keys < 2 ^ 32 }
         requires users { HasUsers (sight (state_of world.now).elements operations.now self.old) step.key }
+        requires fresh { IsFresh (sight (state_of world.now).elements operations.now self.old) operation.now step.key }
         ensures entered { OnOk result (IsEntered (sight (state_of world.now).elements operations.now self.old) operation.now step self.new) }
         ensures memory { OnErr result (StandsAlike (state_of world.now).elements self.old self.new) }
     {
@@ -117,8 +127,9 @@ impl Overlay {
         Ok(())
     }
 
-    /// Enters an operation that makes a version of an element, and counts the users of what it
-    /// listed and of what it lists. All memory is taken before anything is entered.
+    /// Enters an operation that makes a version of an element, counts the users of what it listed and
+    /// of what it lists, and joins the box of what it touches. All memory is taken before anything is
+    /// entered.
     fn apply(
         &mut self,
         alloc: Global,
@@ -130,15 +141,25 @@ impl Overlay {
     ) -> Result<(), Memory>
         requires few { length self.old.keys < 2 ^ 32 }
         requires users { HasUsers (sight (state_of world.now).elements operations.now self.old) key }
+        requires fresh { IsFresh (sight (state_of world.now).elements operations.now self.old) operation.now key }
         ensures keys { OnOk result (self.new.keys ≡ self.old.keys ++ key ∷ []) }
         ensures next { OnOk result (self.new.next ≡ next) }
         ensures notes { OnOk result (IsApplied (sight (state_of world.now).elements operations.now self.old) operation.now key self.new.notes) }
+        ensures touched { OnOk result (self.new.touched ≡ join_areas self.old.touched (touched_now (sight (state_of world.now).elements operations.now self.old) key (content_of_op self.old.keys operation.now))) }
         ensures memory { OnErr result (StandsAlike (state_of world.now).elements self.old self.new) }
     {
-        let ended = self.ended_uses(alloc, world, operations, key)?;
+        let ended = self.ended_uses(alloc, world, operations, operation, key)?;
         let begun = self.begun_uses(alloc, operation)?;
+        let touched = View {
+            world,
+            operations,
+            over: self,
+        }
+        .touched(operation, key, ended.as_slice(), begun.as_slice());
         let holds = holds_of(self.keys().len() as u32, operation);
         self.keys.reserve(1)?;
+        let ended = keys_sorted_once(ended);
+        let begun = keys_sorted_once(begun);
         make(
             world,
             &mut self.standings,
@@ -149,24 +170,26 @@ impl Overlay {
         )?;
         self.keys.push_reserved(key);
         self.next = next;
+        self.touched = join_boxes(self.touched, touched);
         self.ended = ended;
         self.begun = begun;
         Ok(())
     }
 
-    /// What an element lists, in order, in the list of the last operation.
+    /// What the element of an operation lists before it, in list order, in the list of the last
+    /// operation.
     fn ended_uses(
         &mut self,
         alloc: Global,
         world: &World,
         operations: &[Op],
+        operation: &Op,
         key: Key,
     ) -> Result<Vec<Key>, Memory>
+        requires { IsFresh (sight (state_of world.now).elements operations.now self.old) operation.now key }
         ensures same { self.new ≡ self.old }
-        ensures rising { IfOk result (λ listed. IsRising listed.items) }
         ensures listed { IfOk result
-            (λ listed. (b : Key) → lists_key listed.items b
-            ≡ lists_key (refs_in (content_now (sight (state_of world.now).elements operations.now self.old) key)) b) }
+            (λ listed. listed.items ≡ refs_in (content_now (sight (state_of world.now).elements operations.now self.old) key)) }
     {
         let mut listed = mem::replace(&mut self.ended, Vec::new(alloc));
         listed.clear();
@@ -175,21 +198,19 @@ impl Overlay {
             operations,
             over: self,
         };
-        view.add_listed(key, &mut listed)?;
-        Ok(keys_sorted_once(listed))
+        view.add_replaced(operation, key, &mut listed)?;
+        Ok(listed)
     }
 
-    /// What an operation's content lists, in order, in the list of the last operation.
+    /// What an operation's content lists, in list order, in the list of the last operation.
     fn begun_uses(&mut self, alloc: Global, operation: &Op) -> Result<Vec<Key>, Memory>
         ensures same { self.new ≡ self.old }
-        ensures rising { IfOk result (λ listed. IsRising listed.items) }
-        ensures listed { IfOk result
-            (λ listed. (b : Key) → lists_key listed.items b ≡ lists_key (refs_in (content_of_op self.old.keys operation.now)) b) }
+        ensures listed { IfOk result (λ listed. listed.items ≡ refs_in (content_of_op self.old.keys operation.now)) }
     {
         let mut listed = mem::replace(&mut self.begun, Vec::new(alloc));
         listed.clear();
         add_given(self.keys.as_slice(), operation, &mut listed)?;
-        Ok(keys_sorted_once(listed))
+        Ok(listed)
     }
 }
 

@@ -90,7 +90,10 @@ fn find_out<L: Ledger>(
             }
         }
     }
-    Ok(Found::Done(Items::of(rows)))
+    Ok(Found::Done {
+        rows: Items::of(rows),
+        touched: over.touched(),
+    })
 }
 
 /// The same from an overlay of its own, which is given up once.

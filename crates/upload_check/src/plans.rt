@@ -1,5 +1,5 @@
 //! Uploads as they are asked for, and their plans.
-use osm_base::{Items, Memory, TryCopy, User};
+use osm_base::{Box7, Items, Memory, TryCopy, User};
 use osm_change::{Change, OpDones, Refusal};
 use osm_later::{CountLook, UsersLook};
 use std::alloc::Global;
@@ -37,10 +37,13 @@ impl TryCopy for UploadCmd {
     }
 }
 
-/// What the operations of an upload did, or why one is refused.
+/// What the operations of an upload did and the least box of what they touched, or why one is refused.
 #[derive(Drop)]
 pub enum Found {
-    Done(OpDones),
+    Done {
+        rows: OpDones,
+        touched: Option<Box7>,
+    },
     Refused(Refusal),
 }
 

@@ -1,8 +1,7 @@
 //! What contents list.
-ghost use Rattle.std.specs.Prelude.{◌≡◌, ◌++◌, ◌&&◌, ◌||◌, not, map, OnOk};
+ghost use Rattle.std.specs.Prelude.{◌≡◌, ◌++◌, map, OnOk};
 ghost use Rattle.std.specs.List.{list_any};
 ghost use Rattle.osm_base.specs.Key.{key_eq, lists_key};
-ghost use Rattle.osm_base.specs.declared.keys.Key.{Key};
 ghost use Rattle.osm_element.specs.Elements.{key, key_of_member, refs, refs_in};
 ghost use Rattle.osm_change.specs.Keys.{id_of};
 ghost use Rattle.osm_model.specs.Names.{with_ids};
@@ -61,8 +60,7 @@ pub fn op_lists(keys: &[Key], operation: &Op, used: Key) -> bool
 }
 
 fn add_nodes(keys: &[Key], nodes: &[Name], listed: &mut Vec<Key>) -> Result<(), Memory>
-    ensures { OnOk result ((b : Key) → lists_key listed.new.items b ≡ lists_key listed.old.items b || list_any
-        (λ name. key_eq (key Kind.Node (id_of keys.now name)) b) nodes.now) }
+    ensures { OnOk result (listed.new.items ≡ listed.old.items ++ map (λ name. key Kind.Node (id_of keys.now name)) nodes.now) }
 {
     for name in nodes {
         listed.push(name.key(Kind::Node, keys))?;
@@ -71,8 +69,7 @@ fn add_nodes(keys: &[Key], nodes: &[Name], listed: &mut Vec<Key>) -> Result<(), 
 }
 
 fn add_members(keys: &[Key], members: &[Member<Name>], listed: &mut Vec<Key>) -> Result<(), Memory>
-    ensures { OnOk result ((b : Key) → lists_key listed.new.items b ≡ lists_key listed.old.items b || list_any
-        (λ m. key_eq (key m.kind (id_of keys.now m.name)) b) members.now) }
+    ensures { OnOk result (listed.new.items ≡ listed.old.items ++ map (λ m. key m.kind (id_of keys.now m.name)) members.now) }
 {
     for member in members {
         listed.push(member.name.key(member.kind, keys))?;
@@ -80,11 +77,9 @@ fn add_members(keys: &[Key], members: &[Member<Name>], listed: &mut Vec<Key>) ->
     Ok(())
 }
 
-/// Adds what a content lists, by the elements that its names stand for.
-#[tactic(auto, using(crate::proofs::Named::nodes_listed, crate::proofs::Named::members_listed, crate::proofs::Named::none_listed))]
+/// Adds what a content lists, in list order, by the elements that its names stand for.
 fn add_named(keys: &[Key], content: &Content<Name>, listed: &mut Vec<Key>) -> Result<(), Memory>
-    ensures { OnOk result ((b : Key)
-        → lists_key listed.new.items b ≡ lists_key listed.old.items b || lists_key (refs (with_ids keys.now content.now)) b) }
+    ensures { OnOk result (listed.new.items ≡ listed.old.items ++ refs (with_ids keys.now content.now)) }
 {
     match content {
         Content::Node(_) => Ok(()),
@@ -93,11 +88,9 @@ fn add_named(keys: &[Key], content: &Content<Name>, listed: &mut Vec<Key>) -> Re
     }
 }
 
-/// Adds what the content that an operation gives lists.
-#[tactic(auto, using(crate::proofs::Named::none_listed))]
+/// Adds what the content that an operation gives lists, in list order.
 pub fn add_given(keys: &[Key], operation: &Op, listed: &mut Vec<Key>) -> Result<(), Memory>
-    ensures { OnOk result ((b : Key)
-        → lists_key listed.new.items b ≡ lists_key listed.old.items b || lists_key (refs_in (content_of_op keys.now operation.now)) b) }
+    ensures { OnOk result (listed.new.items ≡ listed.old.items ++ refs_in (content_of_op keys.now operation.now)) }
 {
     match operation {
         Op::Create { content, .. } | Op::Modify { content, .. } => {
@@ -138,11 +131,4 @@ pub fn add_refs(content: &Content<u64>, listed: &mut Vec<Key>) -> Result<(), Mem
         Content::Way(nodes) => add_node_ids(nodes.items(), listed),
         Content::Relation(members) => add_member_ids(members.items(), listed),
     }
-}
-
-/// The same, whatever the order.
-pub fn add_stored(content: &Content<u64>, listed: &mut Vec<Key>) -> Result<(), Memory>
-    ensures { OnOk result ((b : Key) → lists_key listed.new.items b ≡ lists_key listed.old.items b || lists_key (refs content.now) b) }
-{
-    add_refs(content, listed)
 }

@@ -1,13 +1,12 @@
 //! What an upload comes to: a plan that stands is settled without judging an operation.
-ghost use Rattle.std.specs.Prelude.{◌≡◌, ◌+◌, nat_lt, length, count_by, IfOk, IfErr};
-ghost use Rattle.osm_base.specs.Outcome.{refuse_if};
+ghost use Rattle.std.specs.Prelude.{◌≡◌, count_by, IfOk, IfErr};
 ghost use Rattle.osm_base.specs.Stamp.{stamp_after};
 ghost use Rattle.osm_change.specs.Done.{is_applied};
 ghost use Rattle.osm_change.specs.Moments.{RefusalHasShownEnd};
-ghost use Rattle.osm_change.specs.declared.refusals.Refusal.TheVariants.{Full};
-ghost use Rattle.changeset_core.specs.Changeset.{limit_of};
-ghost use Rattle.osm_later.specs.Settle.{settle_done};
+ghost use Rattle.changeset_core.specs.Changeset.{join_areas};
+ghost use Rattle.osm_later.specs.Settle.{counted_done, settle_done};
 ghost use Rattle.osm_later.specs.Plan.{StandsOn, IsPlannedOn};
+ghost use Rattle.osm_model.specs.Fold.{box_allowed};
 ghost use Rattle.osm_model.specs.Journal.{Later};
 ghost use Rattle.osm_model.specs.Outcome.{Gives};
 ghost use Rattle.osm_model.specs.declared.states.State.{State};
@@ -18,11 +17,11 @@ ghost use Rattle.upload_check.specs.Planned.{plan_of, outcome_of, taken_by, IsSh
 use crate::copies::{copy_refusal, copy_rows};
 use crate::overlays::first_ids;
 use crate::plans::{Found, Plan};
-use changeset_core::Changeset;
-use osm_base::{CHANGE_LIMIT, Memory, Stamp};
+use changeset_core::{Changeset, join_boxes};
+use osm_base::{Box7, Memory, Stamp, User};
 use osm_change::{FirstIds, OpDone, OpDones, Refusal};
 use osm_later::plans_settle;
-use osm_model::Fault;
+use osm_model::{Fault, box_allowed};
 use osm_world::World;
 use std::alloc::Global;
 
@@ -59,18 +58,25 @@ fn settled(alloc: Global, world: &World, plan: &Plan, at: Stamp) -> Result<OpDon
 {
     plan.laws();
     let kept = world.own_changeset(&plan.cmd.user, at, plan.cmd.changeset)?;
-    taken(alloc, kept, plan.cmd.changeset, &plan.found)
+    taken(alloc, kept, &plan.cmd.user, plan.cmd.changeset, &plan.found)
 }
 
 /// What was found out, if the changeset takes it.
-fn taken(alloc: Global, kept: &Changeset, id: u64, found: &Found) -> Result<OpDones, Fault>
+fn taken(
+    alloc: Global,
+    kept: &Changeset,
+    user: &User,
+    id: u64,
+    found: &Found,
+) -> Result<OpDones, Fault>
     requires { IsShown (outcome_of found.now) }
-    ensures gives { Gives (taken_by id kept.now.kept (outcome_of found.now)) result }
+    ensures gives { Gives (taken_by user.now id kept.now.kept (outcome_of found.now)) result }
     ensures shown { OnRefused result RefusalHasShownEnd }
 {
     match found {
-        Found::Done(rows) => {
+        Found::Done { rows, touched } => {
             has_room(kept, id, rows.items())?;
+            has_box(kept, user, id, *touched)?;
             Ok(copy_rows(alloc, rows.items())?)
         }
         Found::Refused(refusal) => Err(Fault::Refused(copy_refusal(alloc, refusal)?)),
@@ -79,21 +85,31 @@ fn taken(alloc: Global, kept: &Changeset, id: u64, found: &Found) -> Result<OpDo
 
 /// The changeset takes as many changes more.
 pub fn has_room(kept: &Changeset, id: u64, rows: &[OpDone]) -> Result<(), Refusal>
-    ensures value { result ≡ refuse_if (nat_lt (limit_of kept.now.kept) (length kept.now.kept.did + count_by is_applied rows.now)) (Full (count_by is_applied rows.now) id (length kept.now.kept.did) (limit_of kept.now.kept)) }
+    ensures value { result ≡ counted_done id kept.now.kept rows.now }
     ensures shown { IfErr result RefusalHasShownEnd }
 {
     let applied = applied_among(rows) as u64;
     let count = kept.did().len() as u64;
-    if count + applied > CHANGE_LIMIT {
+    let limit = kept.limit();
+    if count + applied > limit {
         Err(Refusal::Full {
             applied,
             changeset: id,
             count,
-            limit: CHANGE_LIMIT,
+            limit,
         })
     } else {
         Ok(())
     }
+}
+
+/// The changeset may have its box with what was touched, by the limit of its user.
+pub fn has_box(kept: &Changeset, user: &User, id: u64, touched: Option<Box7>) -> Result<(), Refusal>
+    ensures value { result ≡ box_allowed user.now.limit id kept.now.kept.touched (join_areas kept.now.kept.touched touched) }
+    ensures shown { IfErr result RefusalHasShownEnd }
+{
+    let after = join_boxes(kept.touched(), touched);
+    box_allowed(user.limit, id, kept.touched(), after)
 }
 
 fn applied_among(rows: &[OpDone]) -> usize

@@ -1,16 +1,16 @@
 //! The map as some operations left it.
-ghost use Rattle.std.specs.Prelude.{◌≡◌, ◌||◌, [], take, filter, slice_get, option_copied, is_some, OnOk};
+ghost use Rattle.std.specs.Prelude.{◌≡◌, ◌++◌, [], take, filter, slice_get, option_copied, is_some, OnOk};
 ghost use Rattle.osm_base.specs.Key.{lists_key};
-ghost use Rattle.osm_base.specs.declared.keys.Key.{Key};
 ghost use Rattle.osm_element.specs.Elements.{content_of, refs_in};
 ghost use Rattle.osm_world.specs.Beds.{content_of_op};
 ghost use Rattle.osm_world.specs.World.{state_of};
 ghost use Rattle.upload_check.specs.Checks.{least_where, least_user};
+ghost use Rattle.upload_check.specs.Effects.{IsFresh};
 ghost use Rattle.upload_check.specs.Overlay.{standing, content_now, is_visible, uses};
 ghost use Rattle.upload_check.specs.Users.{least};
 
 use crate::overlays::Overlay;
-use crate::references::{add_given, add_stored, op_lists};
+use crate::references::{add_given, add_refs, op_lists};
 use crate::standings::{Holds, Standing, standing_in};
 use osm_base::{Key, Memory};
 use osm_change::Op;
@@ -74,6 +74,16 @@ impl<'a> View<'a> {
         standing_in(self.world, self.over.standings(), key)
     }
 
+    /// Where an element's content stands.
+    pub fn holds(&self, key: Key) -> Holds
+        ensures { result ≡ (standing self.now key).holds }
+    {
+        match self.over.standings().look(key) {
+            Some(standing) => standing.holds,
+            None => Holds::AsBefore,
+        }
+    }
+
     /// The elements of the operations before a place.
     pub fn keys_before(&self, place: u32) -> &[Key]
         ensures { result.now ≡ take place self.now.over.keys }
@@ -89,7 +99,7 @@ impl<'a> View<'a> {
     pub fn is_visible(&self, key: Key) -> bool
         ensures { result ≡ is_visible self.now key }
     {
-        match self.standing(key).holds {
+        match self.holds(key) {
             Holds::AsBefore => stored(self.world, key).is_some(),
             Holds::Nothing => false,
             Holds::FromOperation(place) => match self.operations.get(place as usize) {
@@ -102,7 +112,7 @@ impl<'a> View<'a> {
     fn lists(&self, user: Key, used: Key) -> bool
         ensures { result ≡ lists_key (refs_in (content_now self.now user)) used }
     {
-        match self.standing(user).holds {
+        match self.holds(user) {
             Holds::AsBefore => stored_lists(stored(self.world, user), used),
             Holds::Nothing => false,
             Holds::FromOperation(place) => match self.operations.get(place as usize) {
@@ -112,15 +122,13 @@ impl<'a> View<'a> {
         }
     }
 
-    /// Adds what an element lists.
-    #[tactic(auto, using(crate::proofs::Named::none_listed))]
-    pub fn add_listed(&self, user: Key, listed: &mut Vec<Key>) -> Result<(), Memory>
-        ensures { OnOk result ((b : Key)
-            → lists_key listed.new.items b ≡ lists_key listed.old.items b || lists_key (refs_in (content_now self.now user)) b) }
+    /// Adds what an element lists, in list order.
+    fn add_listed(&self, user: Key, listed: &mut Vec<Key>) -> Result<(), Memory>
+        ensures { OnOk result (listed.new.items ≡ listed.old.items ++ refs_in (content_now self.now user)) }
     {
-        match self.standing(user).holds {
+        match self.holds(user) {
             Holds::AsBefore => match stored(self.world, user) {
-                Some(content) => add_stored(content, listed),
+                Some(content) => add_refs(content, listed),
                 None => Ok(()),
             },
             Holds::Nothing => Ok(()),
@@ -128,6 +136,22 @@ impl<'a> View<'a> {
                 Some(operation) => add_given(self.keys_before(place), operation, listed),
                 None => Ok(()),
             },
+        }
+    }
+
+    /// Adds what the element of an operation lists before it. What it creates isn't looked for.
+    pub fn add_replaced(
+        &self,
+        operation: &Op,
+        key: Key,
+        listed: &mut Vec<Key>,
+    ) -> Result<(), Memory>
+        requires { IsFresh self.now operation.now key }
+        ensures { OnOk result (listed.new.items ≡ listed.old.items ++ refs_in (content_now self.now key)) }
+    {
+        match operation {
+            Op::Create { .. } => Ok(()),
+            Op::Modify { .. } | Op::Delete { .. } => self.add_listed(key, listed),
         }
     }
 

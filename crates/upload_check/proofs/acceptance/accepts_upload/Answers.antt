@@ -1,10 +1,9 @@
-use Rattle.std.proofs.Common.{ℕ, List, refl, sym, ap, ◌∙◌}
+use Rattle.std.proofs.Common.{ℕ, refl, sym, ap, ◌∙◌}
 use Rattle.std.specs.Prelude.{Result, is_ok}
 use Rattle.osm_base.specs.Stamp.{stamp_after}
-use Rattle.osm_change.specs.declared.operations.OpDone.{OpDone}
 use Rattle.osm_change.specs.declared.refusals.Refusal.{Refusal}
 use Rattle.osm_later.specs.Plan.{least_plan}
-use Rattle.osm_later.specs.Settle.{settle_done}
+use Rattle.osm_later.specs.Settle.{Done, settle_done}
 use Rattle.osm_model.specs.Fold.{upload}
 use Rattle.osm_world.specs.Beds.{first_ids}
 use Rattle.osm_world.specs.World.{state_of}
@@ -26,6 +25,6 @@ returns-clause-accepted g c =
     in
     let settled = c.plans_settle.ensures T T plan user at first (c.maps_follow_themselves.ensures T) planned planned.stands (next-ids T.elements first refl) in
     c.is_taken.ensures
-    ∙ ap (λ (r : Result (List OpDone) Refusal). is_ok (settle_done T user at id r)) (sym (c.in_ok-found.ensures.found id))
+    ∙ ap (λ (r : Result Done Refusal). is_ok (settle_done T user at id r)) (sym (c.in_ok-found.ensures.found id))
     ∙ sym (accepted-as-settled T user at id ops first (settle_done T user at id plan.outcome) settled)
     ∙ ap (λ (t : ℕ). is_ok (upload T user t id ops)) (c.after-at.ensures ∙ ap (λ (last : ℕ). stamp_after last c.args.moment) c.last_stamp.ensures.value)

@@ -1,22 +1,28 @@
-use Rattle.std.proofs.Common.{ℕ, Bool, ◌&&◌, ◌<◌, ap, sym, subst, ◌∙◌}
 use Rattle.std.specs.Prelude.{not}
-use Rattle.osm_base.specs.Key.{key_eq}
+use Rattle.std.proofs.lemmas.Bool.{and_parts}
+use Rattle.osm_base.specs.Key.{lists_key}
 use Rattle.osm_world.specs.World.{state_of}
+use Rattle.upload_check.specs.Shifts.{apart}
+use Rattle.upload_check.specs.Users.{others}
+use Rattle.upload_check.specs.declared.shifts.Shift.TheVariants.{More, Less}
 use Rattle.upload_check.proofs.Changed.{made_is}
-use Rattle.upload_check.proofs.Kept.{lowered_ready}
+use Rattle.upload_check.proofs.Shifted.{ready_before, shifted_back}
 use Rattle.upload_check.proofs.counts.make.Goals as goal
 
-pub lower_each-requires-clause-some : goal.lower_each-requires-clause-some
-lower_each-requires-clause-some c = λ b listed other.
-    subst (λ (n : ℕ). 0 < n) (sym (c.in_ok-begin.ensures.revised.users b))
-    (c.requires.used b (ap (λ (p : Bool). p && not (key_eq c.args.key b)) listed ∙ ap not other))
+pub shift_all-requires-clause-some : goal.shift_all-requires-clause-some
+shift_all-requires-clause-some c = λ b there. c.requires.used b (and_parts (others c.args.key c.args.ended.now b) (not (lists_key c.args.begun.now b)) there).0
 
-pub raise_each-requires-clause-ready : goal.raise_each-requires-clause-ready
-raise_each-requires-clause-ready c =
-    lowered_ready (state_of c.args.world.now).elements c.args.key c.args.ended.now c.begin.new.standings c.lower_each.new.standings c.args.begun.now
-    c.lower_each.ensures.lowered c.lower_each.ensures.stay c.in_ok-begin.ensures.begun
+pub returns-in-Ok-clause-made : goal.returns-in-Ok-clause-made
+returns-in-Ok-clause-made c =
+    made_is (state_of c.args.world.now).elements c.args.key c.args.holds c.args.ended.now c.args.begun.now c.args.standings.now c.shift_all.new.standings c.raise_and_revise.new.standings
+    c.requires.used c.in_ok-shift_all.ensures.shifted.counts c.in_ok-shift_all.ensures.shifted.same c.in-Ok.ensures.raised c.in-Ok.ensures.versions c.in-Ok.ensures.held
 
-pub returns-clause-made : goal.returns-clause-made
-returns-clause-made c =
-    made_is (state_of c.args.world.now).elements c.args.key c.args.holds c.args.ended.now c.args.begun.now c.args.standings.now c.begin.new.standings c.lower_each.new.standings c.raise_each.new.standings
-    c.in_ok-begin.ensures.revised c.lower_each.ensures.lowered c.lower_each.ensures.same c.raise_each.ensures.raised c.raise_each.ensures.same
+pub shift_ready-requires-clause-ready : goal.shift_ready-requires-clause-ready
+shift_ready-requires-clause-ready c =
+    ready_before More (apart c.args.key c.args.ended.now c.args.begun.now) (state_of c.args.world.now).elements c.shift_all.new.standings c.raise_and_revise.new.standings
+    c.in-Err.ensures.memory c.in-Err.ensures.stay c.in_ok-shift_all.ensures.shifted.back
+
+pub returns-in-Err-clause-memory : goal.returns-in-Err-clause-memory
+returns-in-Err-clause-memory c =
+    shifted_back Less (apart c.args.key c.args.ended.now c.args.begun.now) (state_of c.args.world.now).elements c.args.standings.now c.shift_all.new.standings c.raise_and_revise.new.standings c.shift_ready.new.standings
+    c.in_ok-shift_all.ensures.shifted c.in-Err.ensures.memory c.shift_ready.ensures

@@ -4,7 +4,7 @@ use Rattle.osm_world.specs.World.{state_of}
 use Rattle.upload_check.specs.Effects.{HasUsers}
 use Rattle.upload_check.specs.Overlay.{sight}
 use Rattle.upload_check.proofs.Alike.{still_stands}
-use Rattle.upload_check.proofs.Entered.{has-users, judged-passed, judged-goes, judged-refused}
+use Rattle.upload_check.proofs.Entered.{has-users, is-fresh, judged-passed, judged-goes, judged-refused}
 use Rattle.upload_check.proofs.judged.check_op.Goals as goal
 
 pub pass-requires-clause-users : goal.pass-requires-clause-users
@@ -12,6 +12,13 @@ pass-requires-clause-users g c =
     let E = (state_of c.args.world.now).elements in
     subst (λ (l : List Op). HasUsers (sight E l c.args.over.now) c.in-Ok.step.key) (sym c.operations-operations.ensures.all)
     (has-users (sight E c.args.change.now c.args.over.now) c.requires.stands.progress c.in-Ok.step.key c.requires.stands.stands)
+
+pub pass-requires-clause-fresh : goal.pass-requires-clause-fresh
+pass-requires-clause-fresh g c =
+    is-fresh (state_of c.args.world.now).elements c.args.change.now c.operations-operations.result.now c.args.over.now c.requires.stands.progress c.op-operation.result.now c.in-Ok.step
+    c.requires.stands.stands
+    c.operations-operations.ensures.all
+    (sym c.check.ensures ∙ c.in-Ok.is)
 
 pub returns-in_ok-done-in-Ok-clause-judged : goal.returns-in_ok-done-in-Ok-clause-judged
 returns-in_ok-done-in-Ok-clause-judged g c = λ o asked.

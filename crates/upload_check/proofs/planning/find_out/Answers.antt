@@ -1,5 +1,6 @@
-use Rattle.std.proofs.Common.{◌≡◌, [], List, ◌∷◌, length, length-append, Some, Ok, sym, ap, ◌∙◌, subst, arith}
-use Rattle.std.specs.Prelude.{slice_get}
+use Rattle.std.proofs.Common.{◌≡◌, [], List, ◌∷◌, length, length-append, Some, Ok, sym, ap, ap₂, ◌∙◌, subst, arith}
+use Rattle.std.specs.Prelude.{Option, slice_get}
+use Rattle.osm_base.specs.Place.{Area}
 use Rattle.osm_base.specs.declared.keys.Key.{Key}
 use Rattle.osm_change.specs.Keys.{key_of}
 use Rattle.osm_change.specs.declared.operations.Op.{Op}
@@ -105,7 +106,7 @@ returns-clause-found g c = λ a.
     (ends (state_of c.args.world.now).elements c.args.change.now c.loop-place.over c.loop-place.rows.items c.loop-place.counted.items c.loop-place.used.items c.loop-place.place a
     (omega (arith, c.loop-place-test.false, c.len-place-end.ensures))
     c.loop-place.invariant.run).found
-    ∙ ap (λ (ds : List OpDone). Ok ds) (sym c.of.ensures)
+    ∙ ap₂ (λ (ds : List OpDone) (area : Option Area). Ok (record { rows = ds; touched = area })) (sym c.of.ensures) (sym c.touched.ensures)
 
 pub returns-clause-counted : goal.returns-clause-counted
 returns-clause-counted g c = λ a.
