@@ -6,6 +6,7 @@ use Rattle.http_wire.specs.Received.{Fills}
 use Rattle.journal_text.specs.Text.{header}
 use Rattle.journal_input.specs.declared.lines.Lines.{Lines}
 use Rattle.journal_text.specs.declared.faults.JournalFault.{JournalFault}
+use Rattle.journal_text.specs.declared.versions.Version.{Version}
 use Rattle.journal_input.specs.Going.{SoFar, Stands, LinesFail, Fails, Gone}
 use Rattle.journal_input.proofs.Ends.{lines_fail}
 use Rattle.journal_input.proofs.SoFarLemmas.{one_more, behind}
@@ -41,25 +42,28 @@ longer a b c text piece count next n l some f is = record {
   size = size_with_piece b c text l.more piece n count next f l.size is;
 }
 
--- the lines behind a header, before the first one
-pub gone_nowhere : (a b : Told) (journal : List Entry) (lines : Lines) (count : ℕ) → SoFar a b header → count ≡ length header → Stands [] journal lines [] → Gone a b journal lines count
-gone_nowhere a b journal lines count so_far size stands = record { bytes = []; so_far = so_far; size = size; stands = stands }
+module _ (version : Version) where
+  -- the lines behind a header, before the first one
+  pub gone_nowhere : (a b : Told) (journal : List Entry) (lines : Lines) (count : ℕ) → SoFar a b (header version) → count ≡ length (header version) → Stands version [] journal lines [] → Gone version a b journal lines count
+  gone_nowhere a b journal lines count so_far size stands =
+      let same = sym (append-nil (header version)) in
+      record { bytes = []; so_far = subst (λ (text : List ℕ). SoFar a b text) same so_far; size = size ∙ ap length same; stands = stands }
 
-pub gone_on : (a b c : Told) (old new : List Entry) (lines next : Lines) (piece other : List ℕ) (count n : ℕ) → (gone : Gone a b old lines count) → 0 < n → Fills b c [] other n
-    → Stands (gone.bytes ++ piece) new next [] → piece ≡ other → Gone a c new next (count + n)
-gone_on a b c old new lines next piece other count n gone some f stands same =
-    let filled = subst (λ (p : List ℕ). Fills b c [] p n) (sym same) f in
-    record {
-      bytes = gone.bytes ++ piece;
-      so_far = with_piece a b c header gone.bytes piece n gone.so_far some filled;
-      size = size_with_piece b c header gone.bytes piece n count (count + n) filled gone.size refl;
-      stands = stands;
-    }
+  pub gone_on : (a b c : Told) (old new : List Entry) (lines next : Lines) (piece other : List ℕ) (count n : ℕ) → (gone : Gone version a b old lines count) → 0 < n → Fills b c [] other n
+      → Stands version (gone.bytes ++ piece) new next [] → piece ≡ other → Gone version a c new next (count + n)
+  gone_on a b c old new lines next piece other count n gone some f stands same =
+      let filled = subst (λ (p : List ℕ). Fills b c [] p n) (sym same) f in
+      record {
+        bytes = gone.bytes ++ piece;
+        so_far = with_piece a b c (header version) gone.bytes piece n gone.so_far some filled;
+        size = size_with_piece b c (header version) gone.bytes piece n count (count + n) filled gone.size refl;
+        stands = stands;
+      }
 
--- a fault of the lines is the text's, as whoever reads its rest asks for it
-pub fails_there : (a b c : Told) (old : List Entry) (lines : Lines) (piece other : List ℕ) (count n : ℕ) (why : JournalFault) (Result : Type 0) → (gone : Gone a b old lines count) → 0 < n
-    → Fills b c [] other n → LinesFail why (gone.bytes ++ piece) → ((text : List ℕ) → SoFar a c text → count + n ≡ length text → Fails why text → Result) → piece ≡ other → Result
-fails_there a b c old lines piece other count n why Result gone some f fail refuse same =
-    let filled = subst (λ (p : List ℕ). Fills b c [] p n) (sym same) f in
-    refuse (header ++ (gone.bytes ++ piece)) (with_piece a b c header gone.bytes piece n gone.so_far some filled)
-    (size_with_piece b c header gone.bytes piece n count (count + n) filled gone.size refl) (lines_fail why (gone.bytes ++ piece) fail)
+  -- a fault of the lines is the text's, as whoever reads its rest asks for it
+  pub fails_there : (a b c : Told) (old : List Entry) (lines : Lines) (piece other : List ℕ) (count n : ℕ) (why : JournalFault) (Result : Type 0) → (gone : Gone version a b old lines count) → 0 < n
+      → Fills b c [] other n → LinesFail version why (gone.bytes ++ piece) → ((text : List ℕ) → SoFar a c text → count + n ≡ length text → Fails why text → Result) → piece ≡ other → Result
+  fails_there a b c old lines piece other count n why Result gone some f fail refuse same =
+      let filled = subst (λ (p : List ℕ). Fills b c [] p n) (sym same) f in
+      refuse (header version ++ (gone.bytes ++ piece)) (with_piece a b c (header version) gone.bytes piece n gone.so_far some filled)
+      (size_with_piece b c (header version) gone.bytes piece n count (count + n) filled gone.size refl) (lines_fail version why (gone.bytes ++ piece) fail)

@@ -9,6 +9,7 @@ use Rattle.http_wire.specs.Received.{Fills, Taken}
 use Rattle.journal_text.specs.declared.faults.JournalFault.TheVariants as fault
 use Rattle.journal_text.specs.Text.{header}
 use Rattle.journal_text.specs.declared.limits.TheConstants.{TEXT_LIMIT}
+use Rattle.journal_text.specs.declared.versions.Version.TheVariants.{Two}
 use Rattle.journal_input.specs.declared.faults.InputFault.{InputFault}
 use Rattle.journal_input.specs.declared.faults.InputFault.TheVariants as why
 use Rattle.journal_input.specs.Going.{SoFar, IsFront, Stops}
@@ -86,10 +87,10 @@ at_limit a b text size so_far = record {
 pub fills_length : (b c : Told) (text longer : List ℕ) (n : ℕ) → Fills b c text longer n → length longer ≡ length text + n
 fills_length b c text longer n f = ap length f.joined ∙ length-append text f.piece ∙ ap (λ (k : ℕ). length text + k) f.size
 
-pub front_whole : (a b : Told) (text : List ℕ) → SoFar a b text → length header ≤ length text → length text ≤ length header → IsFront a b text
+pub front_whole : (a b : Told) (text : List ℕ) → SoFar a b text → length (header Two) ≤ length text → length text ≤ length (header Two) → IsFront a b text
 front_whole a b text so_far long within = record { within = within; whole = λ same. so_far; short = λ short. absurd (omega (arith, short, long)) }
 
-pub front_ended : (a b c : Told) (text same : List ℕ) (n : ℕ) → n ≡ 0 → length text < length header → SoFar a b text → Fills b c text same n → IsFront a c same
+pub front_ended : (a b c : Told) (text same : List ℕ) (n : ℕ) → n ≡ 0 → length text < length (header Two) → SoFar a b text → Fills b c text same n → IsFront a c same
 front_ended a b c text same n none short so_far f =
     let size = fills_length b c text same n f in
     record {

@@ -11,6 +11,8 @@ use Rattle.journal_text.specs.Text.{header}
 use Rattle.journal_text.specs.declared.faults.JournalFault.{JournalFault}
 use Rattle.journal_text.specs.declared.faults.JournalFault.TheVariants as fault
 use Rattle.journal_text.specs.declared.limits.TheConstants.{TEXT_LIMIT}
+use Rattle.journal_text.specs.declared.versions.Version.{Version}
+use Rattle.journal_text.specs.declared.versions.Version.TheVariants.{Two}
 use Rattle.journal_input.specs.Input.{IsInput, IsStopped, IsOfNone}
 use Rattle.journal_input.specs.declared.faults.InputFault.{InputFault}
 use Rattle.journal_input.specs.declared.faults.InputFault.TheVariants as why
@@ -23,11 +25,11 @@ pub record SoFar (before now : Told) (text : List ℕ) : Type 0 where
   pub joined : text ≡ concat pieces
   pub some : HaveBytes pieces
 
--- a header's bytes were read, or all bytes of an input that has fewer
+-- as many bytes as a header has were read, or all bytes of an input that has fewer
 pub record IsFront (before now : Told) (front : List ℕ) : Type 0 where
-  pub within : length front ≤ length header
-  pub whole : length front ≡ length header → SoFar before now front
-  pub short : length front < length header → IsInput before now front
+  pub within : length front ≤ length (header Two)
+  pub whole : length front ≡ length (header Two) → SoFar before now front
+  pub short : length front < length (header Two) → IsInput before now front
 
 -- Reading failed or memory ran out, and nothing else happened.
 abbrev pub Stops : InputFault → Told → Told → Type 0
@@ -38,14 +40,14 @@ Stops (why.Text other) before after = ⊥
 -- ---- lines
 
 -- Of all these bytes the lines before the rest were judged, whatever follows: their entries are kept, the begun line has no byte 10, and it has the next number.
-pub record Stands (bytes : List ℕ) (journal : List Entry) (lines : Lines) (rest : List ℕ) : Type 0 where
-  pub reads : (more : List ℕ) → Reads (bytes ++ more) journal ((lines.begun.items ++ rest) ++ more)
+pub record Stands (version : Version) (bytes : List ℕ) (journal : List Entry) (lines : Lines) (rest : List ℕ) : Type 0 where
+  pub reads : (more : List ℕ) → Reads version (bytes ++ more) journal ((lines.begun.items ++ rest) ++ more)
   pub open_line : parted 10 lines.begun.items ≡ None
   pub number : lines.number ≡ length journal + 2
 
 -- the lines have this fault, whatever follows
-pub record LinesFail (why : JournalFault) (bytes : List ℕ) : Type 0 where
-  pub fails : (more : List ℕ) → IsLinesFault why (bytes ++ more) × IsRefused why (bytes ++ more)
+pub record LinesFail (version : Version) (why : JournalFault) (bytes : List ℕ) : Type 0 where
+  pub fails : (more : List ℕ) → IsLinesFault version why (bytes ++ more) × IsRefused version why (bytes ++ more)
 
 -- the text has this fault, whatever follows, where it isn't too long
 pub record Fails (why : JournalFault) (text : List ℕ) : Type 0 where
@@ -53,9 +55,9 @@ pub record Fails (why : JournalFault) (text : List ℕ) : Type 0 where
 
 -- ---- the input
 
--- the header was read and all lines behind it that are whole, in so many bytes
-pub record Gone (before now : Told) (journal : List Entry) (lines : Lines) (count : ℕ) : Type 0 where
+-- the header of the version was read and all lines behind it that are whole, in so many bytes
+pub record Gone (version : Version) (before now : Told) (journal : List Entry) (lines : Lines) (count : ℕ) : Type 0 where
   pub bytes : List ℕ
-  pub so_far : SoFar before now (header ++ bytes)
-  pub size : count ≡ length (header ++ bytes)
-  pub stands : Stands bytes journal lines []
+  pub so_far : SoFar before now (header version ++ bytes)
+  pub size : count ≡ length (header version ++ bytes)
+  pub stands : Stands version bytes journal lines []

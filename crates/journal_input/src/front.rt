@@ -2,6 +2,7 @@
 ghost use Rattle.std.specs.Prelude.{◌≡◌, ◌<◌, ◌≤◌, length, IfOk, IfErr};
 ghost use Rattle.http_wire.specs.Received.{Fills};
 ghost use Rattle.journal_text.specs.Text.{header};
+ghost use Rattle.journal_text.specs.declared.versions.Version.{Version};
 ghost use Rattle.journal_input.specs.Going.{IsFront, Stops};
 
 use crate::faults::InputFault;
@@ -16,7 +17,7 @@ pub(crate) fn read_front<S: Source>(
     source: &mut S,
     room: &mut [u8],
 ) -> Result<Vec<u8>, InputFault>
-    requires { length header ≤ length room.old }
+    requires { length (header Version.Two) ≤ length room.old }
     ensures front { IfOk result (λ front. IsFront (S.told source.old) (S.told source.new) front.items) }
     ensures fault { IfErr result (λ why. Stops why (S.told source.old) (S.told source.new)) }
 {

@@ -10,7 +10,9 @@ use crate::front::read_front;
 use crate::lines::{Lines, end, judge_piece};
 use crate::pieces::{PIECE_ROOM, read_piece};
 use crate::refusal::refuse;
-use journal_text::{HEADER, JournalFault, Keeper, TEXT_LIMIT, lines_are_read_in_turn};
+use journal_text::{
+    HEADER, JournalFault, Keeper, TEXT_LIMIT, Version, lines_are_read_in_turn, split_header,
+};
 use osm_outside::{Outside, Source};
 use std::alloc::Global;
 
@@ -28,8 +30,8 @@ pub fn read_entries<S: Source, K: Keeper>(
 {
     let mut room = Vec::from_elem(alloc, 0, PIECE_ROOM)?;
     let front = read_front(alloc, source, &mut room)?;
-    if front.as_slice() == HEADER {
-        read_lines(alloc, source, &mut room, keeper)
+    if let Some((version, _)) = split_header(front.as_slice()) {
+        read_lines(alloc, version, source, &mut room, keeper)
     } else if front.len() < HEADER.len() {
         Err(InputFault::Text(JournalFault::Header))
     } else {
@@ -37,16 +39,17 @@ pub fn read_entries<S: Source, K: Keeper>(
     }
 }
 
-/// Reads the lines behind a header, and has their entries kept.
+/// Reads the lines behind the header of this version, and has their entries kept.
 fn read_lines<S: Source, K: Keeper>(
     alloc: Global,
+    version: Version,
     source: &mut S,
     room: &mut [u8],
     keeper: &mut K,
 ) -> Result<(), InputFault>
     requires none { K.kept keeper.old ≡ [] }
     requires some { 0 < length room.old }
-    ensures { (before : Told) → SoFar before (S.told source.old) header → IsRead before (S.told source.new) (K.kept keeper.new) result }
+    ensures { (before : Told) → SoFar before (S.told source.old) (header version) → IsRead before (S.told source.new) (K.kept keeper.new) result }
 {
     lines_are_read_in_turn();
     let mut lines = Lines {
@@ -62,7 +65,7 @@ fn read_lines<S: Source, K: Keeper>(
             return Ok(());
         }
         count += more;
-        if let Err(fault) = judge_piece(alloc, &mut lines, &room[..more], keeper) {
+        if let Err(fault) = judge_piece(alloc, version, &mut lines, &room[..more], keeper) {
             return Err(refuse(source, room, fault, count));
         }
     }

@@ -4,7 +4,7 @@ ghost use Rattle.osm_base.specs.Parts.{parted};
 ghost use Rattle.journal_text.specs.Lines.{Follows, FollowsAlone, IsLineFault};
 ghost use Rattle.journal_input.specs.Going.{Stands, LinesFail};
 
-use journal_text::{JournalFault, Keeper, lines_are_read_in_turn, read_line};
+use journal_text::{JournalFault, Keeper, Version, lines_are_read_in_turn, read_line};
 use osm_base::split_once;
 use std::alloc::Global;
 
@@ -20,21 +20,22 @@ pub(crate) struct Lines {
 /// Judges the lines that a piece ends, and begins the next one with what stands behind them.
 pub(crate) fn judge_piece<K: Keeper>(
     alloc: Global,
+    version: Version,
     lines: &mut Lines,
     piece: &[u8],
     keeper: &mut K,
 ) -> Result<(), JournalFault>
     requires { lines.old.number + length piece.now < 2 ^ 63 }
-    ensures judged { OnOk result ((bytes : List ℕ) → Stands bytes (K.kept keeper.old) lines.old []
-        → Stands (bytes ++ piece.now) (K.kept keeper.new) lines.new []) }
+    ensures judged { OnOk result ((bytes : List ℕ) → Stands version bytes (K.kept keeper.old) lines.old []
+        → Stands version (bytes ++ piece.now) (K.kept keeper.new) lines.new []) }
     ensures number { OnOk result (lines.new.number ≤ lines.old.number + length piece.now) }
-    ensures fault { IfErr result (λ why. (bytes : List ℕ) → Stands bytes (K.kept keeper.old) lines.old []
-        → LinesFail why (bytes ++ piece.now)) }
+    ensures fault { IfErr result (λ why. (bytes : List ℕ) → Stands version bytes (K.kept keeper.old) lines.old []
+        → LinesFail version why (bytes ++ piece.now)) }
 {
     lines_are_read_in_turn();
     let mut rest = piece;
     'ends: while let Some((end, behind)) = split_once(rest, b'\n') {
-        judge_line(alloc, lines, end, keeper)?;
+        judge_line(alloc, version, lines, end, keeper)?;
         rest = behind;
     }
     begin(lines, rest)?;
@@ -44,18 +45,19 @@ pub(crate) fn judge_piece<K: Keeper>(
 /// Judges the line that these bytes end.
 fn judge_line<K: Keeper>(
     alloc: Global,
+    version: Version,
     lines: &mut Lines,
     end: &[u8],
     keeper: &mut K,
 ) -> Result<(), JournalFault>
     requires { lines.old.number < 2 ^ 63 }
-    ensures ok { OnOk result (Follows (K.kept keeper.old) (lines.old.begun.items ++ end.now) (K.kept keeper.new)) }
+    ensures ok { OnOk result (Follows version (K.kept keeper.old) (lines.old.begun.items ++ end.now) (K.kept keeper.new)) }
     ensures alone { OnOk result (FollowsAlone (K.kept keeper.old) (lines.old.begun.items ++ end.now) (K.kept keeper.new)) }
     ensures next { OnOk result (lines.new.begun.items ≡ []) }
     ensures number { OnOk result (lines.new.number ≡ lines.old.number + 1) }
-    ensures fault { IfErr result (λ why. IsLineFault why lines.old.number (K.kept keeper.old) (lines.old.begun.items ++ end.now)) }
+    ensures fault { IfErr result (λ why. IsLineFault version why lines.old.number (K.kept keeper.old) (lines.old.begun.items ++ end.now)) }
 {
-    read_begun(alloc, lines, end, keeper)?;
+    read_begun(alloc, version, lines, end, keeper)?;
     lines.number += 1;
     Ok(())
 }
@@ -63,21 +65,22 @@ fn judge_line<K: Keeper>(
 /// Reads the begun line with the bytes that end it, which are copied where it has bytes before.
 fn read_begun<K: Keeper>(
     alloc: Global,
+    version: Version,
     lines: &mut Lines,
     end: &[u8],
     keeper: &mut K,
 ) -> Result<(), JournalFault>
-    ensures ok { OnOk result (Follows (K.kept keeper.old) (lines.old.begun.items ++ end.now) (K.kept keeper.new)) }
+    ensures ok { OnOk result (Follows version (K.kept keeper.old) (lines.old.begun.items ++ end.now) (K.kept keeper.new)) }
     ensures alone { OnOk result (FollowsAlone (K.kept keeper.old) (lines.old.begun.items ++ end.now) (K.kept keeper.new)) }
     ensures next { OnOk result (lines.new.begun.items ≡ []) }
     ensures number { lines.new.number ≡ lines.old.number }
-    ensures fault { IfErr result (λ why. IsLineFault why lines.old.number (K.kept keeper.old) (lines.old.begun.items ++ end.now)) }
+    ensures fault { IfErr result (λ why. IsLineFault version why lines.old.number (K.kept keeper.old) (lines.old.begun.items ++ end.now)) }
 {
     if lines.begun.is_empty() {
-        return read_line(alloc, end, lines.number, keeper);
+        return read_line(alloc, version, end, lines.number, keeper);
     }
     begin(lines, end)?;
-    read_line(alloc, &lines.begun, lines.number, keeper)?;
+    read_line(alloc, version, &lines.begun, lines.number, keeper)?;
     lines.begun.clear();
     Ok(())
 }

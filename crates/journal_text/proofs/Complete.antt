@@ -1,10 +1,11 @@
 -- The tokens of an entry's line are read as that entry.
-use Rattle.std.proofs.Common.{◌≡◌, ℕ, ◌^◌, ◌<◌, Bool, List, [], ◌∷◌, ◌++◌, length, codes, Some, None, Result, Ok, refl, sym, ap, ◌∙◌, append_assoc, append-nil, arith}
+use Rattle.std.proofs.Common.{◌≡◌, ℕ, ◌^◌, ◌<◌, Bool, true, false, List, [], ◌∷◌, ◌++◌, length, codes, Option, Some, None, Result, Ok, refl, sym, ap, ◌∙◌, append_assoc, append-nil, arith}
 use Rattle.std.specs.Prelude.{if◌then◌else◌}
 use Rattle.std.proofs.lemmas.Bool.{eq-eqb, lt-ltb}
+use Rattle.std.specs.Str.{bytes_eq}
 use Rattle.json.specs.Token.{Token, begin_object, end_object}
 use Rattle.json.specs.Tree.{members_tokens}
-use Rattle.serde_json.specs.Data.{boolean, string}
+use Rattle.serde_json.specs.Data.{Data, boolean, string}
 use Rattle.serde_json.specs.Find.{as_bool, as_str}
 use Rattle.serde_json.specs.Written.{members_outline}
 use Rattle.osm_base.specs.declared.keys.Kind.{Kind}
@@ -20,13 +21,13 @@ use Rattle.osm_json.specs.Again.{natural_of, next_as, ops_of}
 use Rattle.osm_json.specs.Reading.{kind_of, tags_of}
 use Rattle.osm_json.specs.Rows.{tags as tags_data}
 use Rattle.osm_json.specs.Sent.{tokens_of}
-use Rattle.osm_json.specs.Shown.{Field, field, members_of, record_of, natural, kind}
+use Rattle.osm_json.specs.Shown.{Field, field, field_if, members_of, record_of, natural, kind}
 use Rattle.osm_json.specs.Uploads.{IsChange, change}
 use Rattle.osm_model.specs.declared.commands.Command.{Command}
 use Rattle.osm_model.specs.declared.commands.Command.TheVariants.{CreateChangeset, Retag, CloseChangeset, Upload, Single, MakeRedaction, Redact, Unredact}
 use Rattle.osm_model.specs.declared.commands.Entry.{Entry}
-use Rattle.journal_text.specs.Line.{command_fields, command, user_fields, user, entry_fields, line_data, IsCommand, IsEntry}
-use Rattle.journal_text.specs.Read.{Parsed, ◌>>=◌, end_next, key_next, member_next, user_next, built, change_next, one_of, create_next, retag_next, close_next, upload_next, single_next, title_next, redact_next, unredact_next, by_act, command_next, as_session, session_next, entry_next}
+use Rattle.journal_text.specs.Line.{command_fields, command, user_fields, user, entry_fields, line_data, FitsIfSome, IsCommand, IsEntry}
+use Rattle.journal_text.specs.Read.{Parsed, ◌>>=◌, end_next, key_next, member_next, number_next, optional_next, user_next, built, change_next, one_of, create_next, retag_next, close_next, upload_next, single_next, title_next, redact_next, unredact_next, by_act, command_next, as_session, session_next, entry_next}
 
 -- ---- the tokens of an object, with what stands behind it
 
@@ -55,13 +56,29 @@ module _
     (ops_law : (ops : List Op) → IsChange ops → (rest : List Token) → next_as ops_of (tokens_of (change ops) ++ rest) ≡ Some (document_of ops, rest))
     (change_law : (ops : List Op) → IsWellFormed ops → (changeset : ℕ) → change_of changeset (document_of ops) ≡ Ok ops)
   where
-    user_read : (u : User) (rest : List Token) → u.id < 2 ^ 64 → user_next (tokens_of (user u) ++ rest) ≡ Some (u, rest)
+    -- a number that may be left out, and the name of the member behind it
+    optional_read : (name behind : List ℕ) (value : Option ℕ) (d : Data) (fs : List Field) (rest : List Token) → FitsIfSome value
+        → bytes_eq name name ≡ true → bytes_eq behind name ≡ false → bytes_eq behind behind ≡ true
+        → optional_next name behind (onto (field_if name natural value ∷ field behind d ∷ fs) rest) ≡ Some (value, tokens_of d ++ onto fs rest)
+    unfolding optional_next
+    optional_read name behind None d fs rest small same other also =
+        ap (λ (b : Bool). if b then number_next behind (tokens_of d ++ onto fs rest) else (if bytes_eq behind behind then Some (None, tokens_of d ++ onto fs rest) else None)) other
+        ∙ ap (λ (b : Bool). if b then Some (None, tokens_of d ++ onto fs rest) else None) also
+    optional_read name behind (Some n) d fs rest small same other also =
+        let ts = tokens_of (natural n) ++ onto (field behind d ∷ fs) rest in
+        ap (λ (b : Bool). if b then number_next behind ts else (if bytes_eq name behind then Some (None, ts) else None)) same
+        ∙ ap (λ (o : Parsed ℕ). o >>= λ n ts. key_next behind ts >>= λ _ ts. Some (Some n, ts)) (natural_law n small (onto (field behind d ∷ fs) rest))
+        ∙ ap (λ (b : Bool). (if b then Some (tt, tokens_of d ++ onto fs rest) else None) >>= λ (u : Unit {0}) ts. Some (Some n, ts)) also
+
+    user_read : (u : User) (rest : List Token) → u.id < 2 ^ 64 → FitsIfSome u.limit → user_next (tokens_of (user u) ++ rest) ≡ Some (u, rest)
     unfolding user_next user
-    user_read u rest small =
+    user_read u rest small limit =
         ap user_next (record_onto (user_fields u) rest)
-        ∙ ap (λ (o : Parsed ℕ). o >>= λ id ts. member_next (codes "moderator") as_bool ts >>= λ moderator ts. member_next (codes "name") as_str ts >>= λ name ts. end_next ts >>= λ _ ts. Some (record { id = id; name = name; moderator = moderator }, ts)) (natural_law u.id small _)
-        ∙ ap (λ (o : Parsed Bool). o >>= λ moderator ts. member_next (codes "name") as_str ts >>= λ name ts. end_next ts >>= λ _ ts. Some (record { id = u.id; name = name; moderator = moderator }, ts)) (flag_law u.moderator _)
-        ∙ ap (λ (o : Parsed (List ℕ)). o >>= λ name ts. end_next ts >>= λ _ ts. Some (record { id = u.id; name = name; moderator = u.moderator }, ts)) (text_law u.name _)
+        ∙ ap (λ (o : Parsed ℕ). o >>= λ id ts. optional_next (codes "limit") (codes "moderator") ts >>= λ limit ts. next_as as_bool ts >>= λ moderator ts. member_next (codes "name") as_str ts >>= λ name ts. end_next ts >>= λ _ ts. Some (record { id = id; name = name; moderator = moderator; limit = limit }, ts)) (natural_law u.id small _)
+        ∙ ap (λ (o : Parsed (Option ℕ)). o >>= λ limit ts. next_as as_bool ts >>= λ moderator ts. member_next (codes "name") as_str ts >>= λ name ts. end_next ts >>= λ _ ts. Some (record { id = u.id; name = name; moderator = moderator; limit = limit }, ts))
+        (optional_read (codes "limit") (codes "moderator") u.limit (boolean u.moderator) (field (codes "name") (string u.name) ∷ []) rest limit refl refl refl)
+        ∙ ap (λ (o : Parsed Bool). o >>= λ moderator ts. member_next (codes "name") as_str ts >>= λ name ts. end_next ts >>= λ _ ts. Some (record { id = u.id; name = name; moderator = moderator; limit = u.limit }, ts)) (flag_law u.moderator _)
+        ∙ ap (λ (o : Parsed (List ℕ)). o >>= λ name ts. end_next ts >>= λ _ ts. Some (record { id = u.id; name = name; moderator = u.moderator; limit = u.limit }, ts)) (text_law u.name _)
 
     ops_read : (id : ℕ) (ops : List Op) (rest : List Token) → IsChange ops → change_next id (Token.key (codes "osmChange") ∷ (tokens_of (change ops) ++ rest)) ≡ Some (ops, rest)
     unfolding change_next
@@ -78,9 +95,11 @@ module _
 
     command_read : (c : Command) (rest : List Token) → IsCommand c → command_next (tokens_of (command c) ++ rest) ≡ Some (c, rest)
     unfolding command by_act create_next retag_next close_next upload_next single_next title_next redact_next unredact_next
-    command_read (CreateChangeset tags) rest is =
-        ap command_next (record_onto (command_fields (CreateChangeset tags)) rest)
-        ∙ act_read (codes "create_changeset") (CreateChangeset tags) (field (codes "tags") (tags_data tags) ∷ []) rest (ap (λ (o : Parsed (List Tag)). o >>= λ tags ts. Some (CreateChangeset tags, ts)) (tags_law tags is (end_object ∷ rest)))
+    command_read (CreateChangeset tags large_from) rest is =
+        ap command_next (record_onto (command_fields (CreateChangeset tags large_from)) rest)
+        ∙ act_read (codes "create_changeset") (CreateChangeset tags large_from) (field_if (codes "large_from") natural large_from ∷ field (codes "tags") (tags_data tags) ∷ []) rest
+        (ap (λ (o : Parsed (Option ℕ)). o >>= λ large_from ts. next_as tags_of ts >>= λ tags ts. Some (CreateChangeset tags large_from, ts)) (optional_read (codes "large_from") (codes "tags") large_from (tags_data tags) [] rest is.1 refl refl refl)
+        ∙ ap (λ (o : Parsed (List Tag)). o >>= λ tags ts. Some (CreateChangeset tags large_from, ts)) (tags_law tags is.0 (end_object ∷ rest)))
     command_read (Retag id tags) rest is =
         ap command_next (record_onto (command_fields (Retag id tags)) rest)
         ∙ act_read (codes "retag") (Retag id tags) (field (codes "changeset") (natural id) ∷ field (codes "tags") (tags_data tags) ∷ []) rest
@@ -137,4 +156,4 @@ module _
         Some (record { session = session; call = e.call; user = user; stamp = e.stamp; command = command }, ts)) (command_read e.command (onto (field (codes "session") (natural e.session) ∷ field (codes "user") (user e.user) ∷ []) []) is.command)
         ∙ ap (λ (o : Parsed ℕ). o >>= λ session ts. key_next (codes "user") ts >>= λ _ ts. user_next ts >>= λ user ts. end_next ts >>= λ _ ts.
         Some (record { session = session; call = e.call; user = user; stamp = e.stamp; command = e.command }, ts)) (session_read e.session (onto (field (codes "user") (user e.user) ∷ []) []) is.session fits)
-        ∙ ap (λ (o : Parsed User). o >>= λ user ts. end_next ts >>= λ _ ts. Some (record { session = e.session; call = e.call; user = user; stamp = e.stamp; command = e.command }, ts)) (user_read e.user (end_object ∷ []) is.user)
+        ∙ ap (λ (o : Parsed User). o >>= λ user ts. end_next ts >>= λ _ ts. Some (record { session = e.session; call = e.call; user = user; stamp = e.stamp; command = e.command }, ts)) (user_read e.user (end_object ∷ []) is.user is.limit)

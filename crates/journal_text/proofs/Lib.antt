@@ -6,4 +6,4 @@ mod LinesRead
 mod PlainLine
 mod Sent
 mod InTurn
-mod Whole
+pub mod Whole

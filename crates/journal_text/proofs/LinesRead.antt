@@ -4,17 +4,19 @@ use Rattle.std.specs.Prelude.{All, ◌==◌, nat_lt, Result, Ok, Err, IfErr}
 use Rattle.std.specs.Result.{IsErrAnd}
 use Rattle.std.specs.List.{position_or_len}
 use Rattle.std.proofs.lemmas.Bool.{and_parts, lt-ltb, ltb-true, eqb-true, true≢false}
-use Rattle.std.proofs.lemmas.List.Elements.{All-head, All-tail}
+use Rattle.std.proofs.lemmas.List.Elements.{All-head, All-nil, All-push, All-tail}
 use Rattle.osm_base.specs.Parts.{is_byte, parted}
 use Rattle.osm_json.specs.Again.{is_one_line}
 use Rattle.osm_model.specs.Journal.{IsLegal}
 use Rattle.osm_model.specs.declared.commands.Entry.{Entry}
 use Rattle.journal_text.specs.Faults.{BeginsWithLine}
 use Rattle.journal_text.specs.Line.{line, IsEntry}
-use Rattle.journal_text.specs.Lines.{Follows, FollowsAlone, IsNoLine, IsLineFault, Reads, StopsAtLine, IsLinesFault, IsRefused}
+use Rattle.journal_text.specs.Lines.{Follows, FollowsAlone, IsNoLine, IsLineFault, Reads, StopsAtLine, IsLinesFault, IsRefused, AreOfNone}
 use Rattle.journal_text.specs.Text.{lines}
+use Rattle.journal_text.specs.Version.{Fits, IsEntryIn}
 use Rattle.journal_text.specs.declared.faults.JournalFault.{JournalFault}
 use Rattle.journal_text.specs.declared.faults.JournalFault.TheVariants.{Long, Header, Line, Illegal, Memory}
+use Rattle.journal_text.specs.declared.versions.Version.{Version}
 use Rattle.journal_text.proofs.Legal.{front_legal, legal_more, not_legal}
 
 -- ---- a text is cut at its first byte 10
@@ -98,14 +100,15 @@ lines-append (e ∷ es) more =
 not_empty : (rest bytes behind : List ℕ) → parted 10 rest ≡ Some (bytes, behind) → rest ≡ [] → ⊥
 not_empty rest bytes behind cut none = no_cut (bytes, behind) (sym cut ∙ ap (parted 10) none)
 
-pub nothing_read : (text : List ℕ) → Reads text [] text
-nothing_read text = record {
+pub nothing_read : (version : Version) (text : List ℕ) → Reads version text [] text
+nothing_read version text = record {
   legal = record { taken = refl; numbered = refl };
+  fits = All-nil (Fits version);
   is = refl;
   only = λ es typed is. (es, refl, is, typed);
 }
 
-module _ (one_line : (e : Entry) → IsEntry e → is_one_line (line e) ≡ true) where
+module _ (one_line : (e : Entry) → IsEntry e → is_one_line (line e) ≡ true) (version : Version) where
   -- the rest is one line and what follows it, or nothing
   cut_lines : (m : Entry) (ms : List Entry) (rest bytes behind : List ℕ) → IsEntry m → rest ≡ line m ++ 10 ∷ lines ms → parted 10 rest ≡ Some (bytes, behind) → (bytes ≡ line m) × (behind ≡ lines ms)
   cut_lines m ms rest bytes behind is e cut =
@@ -113,9 +116,10 @@ module _ (one_line : (e : Entry) → IsEntry e → is_one_line (line e) ≡ true
       (ap (λ (p : List ℕ × List ℕ). p.0) pair, ap (λ (p : List ℕ × List ℕ). p.1) pair)
 
   -- one line more
-  pub line_read : (text : List ℕ) (old new : List Entry) (rest bytes behind : List ℕ) → Reads text old rest → parted 10 rest ≡ Some (bytes, behind) → Follows old bytes new → FollowsAlone old bytes new → Reads text new behind
+  pub line_read : (text : List ℕ) (old new : List Entry) (rest bytes behind : List ℕ) → Reads version text old rest → parted 10 rest ≡ Some (bytes, behind) → Follows version old bytes new → FollowsAlone old bytes new → Reads version text new behind
   line_read text old new rest bytes behind reads cut follows only = record {
     legal = subst IsLegal (sym follows.appended) (legal_more old follows.entry reads.legal follows.follows);
+    fits = subst (All (Fits version)) (sym follows.appended) (All-push (Fits version) old follows.entry reads.fits follows.fits);
     is =
         reads.is
         ∙ ap (λ ts. lines old ++ ts) (cut_is rest bytes behind cut ∙ ap (λ ts. ts ++ 10 ∷ behind) follows.is)
@@ -126,52 +130,49 @@ module _ (one_line : (e : Entry) → IsEntry e → is_one_line (line e) ≡ true
     only = λ es typed is. let more = reads.only es typed is in goes_on es more.0 more.1 more.2 more.3;
   }
     where
-      goes_on : (es more : List Entry) → es ≡ old ++ more → rest ≡ lines more → All IsEntry more → (left : List Entry) × (es ≡ new ++ left) × (behind ≡ lines left) × All IsEntry left
+      goes_on : (es more : List Entry) → es ≡ old ++ more → rest ≡ lines more → All (IsEntryIn version) more → (left : List Entry) × (es ≡ new ++ left) × (behind ≡ lines left) × All (IsEntryIn version) left
       goes_on es [] same e typed = absurd (not_empty rest bytes behind cut e)
       goes_on es (m ∷ ms) same e typed =
-          let is = All-head IsEntry m ms typed in
+          let is = (All-head (IsEntryIn version) m ms typed).typed in
           let parts = cut_lines m ms rest bytes behind is e cut in (
             ms,
             same ∙ sym (append_assoc old (m ∷ []) ms) ∙ ap (λ js. js ++ ms) (sym (only m is parts.0)),
             parts.1,
-            All-tail IsEntry m ms typed,
+            All-tail (IsEntryIn version) m ms typed,
           )
 
   -- a rest without a byte 10 begins with no line
-  no_line : (rest : List ℕ) → parted 10 rest ≡ None → BeginsWithLine rest → ⊥
+  no_line : (rest : List ℕ) → parted 10 rest ≡ None → BeginsWithLine version rest → ⊥
   no_line rest cut begins =
       no_cut (line begins.entry, begins.behind)
-      (sym (ap (parted 10) begins.is ∙ cut_at (line begins.entry) begins.behind (one_line begins.entry begins.typed)) ∙ cut)
+      (sym (ap (parted 10) begins.is ∙ cut_at (line begins.entry) begins.behind (one_line begins.entry begins.typed.typed)) ∙ cut)
 
   -- a first line that is that of no entry
-  other_line : (rest bytes behind : List ℕ) → parted 10 rest ≡ Some (bytes, behind) → IsNoLine bytes → BeginsWithLine rest → ⊥
+  other_line : (rest bytes behind : List ℕ) → parted 10 rest ≡ Some (bytes, behind) → IsNoLine version bytes → BeginsWithLine version rest → ⊥
   other_line rest bytes behind cut none begins =
-      let pair = some_cut (bytes, behind) (line begins.entry, begins.behind) (sym cut ∙ ap (parted 10) begins.is ∙ cut_at (line begins.entry) begins.behind (one_line begins.entry begins.typed)) in
+      let pair = some_cut (bytes, behind) (line begins.entry, begins.behind) (sym cut ∙ ap (parted 10) begins.is ∙ cut_at (line begins.entry) begins.behind (one_line begins.entry begins.typed.typed)) in
       none begins.entry begins.typed (ap (λ (p : List ℕ × List ℕ). p.0) pair)
 
   -- ---- where it stops
 
-  abbrev Refused : List ℕ → Type 0
-  Refused text = (es : List Entry) → All IsEntry es → IsLegal es → text ≡ lines es → ⊥
-
-  begins : (m : Entry) (ms : List Entry) (rest : List ℕ) → IsEntry m → rest ≡ lines (m ∷ ms) → BeginsWithLine rest
+  begins : (m : Entry) (ms : List Entry) (rest : List ℕ) → IsEntryIn version m → rest ≡ lines (m ∷ ms) → BeginsWithLine version rest
   begins m ms rest is e = record { entry = m; typed = is; behind = lines ms; is = e }
 
-  refused_at : (text : List ℕ) (journal : List Entry) (rest : List ℕ) → Reads text journal rest → (rest ≡ [] → ⊥) → (BeginsWithLine rest → ⊥) → Refused text
+  refused_at : (text : List ℕ) (journal : List Entry) (rest : List ℕ) → Reads version text journal rest → (rest ≡ [] → ⊥) → (BeginsWithLine version rest → ⊥) → AreOfNone version text
   refused_at text journal rest reads some none es typed legal is = let more = reads.only es typed is in by more.0 more.2 more.3
     where
-      by : (more : List Entry) → rest ≡ lines more → All IsEntry more → ⊥
+      by : (more : List Entry) → rest ≡ lines more → All (IsEntryIn version) more → ⊥
       by [] e typed = some e
-      by (m ∷ ms) e typed = none (begins m ms rest (All-head IsEntry m ms typed) e)
+      by (m ∷ ms) e typed = none (begins m ms rest (All-head (IsEntryIn version) m ms typed) e)
 
-  stops : (text : List ℕ) (journal : List Entry) (rest : List ℕ) (n : ℕ) → Reads text journal rest → (rest ≡ [] → ⊥) → (BeginsWithLine rest → ⊥) → n ≡ length journal + 2 → StopsAtLine n text
-  stops text journal rest n reads some none e = record { journal = journal; rest = rest; legal = reads.legal; is = reads.is; number = e; some = some; none = none }
+  stops : (text : List ℕ) (journal : List Entry) (rest : List ℕ) (n : ℕ) → Reads version text journal rest → (rest ≡ [] → ⊥) → (BeginsWithLine version rest → ⊥) → n ≡ length journal + 2 → StopsAtLine version n text
+  stops text journal rest n reads some none e = record { journal = journal; rest = rest; legal = reads.legal; fits = reads.fits; is = reads.is; number = e; some = some; none = none }
 
   -- a rest that no byte 10 ends
-  pub left_open : (text : List ℕ) (journal : List Entry) (rest : List ℕ) → Reads text journal rest → (rest ≡ [] → ⊥) → parted 10 rest ≡ None → StopsAtLine (length journal + 2) text × Refused text
+  pub left_open : (text : List ℕ) (journal : List Entry) (rest : List ℕ) → Reads version text journal rest → (rest ≡ [] → ⊥) → parted 10 rest ≡ None → StopsAtLine version (length journal + 2) text × AreOfNone version text
   left_open text journal rest reads some cut = (stops text journal rest (length journal + 2) reads some (no_line rest cut) refl, refused_at text journal rest reads some (no_line rest cut))
 
-  pub stopped : (f : JournalFault) (text : List ℕ) (journal : List Entry) (rest bytes behind : List ℕ) → Reads text journal rest → parted 10 rest ≡ Some (bytes, behind) → IsLineFault f (length journal + 2) journal bytes → IsLinesFault f text × IsRefused f text
+  pub stopped : (f : JournalFault) (text : List ℕ) (journal : List Entry) (rest bytes behind : List ℕ) → Reads version text journal rest → parted 10 rest ≡ Some (bytes, behind) → IsLineFault version f (length journal + 2) journal bytes → IsLinesFault version f text × IsRefused version f text
   stopped Long text journal rest bytes behind reads cut fault = absurd fault
   stopped Header text journal rest bytes behind reads cut fault = absurd fault
   stopped Memory text journal rest bytes behind reads cut fault = (tt, tt)
@@ -185,24 +186,26 @@ module _ (one_line : (e : Entry) → IsEntry e → is_one_line (line e) ≡ true
       entry = fault.1.entry;
       rest = behind;
       legal = reads.legal;
+      fits = reads.fits;
       is = reads.is ∙ ap (λ ts. lines journal ++ ts) (cut_is rest bytes behind cut ∙ ap (λ ts. ts ++ 10 ∷ behind) fault.1.is);
+      fits_too = fault.1.fits;
       number = fault.0;
       illegal = not_legal journal fault.1.entry fault.1.illegal;
     },
     λ es typed legal is. let more = reads.only es typed is in by es legal more.0 more.1 more.2 more.3,
   )
     where
-      by : (es : List Entry) → IsLegal es → (more : List Entry) → es ≡ journal ++ more → rest ≡ lines more → All IsEntry more → ⊥
+      by : (es : List Entry) → IsLegal es → (more : List Entry) → es ≡ journal ++ more → rest ≡ lines more → All (IsEntryIn version) more → ⊥
       by es legal [] same e typed = not_empty rest bytes behind cut e
       by es legal (m ∷ ms) same e typed =
-          let is = All-head IsEntry m ms typed in
+          let is = (All-head (IsEntryIn version) m ms typed).typed in
           let parts = cut_lines m ms rest bytes behind is e cut in
           let entry : fault.1.entry ≡ m = fault.1.only m is parts.0 in
           let whole : es ≡ (journal ++ fault.1.entry ∷ []) ++ ms = same ∙ sym (append_assoc journal (m ∷ []) ms) ∙ ap (λ x. (journal ++ x ∷ []) ++ ms) (sym entry) in
           not_legal journal fault.1.entry fault.1.illegal (front_legal (journal ++ fault.1.entry ∷ []) ms (subst IsLegal whole legal))
 
   -- the lines are all read
-  only_read : (text : List ℕ) (journal : List Entry) → Reads text journal [] → (es : List Entry) → All IsEntry es → text ≡ lines es → journal ≡ es
+  only_read : (text : List ℕ) (journal : List Entry) → Reads version text journal [] → (es : List Entry) → All (IsEntryIn version) es → text ≡ lines es → journal ≡ es
   only_read text journal reads es typed is = let more = reads.only es typed is in by more.0 more.1 more.2
     where
       by : (more : List Entry) → es ≡ journal ++ more → [] ≡ lines more → journal ≡ es
@@ -211,7 +214,7 @@ module _ (one_line : (e : Entry) → IsEntry e → is_one_line (line e) ≡ true
           let long : 0 ≡ length (line m) + suc (length (lines ms)) = ap length e ∙ length-append (line m) (10 ∷ lines ms) in
           absurd (omega arith)
 
-  pub all_read : (text : List ℕ) (journal : List Entry) → Reads text journal [] → (text ≡ lines journal) × ((es : List Entry) → All IsEntry es → text ≡ lines es → journal ≡ es)
+  pub all_read : (text : List ℕ) (journal : List Entry) → Reads version text journal [] → (text ≡ lines journal) × ((es : List Entry) → All (IsEntryIn version) es → text ≡ lines es → journal ≡ es)
   all_read text journal reads = (reads.is ∙ append-nil (lines journal), only_read text journal reads)
 
 -- the exit of a fault

@@ -5,3 +5,4 @@ pub mod Line
 pub mod Lines
 pub mod Read
 pub mod Text
+pub mod Version

@@ -1,12 +1,12 @@
 -- The line of an entry: compact JSON, the members of each object in the byte order of their names.
-use Rattle.std.specs.Prelude.{◌≡◌, ℕ, ◌^◌, ◌<◌, List, [], ◌∷◌, length, codes, ⊤}
+use Rattle.std.specs.Prelude.{◌≡◌, ℕ, ◌^◌, ◌<◌, List, [], ◌∷◌, length, codes, Option, Some, None, ⊤}
 use Rattle.std.specs.Str.{IsUtf8}
 use Rattle.serde_json.specs.Data.{Data, boolean, string}
 use Rattle.serde_json.specs.Written.{compact_text}
 use Rattle.osm_base.specs.declared.people.User.{User}
 use Rattle.osm_element.specs.Tags.{KeysRise}
 use Rattle.osm_json.specs.Rows.{tags as tags_data}
-use Rattle.osm_json.specs.Shown.{Field, field, record_of, natural, kind}
+use Rattle.osm_json.specs.Shown.{Field, field, field_if, record_of, natural, kind}
 use Rattle.osm_json.specs.Uploads.{IsChange, change}
 use Rattle.osm_model.specs.declared.commands.Command.{Command}
 use Rattle.osm_model.specs.declared.commands.Command.TheVariants.{CreateChangeset, Retag, CloseChangeset, Upload, Single, MakeRedaction, Redact, Unredact}
@@ -19,7 +19,7 @@ abbrev pub changeset : ℕ → Field
 changeset id = field (codes "changeset") (natural id)
 
 abbrev pub command_fields : Command → List Field
-command_fields (CreateChangeset tags) = act (codes "create_changeset") ∷ field (codes "tags") (tags_data tags) ∷ []
+command_fields (CreateChangeset tags large_from) = act (codes "create_changeset") ∷ field_if (codes "large_from") natural large_from ∷ field (codes "tags") (tags_data tags) ∷ []
 command_fields (Retag id tags) = act (codes "retag") ∷ changeset id ∷ field (codes "tags") (tags_data tags) ∷ []
 command_fields (CloseChangeset id) = act (codes "close") ∷ changeset id ∷ []
 command_fields (Upload id ops) = act (codes "upload") ∷ changeset id ∷ field (codes "osmChange") (change ops) ∷ []
@@ -41,7 +41,11 @@ unfoldable pub command : Command → Data
 command c = record_of (command_fields c)
 
 abbrev pub user_fields : User → List Field
-user_fields u = field (codes "id") (natural u.id) ∷ field (codes "moderator") (boolean u.moderator) ∷ field (codes "name") (string u.name) ∷ []
+user_fields u =
+    field (codes "id") (natural u.id)
+    ∷ field_if (codes "limit") natural u.limit
+    ∷ field (codes "moderator") (boolean u.moderator)
+    ∷ field (codes "name") (string u.name) ∷ []
 
 unfoldable pub user : User → Data
 user u = record_of (user_fields u)
@@ -66,8 +70,12 @@ line e = compact_text (line_data e)
 abbrev pub Fits64 : ℕ → Type 0
 Fits64 n = n < 2 ^ 64
 
+abbrev pub FitsIfSome : Option ℕ → Type 0
+FitsIfSome None = ⊤
+FitsIfSome (Some n) = Fits64 n
+
 abbrev pub IsCommand : Command → Type 0
-IsCommand (CreateChangeset tags) = KeysRise tags
+IsCommand (CreateChangeset tags large_from) = KeysRise tags × FitsIfSome large_from
 IsCommand (Retag id tags) = Fits64 id × KeysRise tags
 IsCommand (CloseChangeset id) = Fits64 id
 IsCommand (Upload id ops) = Fits64 id × IsChange ops
@@ -82,5 +90,6 @@ pub record IsEntry (e : Entry) : Type 0 where
   pub call : Fits64 e.call
   pub stamp : Fits64 e.stamp
   pub user : Fits64 e.user.id
+  pub limit : FitsIfSome e.user.limit
   pub command : IsCommand e.command
   pub texts : IsUtf8 (line e)

@@ -38,14 +38,34 @@ key_next name ts = None
 abbrev pub member_next : {A : Type 0} → List ℕ → (Data → Option A) → List Token → Parsed A
 member_next name reading ts = key_next name ts >>= λ _ ts. next_as reading ts
 
+-- the name of the member that comes next
+abbrev pub name_next : List Token → Parsed (List ℕ)
+name_next (Token.key k ∷ ts) = Some (k, ts)
+name_next ts = None
+
+-- a number, and behind it the name of the next member
+abbrev pub number_next : List ℕ → List Token → Parsed (Option ℕ)
+number_next behind ts = next_as natural_of ts >>= λ n ts. key_next behind ts >>= λ _ ts. Some (Some n, ts)
+
+abbrev pub optional_of : List ℕ → List ℕ → List ℕ → List Token → Parsed (Option ℕ)
+optional_of name behind found ts =
+    if bytes_eq found name then number_next behind ts
+    else (if bytes_eq found behind then Some (None, ts)
+    else None)
+
+-- the number of a member that may be left out, and the name of the member behind it
+unfoldable pub optional_next : List ℕ → List ℕ → List Token → Parsed (Option ℕ)
+optional_next name behind ts = name_next ts >>= λ found ts. optional_of name behind found ts
+
 unfoldable pub user_next : List Token → Parsed User
 user_next ts =
     begin_next ts >>= λ _ ts.
     member_next (codes "id") natural_of ts >>= λ id ts.
-    member_next (codes "moderator") as_bool ts >>= λ moderator ts.
+    optional_next (codes "limit") (codes "moderator") ts >>= λ limit ts.
+    next_as as_bool ts >>= λ moderator ts.
     member_next (codes "name") as_str ts >>= λ name ts.
     end_next ts >>= λ _ ts.
-    Some (record { id = id; name = name; moderator = moderator }, ts)
+    Some (record { id = id; name = name; moderator = moderator; limit = limit }, ts)
 
 -- ---- changes
 
@@ -63,7 +83,10 @@ one_of ops ts = if length ops == 1 then Some (ops, ts) else None
 -- ---- the members of a command behind its act
 
 unfoldable pub create_next : List Token → Parsed Command
-create_next ts = member_next (codes "tags") tags_of ts >>= λ tags ts. Some (CreateChangeset tags, ts)
+create_next ts =
+    optional_next (codes "large_from") (codes "tags") ts >>= λ large_from ts.
+    next_as tags_of ts >>= λ tags ts.
+    Some (CreateChangeset tags large_from, ts)
 
 unfoldable pub retag_next : List Token → Parsed Command
 retag_next ts =

@@ -6,6 +6,7 @@ ghost use Rattle.journal_text.specs.Faults.{IsFault, IsJournalRead};
 ghost use Rattle.journal_text.specs.Line.{line, IsEntry};
 ghost use Rattle.journal_text.specs.Lines.{Follows, FollowsAlone, IsLineFault, IsLinesFault, IsRefused};
 ghost use Rattle.journal_text.specs.Text.{lines, text_of, IsTextOf};
+ghost use Rattle.journal_text.specs.Version.{Fits, IsEntryIn};
 ghost use Rattle.journal_text.specs.declared.limits.TheConstants.{TEXT_LIMIT};
 
 use crate::entries::read_entry;
@@ -14,13 +15,11 @@ use crate::keepers::Keeper;
 use crate::law::lines_are_read_in_turn;
 use crate::limits::TEXT_LIMIT;
 use crate::line::line_behind;
+use crate::versions::{HEADER, Version, split_header};
 use osm_base::{Bytes, Memory, copy_all, split_once};
 use osm_model::Entry;
 use plain_model::Journal;
 use std::alloc::Global;
-
-/// The line before those of the entries, with the byte 10 that ends it.
-pub const HEADER: &[u8] = b"osm-journal 1\n";
 
 /// The lines of the entries, each ended by byte 10, behind what is there already.
 fn lines_behind(bytes: Vec<u8>, entries: &[Entry]) -> Result<Vec<u8>, Memory>
@@ -35,7 +34,7 @@ fn lines_behind(bytes: Vec<u8>, entries: &[Entry]) -> Result<Vec<u8>, Memory>
     Ok(text)
 }
 
-/// The text of a journal: a header, and the line of each entry, each ended by byte 10.
+/// The text of a journal, in version 2: a header, and the line of each entry, each ended by byte 10.
 /// `typed` and `again` are what `read_journal` asks for: within `TEXT_LIMIT` it reads that journal.
 pub fn journal_text(alloc: Global, entries: &[Entry]) -> Result<Bytes, Memory>
     requires { IsLegal entries.now }
@@ -47,22 +46,23 @@ pub fn journal_text(alloc: Global, entries: &[Entry]) -> Result<Bytes, Memory>
     Ok(Bytes::from_vec(text))
 }
 
-/// Reads a line, without the byte 10 that ends it, and has its entry kept. A fault tells this number
-/// of the line, and leaves the keeper as it was.
+/// Reads a line of this version, without the byte 10 that ends it, and has its entry kept. A fault
+/// tells this number of the line, and leaves the keeper as it was.
 pub fn read_line<K: Keeper>(
     alloc: Global,
+    version: Version,
     line: &[u8],
     number: u64,
     keeper: &mut K,
 ) -> Result<(), JournalFault>
-    ensures ok { OnOk result (Follows (K.kept keeper.old) line.now (K.kept keeper.new)) }
+    ensures ok { OnOk result (Follows version (K.kept keeper.old) line.now (K.kept keeper.new)) }
     ensures alone { OnOk result (FollowsAlone (K.kept keeper.old) line.now (K.kept keeper.new)) }
-    ensures fault { IfErr result (λ f. IsLineFault f number (K.kept keeper.old) line.now) }
+    ensures fault { IfErr result (λ f. IsLineFault version f number (K.kept keeper.old) line.now) }
     ensures same { OnErr result (K.kept keeper.new ≡ K.kept keeper.old) }
 {
     let entry = match read_entry(alloc, line) {
-        Ok(entry) => entry,
-        Err(LineFault::NotLine) => return Err(JournalFault::Line { line: number }),
+        Ok(entry) if version.fits(&entry) => entry,
+        Ok(_) | Err(LineFault::NotLine) => return Err(JournalFault::Line { line: number }),
         Err(LineFault::Memory) => return Err(JournalFault::Memory),
     };
     if keeper.keep(alloc, entry)? {
@@ -72,15 +72,21 @@ pub fn read_line<K: Keeper>(
     }
 }
 
-/// Reads the lines behind a header, each ended by byte 10, and has their entries kept by a keeper
-/// that keeps nothing yet. After a fault it keeps the entries before the faulty line.
-pub fn read_lines<K: Keeper>(alloc: Global, text: &[u8], keeper: &mut K) -> Result<(), JournalFault>
+/// Reads the lines behind the header of this version, each ended by byte 10, and has their entries
+/// kept by a keeper that keeps nothing yet. After a fault it keeps the entries before the faulty line.
+pub fn read_lines<K: Keeper>(
+    alloc: Global,
+    version: Version,
+    text: &[u8],
+    keeper: &mut K,
+) -> Result<(), JournalFault>
     requires { K.kept keeper.old ≡ [] }
     ensures ok { OnOk result (text.now ≡ lines (K.kept keeper.new)) }
     ensures legal { IsLegal (K.kept keeper.new) }
-    ensures only { OnOk result ((es : List Entry) → All IsEntry es → text.now ≡ lines es → K.kept keeper.new ≡ es) }
-    ensures fault { IfErr result (λ f. IsLinesFault f text.now) }
-    ensures refused { IfErr result (λ f. IsRefused f text.now) }
+    ensures fits { All (Fits version) (K.kept keeper.new) }
+    ensures only { OnOk result ((es : List Entry) → All (IsEntryIn version) es → text.now ≡ lines es → K.kept keeper.new ≡ es) }
+    ensures fault { IfErr result (λ f. IsLinesFault version f text.now) }
+    ensures refused { IfErr result (λ f. IsRefused version f text.now) }
 {
     lines_are_read_in_turn();
     let mut rest = text;
@@ -89,15 +95,16 @@ pub fn read_lines<K: Keeper>(alloc: Global, text: &[u8], keeper: &mut K) -> Resu
         let Some((line, behind)) = split_once(rest, b'\n') else {
             return Err(JournalFault::Line { line: number });
         };
-        read_line(alloc, line, number, keeper)?;
+        read_line(alloc, version, line, number, keeper)?;
         rest = behind;
         number += 1;
     }
     Ok(())
 }
 
-/// The entries of a text. It is accepted exactly where it is the text of a legal journal and no
-/// longer than `TEXT_LIMIT`, and the answer is that journal.
+/// The entries of a text. It is accepted exactly where it is no longer than `TEXT_LIMIT` and the text
+/// of a legal journal, of version 2, or of version 1 where no user has a limit and no creation tells
+/// from when changesets are large. The answer is that journal.
 pub fn read_journal(alloc: Global, text: &[u8]) -> Result<Vec<Entry>, JournalFault>
     ensures text { IfOk result (λ v. IsTextOf text.now v.items) }
     ensures journal { (journal : List Entry) → All IsEntry journal → IsTextOf text.now journal → IsJournalRead (λ v. v.items) result journal }
@@ -106,23 +113,29 @@ pub fn read_journal(alloc: Global, text: &[u8]) -> Result<Vec<Entry>, JournalFau
     if text.len() > TEXT_LIMIT {
         return Err(JournalFault::Long);
     }
-    let Some(lines) = text.strip_prefix(HEADER) else {
+    let Some((version, lines)) = split_header(text) else {
         return Err(JournalFault::Header);
     };
     let mut journal = Journal::new(alloc);
-    entries_of(alloc, lines, &mut journal)
+    entries_of(alloc, version, lines, &mut journal)
 }
 
 /// The entries of the lines behind a header, which a journal that is empty before keeps.
-fn entries_of(alloc: Global, text: &[u8], journal: &mut Journal) -> Result<Vec<Entry>, JournalFault>
+fn entries_of(
+    alloc: Global,
+    version: Version,
+    text: &[u8],
+    journal: &mut Journal,
+) -> Result<Vec<Entry>, JournalFault>
     requires { journal.old ≡ [] }
     ensures ok { IfOk result (λ v. text.now ≡ lines v.items) }
     ensures legal { IfOk result (λ v. IsLegal v.items) }
-    ensures only { IfOk result (λ v. (es : List Entry) → All IsEntry es → text.now ≡ lines es → v.items ≡ es) }
-    ensures fault { IfErr result (λ f. IsLinesFault f text.now) }
-    ensures refused { IfErr result (λ f. IsRefused f text.now) }
+    ensures fits { IfOk result (λ v. All (Fits version) v.items) }
+    ensures only { IfOk result (λ v. (es : List Entry) → All (IsEntryIn version) es → text.now ≡ lines es → v.items ≡ es) }
+    ensures fault { IfErr result (λ f. IsLinesFault version f text.now) }
+    ensures refused { IfErr result (λ f. IsRefused version f text.now) }
 {
-    read_lines(alloc, text, journal)?;
+    read_lines(alloc, version, text, journal)?;
     let entries = copy_all(alloc, journal.entries())?;
     Ok(entries)
 }

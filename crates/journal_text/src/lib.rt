@@ -11,12 +11,14 @@ mod line;
 mod read;
 mod turns;
 mod typed;
+mod versions;
 mod write;
 
 pub use entries::read_entry;
 pub use faults::{JournalFault, LineFault};
-pub use journals::{HEADER, journal_text, read_journal, read_line, read_lines};
+pub use journals::{journal_text, read_journal, read_line, read_lines};
 pub use keepers::Keeper;
 pub use law::lines_are_read_in_turn;
 pub use limits::TEXT_LIMIT;
 pub use line::entry_line;
+pub use versions::{HEADER, Version, split_header};

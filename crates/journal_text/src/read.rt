@@ -5,7 +5,7 @@ ghost use Rattle.osm_change.specs.Build.{IsRaw};
 ghost use Rattle.osm_json.specs.Again.{natural_of, next_as, ops_of};
 ghost use Rattle.osm_json.specs.Reading.{kind_of, tags_of};
 ghost use Rattle.journal_text.specs.Heard.{Hears, heard_of};
-ghost use Rattle.journal_text.specs.Read.{◌>>=◌ as bind, begin_next, end_next, key_next, member_next, user_next, change_next, create_next, retag_next, close_next, upload_next, single_next, title_next, redact_next, unredact_next, by_act, command_next, session_next, entry_next};
+ghost use Rattle.journal_text.specs.Read.{◌>>=◌ as bind, begin_next, end_next, key_next, member_next, user_next, change_next, number_next, optional_next, create_next, retag_next, close_next, upload_next, single_next, title_next, redact_next, unredact_next, by_act, command_next, session_next, entry_next};
 
 use crate::faults::LineFault;
 use json::{Reader, Token};
@@ -69,12 +69,52 @@ fn natural(reader: &mut Reader<'_>, name: &str) -> Result<u64, LineFault>
     heard(next_natural(reader))
 }
 
-#[tactic(auto, using(crate::proofs::Hearing::hears))]
-fn flag(reader: &mut Reader<'_>, name: &str) -> Result<bool, LineFault>
-    ensures { Hears (λ b. b) result (member_next name.now as_bool reader.old) reader.new }
+/// A value whose name was read already.
+#[tactic(auto, using(crate::proofs::Hearing::hears_value))]
+fn natural_value(reader: &mut Reader<'_>) -> Result<u64, LineFault>
+    ensures { Hears (λ n. n) result (next_as natural_of reader.old) reader.new }
 {
-    key(reader, name)?;
+    heard(next_natural(reader))
+}
+
+#[tactic(auto, using(crate::proofs::Hearing::hears_value))]
+fn flag_value(reader: &mut Reader<'_>) -> Result<bool, LineFault>
+    ensures { Hears (λ b. b) result (next_as as_bool reader.old) reader.new }
+{
     heard(next_flag(reader))
+}
+
+#[tactic(auto, using(crate::proofs::Hearing::hears_value))]
+fn tags_value(alloc: Global, reader: &mut Reader<'_>) -> Result<Tags, LineFault>
+    ensures { Hears (λ t. t) result (next_as tags_of reader.old) reader.new }
+{
+    heard(next_tags(alloc, reader))
+}
+
+/// The number of a member, and then the name of the member behind it.
+fn number(reader: &mut Reader<'_>, behind: &str) -> Result<Option<u64>, LineFault>
+    ensures { Hears (λ n. n) result (number_next behind.now reader.old) reader.new }
+{
+    let number = natural_value(reader)?;
+    key(reader, behind)?;
+    Ok(Some(number))
+}
+
+/// The number of a member that may be left out, and then the name of the member behind it.
+#[tactic(auto, unfolding(crate::specs::Read::optional_next))]
+fn optional(reader: &mut Reader<'_>, name: &str, behind: &str) -> Result<Option<u64>, LineFault>
+    ensures { Hears (λ n. n) result (optional_next name.now behind.now reader.old) reader.new }
+{
+    match reader.next() {
+        Some(Token::Key(found)) => if found == name {
+            number(reader, behind)
+        } else if found == behind {
+            Ok(None)
+        } else {
+            Err(LineFault::NotLine)
+        },
+        _ => Err(LineFault::NotLine),
+    }
 }
 
 #[tactic(auto, using(crate::proofs::Hearing::hears))]
@@ -130,7 +170,8 @@ fn user(alloc: Global, reader: &mut Reader<'_>) -> Result<User, LineFault>
 {
     begin(reader)?;
     let id = natural(reader, "id")?;
-    let moderator = flag(reader, "moderator")?;
+    let limit = optional(reader, "limit", "moderator")?;
+    let moderator = flag_value(reader)?;
     let name = text(reader, "name")?;
     end(reader)?;
     let name = Text::of(alloc, name)?;
@@ -138,6 +179,7 @@ fn user(alloc: Global, reader: &mut Reader<'_>) -> Result<User, LineFault>
         id,
         name,
         moderator,
+        limit,
     })
 }
 
@@ -147,8 +189,9 @@ fn user(alloc: Global, reader: &mut Reader<'_>) -> Result<User, LineFault>
 fn create(alloc: Global, reader: &mut Reader<'_>) -> Result<Command, LineFault>
     ensures { Hears (λ c. c) result (create_next reader.old) reader.new }
 {
-    let tags = tags(alloc, reader)?;
-    Ok(Command::CreateChangeset { tags })
+    let large_from = optional(reader, "large_from", "tags")?;
+    let tags = tags_value(alloc, reader)?;
+    Ok(Command::CreateChangeset { tags, large_from })
 }
 
 #[tactic(auto, unfolding(crate::specs::Read::retag_next))]

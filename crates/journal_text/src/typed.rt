@@ -1,7 +1,7 @@
 //! What the types of an entry say of it: laws, which cost at most a pass over its operations.
 ghost use Rattle.std.specs.Prelude.{◌<◌, ◌^◌};
 ghost use Rattle.osm_json.specs.Uploads.{HasRisingTags, IsChange};
-ghost use Rattle.journal_text.specs.Line.{Fits64, IsCommand};
+ghost use Rattle.journal_text.specs.Line.{Fits64, FitsIfSome, IsCommand};
 
 use osm_change::{Change, Op};
 use osm_model::{Command, Entry};
@@ -25,11 +25,23 @@ fn change_is_typed(change: &Change)
     }
 }
 
+fn number_is_typed(number: Option<u64>)
+    ensures { FitsIfSome number }
+{
+    match number {
+        Some(_wide) => {}
+        None => {}
+    }
+}
+
 fn command_is_typed(command: &Command)
     ensures { IsCommand command.now }
 {
     match command {
-        Command::CreateChangeset { tags } => tags.keys_rise(),
+        Command::CreateChangeset { tags, large_from } => {
+            tags.keys_rise();
+            number_is_typed(*large_from);
+        }
         Command::Retag { changeset, tags } => {
             let _wide = *changeset;
             tags.keys_rise();
@@ -68,11 +80,13 @@ pub(crate) fn entry_is_typed(entry: &Entry)
     ensures call { Fits64 entry.now.call }
     ensures stamp { Fits64 entry.now.stamp }
     ensures user { Fits64 entry.now.user.id }
+    ensures limit { FitsIfSome entry.now.user.limit }
     ensures command { IsCommand entry.now.command }
 {
     let _session = entry.session;
     let _call = entry.call;
     let _stamp = entry.stamp.seconds();
     let _user = entry.user.id;
+    number_is_typed(entry.user.limit);
     command_is_typed(&entry.command);
 }

@@ -1,10 +1,10 @@
 //! The parts of a line, written one after another.
 ghost use Rattle.std.specs.Prelude.{◌≡◌, ◌∷◌, [], ◌++◌, codes};
 ghost use Rattle.serde_json.specs.Data.{string};
-ghost use Rattle.osm_json.specs.Fields.{shown_fields};
+ghost use Rattle.osm_json.specs.Fields.{shown_fields, IsMember};
 ghost use Rattle.osm_json.specs.Rows.{tags as tags_data};
 ghost use Rattle.osm_json.specs.Sent.{Sends, tokens_of};
-ghost use Rattle.osm_json.specs.Shown.{field, record_of, natural};
+ghost use Rattle.osm_json.specs.Shown.{field, field_if, record_of, natural};
 ghost use Rattle.osm_json.specs.Uploads.{change as change_data};
 ghost use Rattle.journal_text.specs.Line.{command as command_data, user as user_data, line_data};
 
@@ -16,6 +16,16 @@ use osm_json::{Shown, kind_name, write_change, write_members, write_record, writ
 use osm_model::{Command, Entry};
 use std::alloc::AllocError;
 
+/// A number that is left out where there is none.
+fn optional(number: Option<u64>) -> Shown<'static>
+    ensures { IsMember result (λ name. field_if name natural number) }
+{
+    match number {
+        Some(n) => Shown::Natural(n),
+        None => Shown::Absent,
+    }
+}
+
 #[tactic(auto, unfolding(crate::specs::Line::user))]
 fn user(out: &mut Writer, user: &User) -> Result<(), AllocError>
     ensures { Sends result out.old out.new (tokens_of (user_data user.now)) }
@@ -24,6 +34,7 @@ fn user(out: &mut Writer, user: &User) -> Result<(), AllocError>
         out,
         &[
             ("id", Shown::Natural(user.id)),
+            ("limit", optional(user.limit)),
             ("moderator", Shown::Flag(user.moderator)),
             ("name", Shown::Text(user.name.as_str())),
         ],
@@ -38,6 +49,20 @@ fn with_tags(out: &mut Writer, front: &[(&str, Shown<'_>)], tags: &Tags) -> Resu
     out.key("tags")?;
     write_tags(out, tags)?;
     out.end_object()
+}
+
+#[tactic(auto, unfolding(crate::specs::Line::command))]
+fn create(out: &mut Writer, tags: &Tags, large_from: Option<u64>) -> Result<(), AllocError>
+    ensures { Sends result out.old out.new (tokens_of (command_data (Command.CreateChangeset tags.now large_from))) }
+{
+    with_tags(
+        out,
+        &[
+            ("act", Shown::Text("create_changeset")),
+            ("large_from", optional(large_from)),
+        ],
+        tags,
+    )
 }
 
 fn with_change(
@@ -100,9 +125,7 @@ fn command(out: &mut Writer, command: &Command) -> Result<(), AllocError>
     ensures { Sends result out.old out.new (tokens_of (command_data command.now)) }
 {
     match command {
-        Command::CreateChangeset { tags } => {
-            with_tags(out, &[("act", Shown::Text("create_changeset"))], tags)
-        }
+        Command::CreateChangeset { tags, large_from } => create(out, tags, *large_from),
         Command::Retag { changeset, tags } => with_tags(
             out,
             &[

@@ -1,6 +1,7 @@
 use Rattle.std.proofs.Common.{◌<◌, length, arith, length-take}
 use Rattle.std.proofs.lemmas.Grind.{common_steps}
 use Rattle.journal_text.specs.Text.{header}
+use Rattle.journal_text.specs.declared.versions.Version.TheVariants.{Two}
 use Rattle.journal_input.specs.Going.{Stops}
 use Rattle.journal_input.proofs.Exits.{at_exit}
 use Rattle.journal_input.proofs.SoFarLemmas.{one_more, fills_length, front_ended, stops_later}
@@ -15,7 +16,7 @@ returns-in_err-count-clause-fault g c =
 
 pub returns-then-count-eq0-clause-front : goal.returns-then-count-eq0-clause-front
 returns-then-count-eq0-clause-front g c =
-    let short : length c.reads.front.items < length header = first_of (grind (arith, common_steps), search arith) in
+    let short : length c.reads.front.items < length (header Two) = first_of (grind (arith, common_steps), search arith) in
     front_ended _ _ _ _ _ c.in_ok-count.count (omega (arith, c.if-count-eq0.true)) short c.reads.invariant.0 c.in_ok-count.ensures.filled
 
 pub reads-preserved : goal.reads-preserved

@@ -23,10 +23,10 @@ returns-in_err-end g c =
     let gone = c.pieces.invariant.0 before so_far in
     let size = gone.size in
     let why = c.in_err-end.field-0.0 in
-    let within : length (header ++ gone.bytes) ≤ TEXT_LIMIT = omega (arith, size, c.pieces-test.true) in
+    let within : length (header c.args.version ++ gone.bytes) ≤ TEXT_LIMIT = omega (arith, size, c.pieces-test.true) in
     read_exit c.from_residual-in_err-end.result (Text why) before _ _ c.from_residual-in_err-end.ensures.1
-    (left_open c.lines_are_read_in_turn.ensures.open before _ gone.bytes (g.K.Keeper.kept c.pieces.keeper) c.pieces.lines why
-    (ended_at before _ _ (header ++ gone.bytes) _ c.in_ok-more.more (omega (arith, c.if-more-eq0.true)) gone.so_far c.in_ok-more.ensures.piece)
+    (left_open c.args.version (c.lines_are_read_in_turn.ensures.open c.args.version) before _ gone.bytes (g.K.Keeper.kept c.pieces.keeper) c.pieces.lines why
+    (ended_at before _ _ (header c.args.version ++ gone.bytes) _ c.in_ok-more.more (omega (arith, c.if-more-eq0.true)) gone.so_far c.in_ok-more.ensures.piece)
     within gone.stands c.in_err-end.ensures.some c.in_err-end.ensures.fault)
 
 pub returns-then-more-eq0 : goal.returns-then-more-eq0
@@ -34,16 +34,16 @@ returns-then-more-eq0 g c =
     λ before so_far.
     let gone = c.pieces.invariant.0 before so_far in
     let size = gone.size in
-    let within : length (header ++ gone.bytes) ≤ TEXT_LIMIT = omega (arith, size, c.pieces-test.true) in
-    all_read c.lines_are_read_in_turn.ensures.end before _ gone.bytes (g.K.Keeper.kept c.pieces.keeper) c.pieces.lines
-    (ended_at before _ _ (header ++ gone.bytes) _ c.in_ok-more.more (omega (arith, c.if-more-eq0.true)) gone.so_far c.in_ok-more.ensures.piece)
+    let within : length (header c.args.version ++ gone.bytes) ≤ TEXT_LIMIT = omega (arith, size, c.pieces-test.true) in
+    all_read c.args.version (c.lines_are_read_in_turn.ensures.end c.args.version) before _ gone.bytes (g.K.Keeper.kept c.pieces.keeper) c.pieces.lines
+    (ended_at before _ _ (header c.args.version ++ gone.bytes) _ c.in_ok-more.more (omega (arith, c.if-more-eq0.true)) gone.so_far c.in_ok-more.ensures.piece)
     within gone.stands c.in_ok-end.ensures.none
 
 pub returns-in-Err : goal.returns-in-Err
 returns-in-Err g c =
     λ before so_far.
     let gone = c.pieces.invariant.0 before so_far in
-    fails_there before _ _ _ _ _ _ c.pieces.count c.in_ok-more.more c.in-Err.fault _ gone (omega (arith, c.if-more-eq0.false)) c.in_ok-more.ensures.piece
+    fails_there c.args.version before _ _ _ _ _ _ c.pieces.count c.in_ok-more.more c.in-Err.fault _ gone (omega (arith, c.if-more-eq0.false)) c.in_ok-more.ensures.piece
     (c.in-Err.ensures.fault gone.bytes gone.stands) (c.refuse.ensures before)
     (take-append-le c.in_ok-more.more c.read_piece.new.room _ c.in_ok-more.ensures.count)
 
@@ -53,7 +53,7 @@ pieces-preserved g c =
     let number = c.in_default.ensures.number in (
       λ before so_far.
           let gone = c.pieces.invariant.0 before so_far in
-          gone_on before _ _ _ _ _ _ _ _ c.pieces.count c.in_ok-more.more gone (omega (arith, c.if-more-eq0.false)) c.in_ok-more.ensures.piece
+          gone_on c.args.version before _ _ _ _ _ _ _ _ c.pieces.count c.in_ok-more.more gone (omega (arith, c.if-more-eq0.false)) c.in_ok-more.ensures.piece
           (c.in_default.ensures.judged gone.bytes gone.stands)
           (take-append-le c.in_ok-more.more c.read_piece.new.room _ count),
       first_of (grind (arith, common_steps), omega (arith, count, simp length-take at c.read_piece.auto.room, c.min-most.ensures, c.pieces-test.true)),

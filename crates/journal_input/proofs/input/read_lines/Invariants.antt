@@ -7,7 +7,7 @@ use Rattle.journal_input.proofs.input.read_lines.Given as goal
 
 abbrev pub invariant-pieces : goal.invariant-pieces
 invariant-pieces g l =
-    ((before : Told) → SoFar before (g.S.Outside.told l.fn.source) header → Gone before (g.S.Outside.told l.source) (g.K.Keeper.kept l.keeper) l.lines l.count)
+    ((before : Told) → SoFar before (g.S.Outside.told l.fn.source) (header l.fn.version) → Gone l.fn.version before (g.S.Outside.told l.source) (g.K.Keeper.kept l.keeper) l.lines l.count)
     × (l.count ≤ TEXT_LIMIT + 1)
     × (l.lines.number ≤ l.count + 2)
 

@@ -7,7 +7,7 @@ use Rattle.journal_input.proofs.LinesLemmas.{piece_comes, piece_goes, line_goes,
 use Rattle.journal_input.proofs.lines.judge_piece.Goals as goal
 
 pub ends-init : goal.ends-init
-ends-init g c = (λ bytes stands. piece_comes bytes c.args.piece.now (g.K.Keeper.kept c.args.keeper.now) c.args.lines.now stands, omega arith)
+ends-init g c = (λ bytes stands. piece_comes c.args.version bytes c.args.piece.now (g.K.Keeper.kept c.args.keeper.now) c.args.lines.now stands, omega arith)
 
 pub ends-preserved : goal.ends-preserved
 ends-preserved g c =
@@ -17,7 +17,7 @@ ends-preserved g c =
     let cut : parted 10 rest ≡ Some (end, left) = sym c.in-Some.ensures in
     let done = c.in_ok-judge_line.ensures in (
       λ bytes stands.
-          line_goes c.lines_are_read_in_turn.ensures.more (bytes ++ c.args.piece.now) (g.K.Keeper.kept c.ends.keeper) (g.K.Keeper.kept c.judge_line.new.keeper)
+          line_goes c.args.version (c.lines_are_read_in_turn.ensures.more c.args.version) (bytes ++ c.args.piece.now) (g.K.Keeper.kept c.ends.keeper) (g.K.Keeper.kept c.judge_line.new.keeper)
           c.ends.lines c.judge_line.new.lines rest end left (c.ends.invariant.0 bytes stands) cut done.ok done.alone done.next done.number,
       omega (arith, cut_shorter 10 rest end left cut, done.number, c.ends.invariant.1),
     )
@@ -32,12 +32,12 @@ pub returns-in_err-judge_line-clause-fault : goal.returns-in_err-judge_line-clau
 returns-in_err-judge_line-clause-fault g c =
     let why = c.in_err-judge_line.field-0.0 in
     let kept = g.K.Keeper.kept c.ends.keeper in
-    at_exit (λ f. (bytes : List ℕ) → Stands bytes (g.K.Keeper.kept c.args.keeper.now) c.args.lines.now [] → LinesFail f (bytes ++ c.args.piece.now))
+    at_exit (λ f. (bytes : List ℕ) → Stands c.args.version bytes (g.K.Keeper.kept c.args.keeper.now) c.args.lines.now [] → LinesFail c.args.version f (bytes ++ c.args.piece.now))
     c.from_residual.result why c.from_residual.ensures.1
-    (λ bytes stands. line_fails c.lines_are_read_in_turn.ensures.fault why (bytes ++ c.args.piece.now) kept c.ends.lines
+    (λ bytes stands. line_fails c.args.version (c.lines_are_read_in_turn.ensures.fault c.args.version) why (bytes ++ c.args.piece.now) kept c.ends.lines
     c.ends.rest.now c.in-Some.end.now c.in-Some.behind.now (c.ends.invariant.0 bytes stands) (sym c.in-Some.ensures) c.in_err-judge_line.ensures.fault)
 
 pub returns-clause-judged : goal.returns-clause-judged
 returns-clause-judged g c =
-    λ bytes stands. piece_goes (bytes ++ c.args.piece.now) (g.K.Keeper.kept c.ends.keeper) c.ends.lines c.begin.new.lines c.ends.rest.now
+    λ bytes stands. piece_goes c.args.version (bytes ++ c.args.piece.now) (g.K.Keeper.kept c.ends.keeper) c.ends.lines c.begin.new.lines c.ends.rest.now
     (c.ends.invariant.0 bytes stands) (sym c.in_default.ensures) c.in_ok-begin.ensures.begun c.begin.ensures.number

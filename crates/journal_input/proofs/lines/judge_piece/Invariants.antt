@@ -5,7 +5,7 @@ use Rattle.journal_input.proofs.lines.judge_piece.Given as goal
 -- the lines before the rest were judged, and each ended in the piece
 abbrev pub invariant-ends : goal.invariant-ends
 invariant-ends g l =
-    ((bytes : List ℕ) → Stands bytes (g.K.Keeper.kept l.fn.keeper) l.fn.lines [] → Stands (bytes ++ l.fn.piece) (g.K.Keeper.kept l.keeper) l.lines l.rest)
+    ((bytes : List ℕ) → Stands l.fn.version bytes (g.K.Keeper.kept l.fn.keeper) l.fn.lines [] → Stands l.fn.version (bytes ++ l.fn.piece) (g.K.Keeper.kept l.keeper) l.lines l.rest)
     × (l.lines.number + length l.rest ≤ l.fn.lines.number + length l.fn.piece)
 
 abbrev pub decreases-ends : goal.decreases-ends

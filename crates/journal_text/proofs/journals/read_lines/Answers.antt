@@ -8,15 +8,15 @@ pub returns-in_default-clause-refused : goal.returns-in_default-clause-refused
 returns-in_default-clause-refused g c =
     let kept = g.K.Keeper.kept c.loop-rest.keeper in
     let rest = c.loop-rest.rest.now in
-    (c.lines_are_read_in_turn.ensures.open c.args.text.now kept rest c.loop-rest.invariant.0 (some_rest rest (search rules)) (sym c.in_default.ensures)).1
+    (c.lines_are_read_in_turn.ensures.open c.args.version c.args.text.now kept rest c.loop-rest.invariant.0 (some_rest rest (search rules)) (sym c.in_default.ensures)).1
 
 pub returns-in_err-read_line-clause-refused : goal.returns-in_err-read_line-clause-refused
 returns-in_err-read_line-clause-refused g c =
     let kept = g.K.Keeper.kept c.loop-rest.keeper in
     let f = c.in_err-read_line.field-0.0 in
-    let fault = subst (λ (n : ℕ). IsLineFault f n kept c.in-Some.line.now) c.loop-rest.invariant.1 c.in_err-read_line.ensures.fault in
-    at_exit (λ f. IsRefused f c.args.text.now) c.from_residual.result f c.from_residual.ensures.1
-    (c.lines_are_read_in_turn.ensures.fault f c.args.text.now kept c.loop-rest.rest.now c.in-Some.line.now c.in-Some.behind.now c.loop-rest.invariant.0 (sym c.in-Some.ensures) fault).1
+    let fault = subst (λ (n : ℕ). IsLineFault c.args.version f n kept c.in-Some.line.now) c.loop-rest.invariant.1 c.in_err-read_line.ensures.fault in
+    at_exit (λ f. IsRefused c.args.version f c.args.text.now) c.from_residual.result f c.from_residual.ensures.1
+    (c.lines_are_read_in_turn.ensures.fault c.args.version f c.args.text.now kept c.loop-rest.rest.now c.in-Some.line.now c.in-Some.behind.now c.loop-rest.invariant.0 (sym c.in-Some.ensures) fault).1
 
 pub loop-rest-preserved : goal.loop-rest-preserved
 loop-rest-preserved g c =
@@ -31,7 +31,7 @@ loop-rest-preserved g c =
     let shorter : length rest ≡ length line + length (10 ∷ behind) = ap length (cut_is rest line behind cut) ∙ length-append line (10 ∷ behind) in
     let number = c.loop-rest.invariant.1 in
     let bound = c.loop-rest.invariant.2 in (
-      c.lines_are_read_in_turn.ensures.more c.args.text.now old new rest line behind c.loop-rest.invariant.0 cut follows c.in_ok-read_line.ensures.alone,
+      c.lines_are_read_in_turn.ensures.more c.args.version c.args.text.now old new rest line behind c.loop-rest.invariant.0 cut follows c.in_ok-read_line.ensures.alone,
       omega arith,
       omega arith,
     )
@@ -40,4 +40,4 @@ pub returns-clause-only : goal.returns-clause-only
 returns-clause-only g c =
     let kept = g.K.Keeper.kept c.loop-rest.keeper in
     let none : c.loop-rest.rest.now ≡ [] = no_rest c.loop-rest.rest.now (search rules) in
-    (c.lines_are_read_in_turn.ensures.end c.args.text.now kept (subst (λ (rest : List ℕ). Reads c.args.text.now kept rest) none c.loop-rest.invariant.0)).1
+    (c.lines_are_read_in_turn.ensures.end c.args.version c.args.text.now kept (subst (λ (rest : List ℕ). Reads c.args.version c.args.text.now kept rest) none c.loop-rest.invariant.0)).1

@@ -8,16 +8,16 @@ returns-clause-start c = nothing_read
 
 pub returns-clause-more : goal.returns-clause-more
 returns-clause-more c =
-    line_read (λ e is. c.texts_are_read_again.ensures.line (line_data e) (line_plain c.parts_are_read_again.ensures.tags c.parts_are_read_again.ensures.change e is))
+    λ version. line_read (λ e is. c.texts_are_read_again.ensures.line (line_data e) (line_plain c.parts_are_read_again.ensures.tags c.parts_are_read_again.ensures.change e is)) version
 
 pub returns-clause-end : goal.returns-clause-end
 returns-clause-end c =
-    all_read (λ e is. c.texts_are_read_again.ensures.line (line_data e) (line_plain c.parts_are_read_again.ensures.tags c.parts_are_read_again.ensures.change e is))
+    λ version. all_read (λ e is. c.texts_are_read_again.ensures.line (line_data e) (line_plain c.parts_are_read_again.ensures.tags c.parts_are_read_again.ensures.change e is)) version
 
 pub returns-clause-open : goal.returns-clause-open
 returns-clause-open c =
-    left_open (λ e is. c.texts_are_read_again.ensures.line (line_data e) (line_plain c.parts_are_read_again.ensures.tags c.parts_are_read_again.ensures.change e is))
+    λ version. left_open (λ e is. c.texts_are_read_again.ensures.line (line_data e) (line_plain c.parts_are_read_again.ensures.tags c.parts_are_read_again.ensures.change e is)) version
 
 pub returns-clause-fault : goal.returns-clause-fault
 returns-clause-fault c =
-    stopped (λ e is. c.texts_are_read_again.ensures.line (line_data e) (line_plain c.parts_are_read_again.ensures.tags c.parts_are_read_again.ensures.change e is))
+    λ version. stopped (λ e is. c.texts_are_read_again.ensures.line (line_data e) (line_plain c.parts_are_read_again.ensures.tags c.parts_are_read_again.ensures.change e is)) version

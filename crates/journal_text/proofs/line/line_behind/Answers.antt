@@ -18,6 +18,7 @@ returns-clause-typed c =
       call = typed.call;
       stamp = typed.stamp;
       user = typed.user;
+      limit = typed.limit;
       command = typed.command;
       texts = utf8_behind c.new-out.result c.entry.new.out (line_data c.args.of.now) c.new-out.ensures.tokens c.in_ok-entry.ensures c.into_inner.ensures.utf8;
     }

@@ -1,6 +1,8 @@
 use Rattle.journal_text.specs.Line.{command}
 use Rattle.journal_text.proofs.write.command.Goals as goal
 
-pub returns-in-CreateChangeset : goal.returns-in-CreateChangeset
+pub returns-in-Single : goal.returns-in-Single
 unfolding command
-returns-in-CreateChangeset c = rw c.in-CreateChangeset.is c.with_tags.ensures
+returns-in-Single c =
+    let written = rw c.change.ensures.value at c.with_change-in-Single.ensures in
+    rw c.in-Single.is written
