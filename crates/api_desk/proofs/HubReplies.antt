@@ -7,7 +7,7 @@ use Rattle.osm_model.specs.Answered.{Request, Place}
 use Rattle.osm_model.specs.declared.commands.Entry.{Entry}
 use Rattle.http_wire.specs.declared.message.Message.{Message}
 use Rattle.http_link.specs.declared.desk.Reply.{Reply}
-use Rattle.user_table.specs.Rows.{Row}
+use Rattle.user_table.specs.Users.{Users}
 use Rattle.snapshot_hub.specs.Known.{Known}
 use Rattle.hub_answers.specs.Steps.{place_at, Answers as AnswersBy}
 use Rattle.api_desk.specs.Answers.{reply_of, Answers}
@@ -19,7 +19,7 @@ use Rattle.api_desk.proofs.Fronts.{prefix_self}
 use Rattle.api_desk.proofs.MachineRows.{row_of}
 use Rattle.api_desk.proofs.ReplyBytes.{bytes_long, read_back, read_status}
 
-pub replied : (users : List Row) (old new : Known Entry) (message : Message) (moment : ℕ) (bytes : Option (List ℕ)) (reply : Reply)
+pub replied : (users : Users) (old new : Known Entry) (message : Message) (moment : ℕ) (bytes : Option (List ℕ)) (reply : Reply)
     → AnswersBy map_rules old (asked_of (request_of users message)) moment bytes new → TellsBytes bytes reply
     → Replies users old message moment reply new
 replied users old new message moment bytes reply answers tells = record {
@@ -32,7 +32,7 @@ replied users old new message moment bytes reply answers tells = record {
 }
 
 -- who stays where it stands, wherever that is
-pub stays_replied : (users : List Row) (it : Known Entry) (message : Message) (moment : ℕ) (reply : Reply)
+pub stays_replied : (users : Users) (it : Known Entry) (message : Message) (moment : ℕ) (reply : Reply)
     → ((place : Place) → Answers users it.number it.front place message moment reply place) → Replies users it message moment reply it
 stays_replied users it message moment reply stays = record {
   number = refl;
@@ -68,7 +68,7 @@ pub tells_nothing : TellsBytes None (reply_of None)
 tells_nothing None is = refl
 tells_nothing (Some answer) is = absurd cc
 
-pub request_replied : (users : List Row) (old new : Known Entry) (message : Message) (request : Request) (moment : ℕ) (bytes : Option (List ℕ)) (reply : Reply)
+pub request_replied : (users : Users) (old new : Known Entry) (message : Message) (request : Request) (moment : ℕ) (bytes : Option (List ℕ)) (reply : Reply)
     → request_of users message ≡ request → AnswersBy map_rules old (asked_of request) moment bytes new → TellsBytes bytes reply → Replies users old message moment reply new
 request_replied users old new message request moment bytes reply is answers tells =
     replied users old new message moment bytes reply (subst (λ (r : Request). AnswersBy map_rules old (asked_of r) moment bytes new) (sym is) answers) tells

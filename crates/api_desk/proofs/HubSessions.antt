@@ -5,7 +5,7 @@ use Rattle.osm_change.specs.declared.answers.Answer.{Answer}
 use Rattle.osm_model.specs.Answered.{Request, refused, does, reads, Place, SessionRow, IsRow, IsAnswered}
 use Rattle.osm_model.specs.declared.commands.Entry.{Entry}
 use Rattle.http_link.specs.Exchange.{Exchange, Chain}
-use Rattle.user_table.specs.Rows.{Row}
+use Rattle.user_table.specs.Users.{Users}
 use Rattle.snapshot_hub.specs.Known.{Known}
 use Rattle.api_desk.specs.Request.{request_of}
 use Rattle.api_desk.specs.Answers.{AllTell, AreAnswered}
@@ -71,7 +71,7 @@ one_more old mid new e es point le allowed more =
     let step = allowed.replies.answers point le in
     let told = step.2 in
     let rest = more step.0 step.1 in
-    let served : HasServed old.users mid.known step.0 es new.known = subst (λ (u : List Row). HasServed u mid.known step.0 es new.known) allowed.users rest.1 in
+    let served : HasServed old.users mid.known step.0 es new.known = subst (λ (u : Users). HasServed u mid.known step.0 es new.known) allowed.users rest.1 in
     let then_on : AreAnswered old.users old.known.number new.known.front (stands_at mid.known step.0) es (stands_at new.known served.last) =
     subst (λ (n : ℕ). AreAnswered old.users n new.known.front (stands_at mid.known step.0) es (stands_at new.known served.last)) allowed.replies.number served.answered in
     let row : IsRow new.known.front old.known.number (stands_at old.known point) (request_of old.users e.message) e.moment told.answer (stands_at mid.known step.0) =
@@ -99,13 +99,13 @@ exchanges_served old new (e ∷ es) point le chain =
 
 -- ---- links
 
-tell-append : (users : List Row) (xs ys : List Exchange) (first second : List SessionRow) → AllTell users xs first → AllTell users ys second → AllTell users (xs ++ ys) (first ++ second)
+tell-append : (users : Users) (xs ys : List Exchange) (first second : List SessionRow) → AllTell users xs first → AllTell users ys second → AllTell users (xs ++ ys) (first ++ second)
 tell-append users [] ys [] second h k = k
 tell-append users [] ys (a ∷ first) second h k = absurd h
 tell-append users (x ∷ xs) ys [] second h k = absurd h
 tell-append users (x ∷ xs) ys (a ∷ first) second h k = (h.0, tell-append users xs ys first second h.1 k)
 
-pub links_served : (users : List Row) (old mid new : Known Entry) (point : ℕ) (first second : List Exchange)
+pub links_served : (users : Users) (old mid new : Known Entry) (point : ℕ) (first second : List Exchange)
     → (served : HasServed users old point first mid) → HasServed users mid served.last second new → HasServed users old point (first ++ second) new
 links_served users old mid new point first second served more =
     let longer : IsAnswered new.front old.number (stands_at old point) served.answered.asked (stands_at mid served.last) =
@@ -126,7 +126,7 @@ links_served users old mid new point first second served more =
 
 -- ---- a longer front
 
-pub served_longer : (users : List Row) (old new : Known Entry) (point : ℕ) (exchanges : List Exchange) (front : List Entry)
+pub served_longer : (users : Users) (old new : Known Entry) (point : ℕ) (exchanges : List Exchange) (front : List Entry)
     → (served : HasServed users old point exchanges new) → IsPrefix new.front front
     → AreAnswered users old.number front (stands_at old point) exchanges (stands_at new served.last)
 served_longer users old new point exchanges front served longer = record {

@@ -7,7 +7,7 @@ use Rattle.osm_model.specs.declared.queries.Query.{Query}
 use Rattle.osm_change.specs.declared.refusals.Refusal.{Refusal}
 use Rattle.hub_core.specs.declared.events.Event.{Event}
 use Rattle.http_wire.specs.declared.message.Message.{Message}
-use Rattle.user_table.specs.Rows.{Row}
+use Rattle.user_table.specs.Users.{Users}
 use Rattle.workload.specs.declared.sent.Sent.{Sent}
 use Rattle.workload.specs.Request.{requests}
 use Rattle.api_desk.specs.Request.{request_of}
@@ -19,19 +19,19 @@ use Rattle.whole_messages.specs.Messages.{BeginsAs}
 use Rattle.workload.specs.Users.{AreUsersOf}
 
 -- Whatever commands the rest asks for, the load asks for some whose events are those so far and theirs.
-abbrev pub Goes : List Row → List Sent → List Sent → List (Event Asked Query) → Type 0
+abbrev pub Goes : Users → List Sent → List Sent → List (Event Asked Query) → Type 0
 Goes users load rest events =
     (later : List Asked) → AreAsked users rest later
     → (all : List Asked) × AreAsked users load all × (events_of load all ≡ events ++ events_of rest later)
 
 -- the events so far, where that rest of the load is left
-pub record IsUnderway (users : List Row) (load rest : List Sent) (events : List (Event Asked Query)) : Type 0 where
+pub record IsUnderway (users : Users) (load rest : List Sent) (events : List (Event Asked Query)) : Type 0 where
   pub before : List Sent
   pub load_is : load ≡ before ++ rest
   pub goes : Goes users load rest events
 
 -- all of the load is left
-pub begun : (users : List Row) (load : List Sent) (events : List (Event Asked Query)) → events ≡ [] → IsUnderway users load load events
+pub begun : (users : Users) (load : List Sent) (events : List (Event Asked Query)) → events ≡ [] → IsUnderway users load load events
 begun users load events none = record {
   before = [];
   load_is = refl;
@@ -39,7 +39,7 @@ begun users load events none = record {
 }
 
 -- one request more
-pub one_more : (users : List Row) (load rest : List Sent) (events longer : List (Event Asked Query)) (sent : Sent) (more : List Sent) (asked : Asked)
+pub one_more : (users : Users) (load rest : List Sent) (events longer : List (Event Asked Query)) (sent : Sent) (more : List Sent) (asked : Asked)
     → rest ≡ sent ∷ more → IsAsked users sent.bytes asked → longer ≡ events ++ events_by sent.session asked
     → IsUnderway users load rest events → IsUnderway users load more longer
 one_more users load rest events longer sent more asked is one added at = record {
@@ -57,7 +57,7 @@ one_more users load rest events longer sent more asked is one added at = record 
 }
 
 -- nothing is left
-pub all_added : (users : List Row) (load rest : List Sent) (events : List (Event Asked Query)) → rest ≡ []
+pub all_added : (users : Users) (load rest : List Sent) (events : List (Event Asked Query)) → rest ≡ []
     → IsUnderway users load rest events → AreEventsOf users load events
 all_added users load rest events is at =
     let none : AreAsked users rest [] = rw is tt in
@@ -70,7 +70,7 @@ all_added users load rest events is at =
     }
 
 -- the next request asks for no command
-pub failed : (users : List Row) (load rest : List Sent) (events : List (Event Asked Query)) (sent : Sent) (more : List Sent) (fault : LoadFault)
+pub failed : (users : Users) (load rest : List Sent) (events : List (Event Asked Query)) (sent : Sent) (more : List Sent) (fault : LoadFault)
     → rest ≡ sent ∷ more → GivesCommand users sent.bytes (Err fault) → IsUnderway users load rest events → FailsBy users load fault
 failed users load rest events sent more Memory is gives at = tt
 failed users load rest events sent more NoCommand is gives at = record {
@@ -82,7 +82,7 @@ failed users load rest events sent more NoCommand is gives at = record {
 }
 
 -- the load is that of a seed
-pub of_seed : {A : Type 0} → (items : A → List (Event Asked Query)) (seed sessions uploads : ℕ) (users : List Row) (load : List Sent) (made : Result A LoadFault)
+pub of_seed : {A : Type 0} → (items : A → List (Event Asked Query)) (seed sessions uploads : ℕ) (users : Users) (load : List Sent) (made : Result A LoadFault)
     → AreUsersOf sessions users → load ≡ requests seed sessions uploads
     → MatchResult made (λ a. AreEventsOf users load (items a)) (FailsBy users load)
     → MatchResult made (λ a. AreEvents seed sessions uploads (items a)) (FailsAt seed sessions uploads)
@@ -105,7 +105,7 @@ pub no_work_refused : (request : Request) (refusal : Refusal) → request ≡ re
 no_work_refused request refusal is = rw is tt
 
 -- what the message of the bytes asks for is what the bytes ask for
-pub of_message : (users : List Row) (bytes : List ℕ) (message : Message) (made : Result Asked LoadFault) → BeginsAs bytes (Some message)
+pub of_message : (users : Users) (bytes : List ℕ) (message : Message) (made : Result Asked LoadFault) → BeginsAs bytes (Some message)
     → GivesWork (request_of users message) made → GivesCommand users bytes made
 of_message users bytes message (Ok asked) begins work = record { message = message; rest = begins.0; begins = begins.1; does_it = work }
 of_message users bytes message (Err Memory) begins work = tt

@@ -15,7 +15,7 @@ use Rattle.osm_model.specs.declared.queries.Query.{Query}
 use Rattle.http_wire.specs.declared.message.Message.{Message}
 use Rattle.http_link.specs.declared.desk.Reply.{Reply}
 use Rattle.http_link.specs.Desk.{counted_reply}
-use Rattle.user_table.specs.Rows.{Row}
+use Rattle.user_table.specs.Users.{Users}
 use Rattle.api_desk.specs.Request.{request_of}
 use Rattle.api_desk.specs.Answers.{Answers, AnswersAlone, reply_of}
 use Rattle.api_desk.proofs.Rows.{row_of_act, row_of_ask, calls_of-next}
@@ -28,11 +28,11 @@ lacking F s p (reads q) m = inr (record { told = refl; stays = refl })
 
 -- what is refused by itself, and want of memory, leave a session where it stands
 
-pub memory_stays : (users : List Row) (s : ℕ) (F : List Entry) (p : Place) (message : Message) (moment : ℕ) → Answers users s F p message moment (reply_of None) p
+pub memory_stays : (users : Users) (s : ℕ) (F : List Entry) (p : Place) (message : Message) (moment : ℕ) → Answers users s F p message moment (reply_of None) p
 memory_stays users s F p message moment = record { answer = None; row = lacking F s p (request_of users message) moment; text = refl }
 
 pub refusal_stays :
-    (users : List Row) (s : ℕ) (F : List Entry) (p : Place) (message : Message) (moment : ℕ) (r : Refusal) (result : Result Reply Memory)
+    (users : Users) (s : ℕ) (F : List Entry) (p : Place) (message : Message) (moment : ℕ) (r : Refusal) (result : Result Reply Memory)
     → request_of users message ≡ refused r
     → IfOk result (λ reply. reply ≡ reply_of (Some (Refused r)))
     → Answers users s F p message moment (counted_reply result) p
@@ -63,7 +63,7 @@ appended_grows es e (Err r) = grows_by_nothing e.session es
 
 -- who stays where it stands, on all of a journal that stays
 pub stays_alone :
-    (users : List Row) (s : ℕ) (es : List Entry) (message : Message) (moment : ℕ) (reply : Reply)
+    (users : Users) (s : ℕ) (es : List Entry) (message : Message) (moment : ℕ) (reply : Reply)
     → Answers users s es (all_of s es) message moment reply (all_of s es)
     → AnswersAlone users s es es message moment reply
 stays_alone users s es message moment reply answers = record {
@@ -75,7 +75,7 @@ stays_alone users s es message moment reply answers = record {
 
 -- want of memory leaves the journal
 memory_answers :
-    (users : List Row) (s : ℕ) (old new : List Entry) (message : Message) (moment : ℕ)
+    (users : Users) (s : ℕ) (old new : List Entry) (message : Message) (moment : ℕ)
     → new ≡ old
     → AnswersAlone users s old new message moment (reply_of None)
 memory_answers users s old new message moment same =
@@ -86,7 +86,7 @@ memory_answers users s old new message moment same =
 
 -- a command
 pub change_answers :
-    (users : List Row) (s : ℕ) (old new : List Entry) (message : Message) (moment : ℕ) (user : User) (c : Command)
+    (users : Users) (s : ℕ) (old new : List Entry) (message : Message) (moment : ℕ) (user : User) (c : Command)
     (result : Result Reply Memory)
     → request_of users message ≡ does user c
     → IfOk result (λ reply. reply ≡ reply_of (Some (act (replay old) user moment c).1))
@@ -115,7 +115,7 @@ change_answers users s old new message moment user c (Err memory) asks text afte
 
 -- a query
 pub query_answers :
-    (users : List Row) (s : ℕ) (es : List Entry) (message : Message) (moment : ℕ) (q : Query) (result : Result Reply Memory)
+    (users : Users) (s : ℕ) (es : List Entry) (message : Message) (moment : ℕ) (q : Query) (result : Result Reply Memory)
     → request_of users message ≡ reads q
     → IfOk result (λ reply. reply ≡ reply_of (Some (ask (replay es) moment q)))
     → AnswersAlone users s es es message moment (counted_reply result)

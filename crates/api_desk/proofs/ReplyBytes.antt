@@ -41,6 +41,7 @@ refusal_listed (refusals.NoChangeset id) = refl
 refusal_listed (refusals.NotOwner changeset owner) = refl
 refusal_listed (refusals.Closed changeset closed_at) = refl
 refusal_listed (refusals.Full applied changeset count limit) = refl
+refusal_listed (refusals.BoxTooLarge area changeset limit) = refl
 refusal_listed (refusals.NoElement id op k) = refl
 refusal_listed (refusals.NoSuchVersion id k version) = refl
 refusal_listed (refusals.WrongVersion found id op provided k) = refl

@@ -4,7 +4,7 @@ use Rattle.osm_model.specs.declared.commands.Entry.{Entry}
 use Rattle.osm_model.specs.Journal.{calls_of}
 use Rattle.osm_model.specs.Answered.{all_of, IsRow}
 use Rattle.http_link.specs.Exchange.{Exchange, Chain}
-use Rattle.user_table.specs.Rows.{Row}
+use Rattle.user_table.specs.Users.{Users}
 use Rattle.api_desk.specs.declared.desk.OneDesk.{OneDesk}
 use Rattle.api_desk.specs.Request.{request_of}
 use Rattle.api_desk.specs.Answers.{AreAnswered}
@@ -40,7 +40,7 @@ one_more old mid new e es allowed rest =
     in
     let later : AreAnswered (users_of old) (session_of mid) (entries_of new) (all_of (session_of mid) (entries_of mid)) es (all_of (session_of mid) (entries_of new)) =
     subst
-    (λ (users : List Row). AreAnswered users (session_of mid) (entries_of new) (all_of (session_of mid) (entries_of mid)) es (all_of (session_of mid) (entries_of new)))
+    (λ (users : Users). AreAnswered users (session_of mid) (entries_of new) (all_of (session_of mid) (entries_of mid)) es (all_of (session_of mid) (entries_of new)))
     allowed.users
     rest.answered
     in

@@ -51,7 +51,7 @@ change_in action kind id body = do
 
 -- a creation's id isn't read
 abbrev pub command_of : Edit → List ℕ → Result Command Refusal
-command_of edit.CreateChangeset body = tags_in false body >>= λ tags. Ok (command.CreateChangeset tags)
+command_of (edit.CreateChangeset large_from) body = tags_in false body >>= λ tags. Ok (command.CreateChangeset tags large_from)
 command_of (edit.Retag id) body = tags_in true body >>= λ tags. Ok (command.Retag id tags)
 command_of (edit.CloseChangeset id) body = Ok (command.CloseChangeset id)
 command_of (edit.Upload id) body = upload_in id body >>= λ ops. Ok (command.Upload id ops)

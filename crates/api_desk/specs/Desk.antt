@@ -6,7 +6,7 @@ use Rattle.osm_model.specs.declared.commands.Entry.{Entry}
 use Rattle.osm_model.specs.Journal.{IsLegal, calls_of}
 use Rattle.http_wire.specs.declared.message.Message.{Message}
 use Rattle.http_link.specs.declared.desk.Reply.{Reply}
-use Rattle.user_table.specs.Rows.{Row}
+use Rattle.user_table.specs.Users.{Users}
 use Rattle.api_desk.specs.declared.desk.OneDesk.{OneDesk}
 use Rattle.api_desk.specs.Answers.{AnswersAlone, AreAnswered}
 
@@ -15,7 +15,7 @@ abbrev pub entries_of : OneDesk → List Entry
 entries_of desk = desk.book.now
 
 -- the users whom it knows
-abbrev pub users_of : OneDesk → List Row
+abbrev pub users_of : OneDesk → Users
 users_of desk = desk.users.now
 
 abbrev pub session_of : OneDesk → ℕ

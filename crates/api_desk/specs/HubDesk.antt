@@ -7,7 +7,7 @@ use Rattle.osm_model.specs.declared.commands.Entry.{Entry}
 use Rattle.http_wire.specs.declared.message.Message.{Message}
 use Rattle.http_link.specs.declared.desk.Reply.{Reply}
 use Rattle.http_link.specs.Exchange.{Exchange}
-use Rattle.user_table.specs.Rows.{Row}
+use Rattle.user_table.specs.Users.{Users}
 use Rattle.snapshot_hub.specs.Known.{Known, caught_up}
 use Rattle.api_desk.specs.Answers.{Answers, AreAnswered}
 
@@ -17,7 +17,7 @@ stands_at it point = record { point = point; calls = it.calls; debts = it.debts 
 
 -- One message was answered: wherever in its old front the session was last answered, this is a row of "answered" on its new front,
 -- at a point of it that is no earlier. Nothing of the old front is lost.
-pub record Replies (users : List Row) (old : Known Entry) (message : Message) (moment : ℕ) (reply : Reply) (new : Known Entry) : Type 0 where
+pub record Replies (users : Users) (old : Known Entry) (message : Message) (moment : ℕ) (reply : Reply) (new : Known Entry) : Type 0 where
   pub number : new.number ≡ old.number
   pub begins : IsPrefix old.front new.front
   pub answers : (point : ℕ) → point ≤ length old.front
@@ -25,7 +25,7 @@ pub record Replies (users : List Row) (old : Known Entry) (message : Message) (m
 
 -- what a desk works with: the users, and what its session knows
 pub record AtDesk : Type 0 where
-  pub users : List Row
+  pub users : Users
   pub known : Known Entry
 
 -- What the desk may answer, from what it was to what it is then.
@@ -34,7 +34,7 @@ pub record Allows (old : AtDesk) (message : Message) (moment : ℕ) (reply : Rep
   pub replies : Replies old.users old.known message moment reply new.known
 
 -- All exchanges are answered on the front that the session has then.
-pub record HasServed (users : List Row) (old : Known Entry) (point : ℕ) (exchanges : List Exchange) (new : Known Entry) : Type 0 where
+pub record HasServed (users : Users) (old : Known Entry) (point : ℕ) (exchanges : List Exchange) (new : Known Entry) : Type 0 where
   pub number : new.number ≡ old.number
   pub begins : IsPrefix old.front new.front
   pub last : ℕ

@@ -6,7 +6,7 @@ use Rattle.hub_core.specs.declared.events.Event.{Event}
 use Rattle.hub_core.specs.declared.events.Event.TheVariants.{Plan, Commit, Publish}
 use Rattle.http_wire.specs.declared.message.Message.{Message}
 use Rattle.http_wire.specs.Message.{BeginsWith}
-use Rattle.user_table.specs.Rows.{Row}
+use Rattle.user_table.specs.Users.{Users}
 use Rattle.whole_messages.specs.Messages.{HasNoMessage}
 use Rattle.workload.specs.declared.sent.Sent.{Sent}
 use Rattle.workload.specs.Request.{requests}
@@ -19,7 +19,7 @@ use Rattle.api_desk.specs.declared.requests.Asked.{Asked}
 -- ---- the command of one request
 
 -- The bytes begin with a message that asks for the command, by these users.
-pub record IsAsked (users : List Row) (bytes : List ℕ) (asked : Asked) : Type 0 where
+pub record IsAsked (users : Users) (bytes : List ℕ) (asked : Asked) : Type 0 where
   pub message : Message
   pub rest : List ℕ
   pub begins : BeginsWith bytes message rest
@@ -32,20 +32,20 @@ IsNoWork (does user c) = ⊥
 IsNoWork (reads q) = ⊤
 
 -- The bytes begin with a message that asks for no command.
-pub record AsksNoWork (users : List Row) (bytes : List ℕ) : Type 0 where
+pub record AsksNoWork (users : Users) (bytes : List ℕ) : Type 0 where
   pub message : Message
   pub rest : List ℕ
   pub begins : BeginsWith bytes message rest
   pub no_work : IsNoWork (request_of users message)
 
 -- The bytes ask for no command.
-abbrev pub HasNoCommand : List Row → List ℕ → Type 0
+abbrev pub HasNoCommand : Users → List ℕ → Type 0
 HasNoCommand users bytes = HasNoMessage bytes ⊎ AsksNoWork users bytes
 
 -- ---- the commands of a load
 
 -- Each request asks for its command.
-abbrev pub AreAsked : List Row → List Sent → List Asked → Type 0
+abbrev pub AreAsked : Users → List Sent → List Asked → Type 0
 AreAsked users [] [] = ⊤
 AreAsked users (sent ∷ more) (asked ∷ rest) = IsAsked users sent.bytes asked × AreAsked users more rest
 AreAsked users [] (asked ∷ rest) = ⊥
@@ -66,13 +66,13 @@ events_of (sent ∷ more) [] = []
 events_of (sent ∷ more) (asked ∷ rest) = events_by sent.session asked ++ events_of more rest
 
 -- The events are those of the requests, each with the command that it asks for.
-pub record AreEventsOf (users : List Row) (load : List Sent) (events : List (Event Asked Query)) : Type 0 where
+pub record AreEventsOf (users : Users) (load : List Sent) (events : List (Event Asked Query)) : Type 0 where
   pub asked : List Asked
   pub are : AreAsked users load asked
   pub events_are : events ≡ events_of load asked
 
 -- Some request asks for no command.
-pub record LacksCommand (users : List Row) (load : List Sent) : Type 0 where
+pub record LacksCommand (users : Users) (load : List Sent) : Type 0 where
   pub before : List Sent
   pub sent : Sent
   pub behind : List Sent
@@ -80,14 +80,14 @@ pub record LacksCommand (users : List Row) (load : List Sent) : Type 0 where
   pub no_command : HasNoCommand users sent.bytes
 
 -- why there are no events of these requests. Memory may run out at any time
-abbrev pub FailsBy : List Row → List Sent → LoadFault → Type 0
+abbrev pub FailsBy : Users → List Sent → LoadFault → Type 0
 FailsBy users load Memory = ⊤
 FailsBy users load NoCommand = LacksCommand users load
 
 -- ---- for private clauses
 
 -- what was read of the bytes
-abbrev pub GivesCommand : List Row → List ℕ → Result Asked LoadFault → Type 0
+abbrev pub GivesCommand : Users → List ℕ → Result Asked LoadFault → Type 0
 GivesCommand users bytes (Ok asked) = IsAsked users bytes asked
 GivesCommand users bytes (Err Memory) = ⊤
 GivesCommand users bytes (Err NoCommand) = HasNoCommand users bytes
@@ -102,13 +102,13 @@ GivesWork request (Err NoCommand) = IsNoWork request
 
 -- The events are those of the load of a seed, by the users of the load.
 pub record AreEvents (seed sessions uploads : ℕ) (events : List (Event Asked Query)) : Type 0 where
-  pub users : List Row
+  pub users : Users
   pub table : AreUsersOf sessions users
   pub of_load : AreEventsOf users (requests seed sessions uploads) events
 
 -- The load of a seed has a request that asks for no command.
 pub record HasNoEvents (seed sessions uploads : ℕ) : Type 0 where
-  pub users : List Row
+  pub users : Users
   pub table : AreUsersOf sessions users
   pub lacks : LacksCommand users (requests seed sessions uploads)
 

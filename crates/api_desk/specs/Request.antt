@@ -12,6 +12,7 @@ use Rattle.route_table.specs.declared.calls.Call.{Call}
 use Rattle.user_table.specs.declared.tables.Who.{Who}
 use Rattle.user_table.specs.declared.tables.Who.TheVariants.{Anonymous, Known, Unknown}
 use Rattle.user_table.specs.Rows.{Row}
+use Rattle.user_table.specs.Users.{Users}
 use Rattle.user_table.specs.Who.{who_of}
 use Rattle.api_desk.specs.declared.tasks.Edit.{Edit}
 use Rattle.api_desk.specs.declared.tasks.Task.{Task}
@@ -25,16 +26,16 @@ use Rattle.api_desk.specs.Tasks.{task_of}
 
 -- the user at a place of the table
 abbrev pub user_at : List Row → ℕ → Result (Option User) Refusal
-user_at users place = option_map_or (λ user. Ok (Some user)) (slice_get (map (λ row. row.user) users) place) (Err NoUser)
+user_at rows place = option_map_or (λ user. Ok (Some user)) (slice_get (map (λ row. row.user) rows) place) (Err NoUser)
 
 -- nobody who says who it is, or a user of the table; another is refused
 abbrev pub caller_in : List Row → Who → Result (Option User) Refusal
-caller_in users Anonymous = Ok None
-caller_in users (Known place) = user_at users place
-caller_in users Unknown = Err NoUser
+caller_in rows Anonymous = Ok None
+caller_in rows (Known place) = user_at rows place
+caller_in rows Unknown = Err NoUser
 
-abbrev pub caller_of : List Row → Message → Result (Option User) Refusal
-caller_of users m = caller_in users (who_of users m.authorization)
+abbrev pub caller_of : Users → Message → Result (Option User) Refusal
+caller_of users m = caller_in users.rows (who_of users.rows m.authorization)
 
 -- a caller who says who it is
 abbrev pub known_user : Option User → Result User Refusal
@@ -62,16 +63,16 @@ abbrev pub call_in : Message → Result Call Refusal
 call_in m = or_refused of_route (call_of m.method m.target)
 
 -- the request line is looked at first, then whether the body is XML, then the caller, and the body at last
-unfoldable pub asked : List Row → Message → Result Request Refusal
+unfoldable pub asked : Users → Message → Result Request Refusal
 asked users m = do
   call ← call_in m
   no_xml ← refuse_if (is_xml m) Xml
   caller ← caller_of users m
-  asked_by caller m.body (task_of (is_moderator caller) call)
+  asked_by caller m.body (task_of (is_moderator caller) users.large_from call)
 
 abbrev pub told : Result Request Refusal → Request
 told (Ok request) = request
 told (Err r) = refused r
 
-abbrev pub request_of : List Row → Message → Request
+abbrev pub request_of : Users → Message → Request
 request_of users m = told (asked users m)

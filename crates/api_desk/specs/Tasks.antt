@@ -15,28 +15,29 @@ abbrev pub mark : Key → ℕ → Option ℕ → Task
 mark key version (Some redaction) = Moderate (edit.Redact key version redaction)
 mark key version None = Moderate (edit.Unredact key version)
 
--- what a call comes to; what is redacted is shown where it is asked for by a caller who may see it
-abbrev pub task_of : Bool → Call → Task
-task_of sees call.CreateChangeset = Change edit.CreateChangeset
-task_of sees (call.Retag id) = Change (edit.Retag id)
-task_of sees (call.CloseChangeset id) = Change (edit.CloseChangeset id)
-task_of sees (call.Upload id) = Change (edit.Upload id)
-task_of sees (call.CreateSingle kind) = Change (edit.CreateSingle kind)
-task_of sees (call.ModifySingle key) = Change (edit.ModifySingle key)
-task_of sees (call.DeleteSingle key) = Change (edit.DeleteSingle key)
-task_of sees call.MakeRedaction = Moderate edit.MakeRedaction
-task_of sees (call.Redact key version redaction) = mark key version redaction
-task_of sees (call.Changeset id) = Read (query.Changeset id)
-task_of sees (call.Changesets user only_open only_closed within) = Read (query.Changesets user only_open only_closed within)
-task_of sees (call.Download id) = Read (query.Download id)
-task_of sees (call.Map within) = Read (query.Map within)
-task_of sees (call.One key) = Read (query.One key)
-task_of sees (call.Numbered key version show) = Read (query.Numbered key version (show && sees))
-task_of sees (call.History key show) = Read (query.History key (show && sees))
-task_of sees (call.Many kind ids) = Read (query.Many kind ids)
-task_of sees (call.Full key) = Read (query.Full key)
-task_of sees (call.WaysOf id) = Read (query.WaysOf id)
-task_of sees (call.RelationsOf key) = Read (query.RelationsOf key)
+-- what a call comes to; what is redacted is shown where it is asked for by a caller who may see it, and a changeset
+-- is created with the moment from which new ones may grow large
+abbrev pub task_of : Bool → Option ℕ → Call → Task
+task_of sees large_from call.CreateChangeset = Change (edit.CreateChangeset large_from)
+task_of sees large_from (call.Retag id) = Change (edit.Retag id)
+task_of sees large_from (call.CloseChangeset id) = Change (edit.CloseChangeset id)
+task_of sees large_from (call.Upload id) = Change (edit.Upload id)
+task_of sees large_from (call.CreateSingle kind) = Change (edit.CreateSingle kind)
+task_of sees large_from (call.ModifySingle key) = Change (edit.ModifySingle key)
+task_of sees large_from (call.DeleteSingle key) = Change (edit.DeleteSingle key)
+task_of sees large_from call.MakeRedaction = Moderate edit.MakeRedaction
+task_of sees large_from (call.Redact key version redaction) = mark key version redaction
+task_of sees large_from (call.Changeset id) = Read (query.Changeset id)
+task_of sees large_from (call.Changesets user only_open only_closed within) = Read (query.Changesets user only_open only_closed within)
+task_of sees large_from (call.Download id) = Read (query.Download id)
+task_of sees large_from (call.Map within) = Read (query.Map within)
+task_of sees large_from (call.One key) = Read (query.One key)
+task_of sees large_from (call.Numbered key version show) = Read (query.Numbered key version (show && sees))
+task_of sees large_from (call.History key show) = Read (query.History key (show && sees))
+task_of sees large_from (call.Many kind ids) = Read (query.Many kind ids)
+task_of sees large_from (call.Full key) = Read (query.Full key)
+task_of sees large_from (call.WaysOf id) = Read (query.WaysOf id)
+task_of sees large_from (call.RelationsOf key) = Read (query.RelationsOf key)
 
 -- ---- for private clauses
 

@@ -6,7 +6,7 @@ ghost use Rattle.osm_model.specs.Answered.{Place};
 ghost use Rattle.osm_model.specs.declared.commands.Entry.{Entry};
 ghost use Rattle.http_link.specs.Desk.{counted_reply};
 ghost use Rattle.http_wire.specs.declared.message.Message.{Message};
-ghost use Rattle.user_table.specs.Rows.{Row};
+ghost use Rattle.user_table.specs.Users.{Users};
 ghost use Rattle.api_desk.specs.Answers.{reply_of, Answers};
 ghost use Rattle.api_desk.specs.Gives.{GivesRequest, HasShownFault};
 ghost use Rattle.api_desk.specs.Machine.{bytes_of};
@@ -68,7 +68,7 @@ pub(crate) fn reply_to(alloc: Global, answer: &Answer<'_>) -> Result<Reply, Memo
 /// Tells why a message is no request. Whatever the session stands at, it stays there.
 pub(crate) fn refuse(alloc: Global, fault: RequestFault) -> Result<Reply, Memory>
     requires { HasShownFault fault }
-    ensures answers { (users : List Row) (session : ℕ) (F : List Entry) (place : Place) (message : Message) (moment : ℕ)
+    ensures answers { (users : Users) (session : ℕ) (F : List Entry) (place : Place) (message : Message) (moment : ℕ)
         → GivesRequest (request_of users message) (Err fault)
         → Answers users session F place message moment (counted_reply result) place }
     ensures status { IfOk result (λ reply. IsStatus reply.status) }

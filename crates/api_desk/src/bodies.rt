@@ -83,8 +83,9 @@ pub fn command_of(alloc: Global, edit: Edit, body: &[u8]) -> Result<Command, Req
     ensures shown { IfErr result HasShownFault }
 {
     match edit {
-        Edit::CreateChangeset => Ok(Command::CreateChangeset {
+        Edit::CreateChangeset { large_from } => Ok(Command::CreateChangeset {
             tags: tags_in(alloc, body, false)?,
+            large_from,
         }),
         Edit::Retag { id } => Ok(Command::Retag {
             changeset: id,

@@ -8,7 +8,7 @@ ghost use Rattle.http_link.specs.Desk.{counted_reply};
 ghost use Rattle.osm_base.specs.Status.{IsStatus};
 ghost use Rattle.http_wire.specs.declared.message.Message.{Message};
 ghost use Rattle.osm_model.specs.declared.commands.Entry.{Entry};
-ghost use Rattle.user_table.specs.Rows.{Row};
+ghost use Rattle.user_table.specs.Users.{Users};
 ghost use Rattle.api_desk.specs.Answers.{reply_of, AnswersAlone};
 ghost use Rattle.api_desk.specs.Gives.{shown_request};
 ghost use Rattle.api_desk.specs.Request.{request_of};
@@ -128,7 +128,7 @@ fn answer_request<L: Ledger>(
     moment: u64,
     steps: &mut Steps<L>,
 ) -> Result<Reply, Memory>
-    ensures answers { (users : List Row) (message : Message) → request_of users message ≡ shown_request request
+    ensures answers { (users : Users) (message : Message) → request_of users message ≡ shown_request request
         → AnswersAlone users session book.old book.new message moment (counted_reply result) }
     ensures status { IfOk result (λ reply. IsStatus reply.status) }
 {

@@ -7,7 +7,7 @@ ghost use Rattle.osm_model.specs.Journal.{is_legal_from};
 ghost use Rattle.osm_model.specs.State.{empty};
 ghost use Rattle.http_wire.specs.declared.message.Message.{Message};
 ghost use Rattle.http_link.specs.Desk.{counted_reply};
-ghost use Rattle.user_table.specs.Rows.{Row};
+ghost use Rattle.user_table.specs.Users.{Users};
 ghost use Rattle.hub_answers.specs.Steps.{told, Answers};
 ghost use Rattle.api_desk.specs.Gives.{shown_request};
 ghost use Rattle.api_desk.specs.Machine.{map_rules};
@@ -100,7 +100,7 @@ fn answer_request<N: HubName, G: Gate + Drop, R: Wait + Drop, W: Wait, L: Ledger
     moment: u64,
     steps: &mut Steps<L>,
 ) -> Result<Reply, Memory>
-    ensures answers { (users : List Row) (message : Message) → request_of users message ≡ shown_request request
+    ensures answers { (users : Users) (message : Message) → request_of users message ≡ shown_request request
         → Replies users session.old message moment (counted_reply result) session.new }
     ensures status { IfOk result (λ reply. IsStatus reply.status) }
 {

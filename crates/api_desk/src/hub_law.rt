@@ -8,7 +8,7 @@ ghost use Rattle.hub_core.specs.Journal.{IsJournal};
 ghost use Rattle.http_wire.specs.declared.message.Message.{Message};
 ghost use Rattle.http_link.specs.declared.desk.Reply.{Reply};
 ghost use Rattle.http_link.specs.Exchange.{Exchange, Chain};
-ghost use Rattle.user_table.specs.Rows.{Row};
+ghost use Rattle.user_table.specs.Users.{Users};
 ghost use Rattle.snapshot_hub.specs.Known.{Known};
 ghost use Rattle.hub_answers.specs.Answered.{Place as Step, IsRow};
 ghost use Rattle.hub_answers.specs.Steps.{Answers};
@@ -28,7 +28,7 @@ pub fn rows_are_the_maps()
 /// A law: what the map's machine answers to the request of a message is what the map answers to the
 /// message, where the reply tells these bytes.
 pub fn replies_are_the_maps()
-    ensures { (users : List Row) (old new : Known Entry) (message : Message) (moment : ℕ) (bytes : Option (List ℕ)) (reply : Reply)
+    ensures { (users : Users) (old new : Known Entry) (message : Message) (moment : ℕ) (bytes : Option (List ℕ)) (reply : Reply)
         → Answers map_rules old (asked_of (request_of users message)) moment bytes new → TellsBytes bytes reply
         → Replies users old message moment reply new }
 {}
@@ -55,14 +55,14 @@ pub fn exchanges_chain()
 
 /// A law: what one link and then another had answered by the same session is answered together.
 pub fn links_chain()
-    ensures { (users : List Row) (old mid new : Known Entry) (point : ℕ) (first second : List Exchange)
+    ensures { (users : Users) (old mid new : Known Entry) (point : ℕ) (first second : List Exchange)
         → (served : HasServed users old point first mid) → HasServed users mid served.last second new → HasServed users old point (first ++ second) new }
 {}
 
 /// A law: what a session was answered on its front is answered so on each longer one, as the journal
 /// of a hub that is closed.
 pub fn served_stay()
-    ensures { (users : List Row) (old new : Known Entry) (point : ℕ) (exchanges : List Exchange) (front : List Entry)
+    ensures { (users : Users) (old new : Known Entry) (point : ℕ) (exchanges : List Exchange) (front : List Entry)
         → (served : HasServed users old point exchanges new) → IsPrefix new.front front
         → AreAnswered users old.number front (stands_at old point) exchanges (stands_at new served.last) }
 {}

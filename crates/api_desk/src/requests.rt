@@ -149,6 +149,6 @@ pub fn request_of(
         return Err(RequestFault::Refused(Refusal::Xml));
     }
     let caller = caller_of(message, users)?;
-    let task = task_of(call, is_moderator(caller));
+    let task = task_of(call, is_moderator(caller), users.large_from());
     asked_by(alloc, caller, message.body.as_slice(), task)
 }

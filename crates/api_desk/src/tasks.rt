@@ -10,7 +10,10 @@ use route_table::Call;
 /// Work that a body may say more of (OpenStreetMap wiki, API v0.6).
 #[derive(Clone, Copy)]
 pub enum Edit {
-    CreateChangeset,
+    CreateChangeset {
+        /// The moment from which new changesets may make 50,000 changes, in seconds since 1970.
+        large_from: Option<u64>,
+    },
     Retag {
         id: u64,
     },
@@ -67,13 +70,14 @@ fn mark(key: Key, version: u64, redaction: Option<u64>) -> Task
 }
 
 /// What a call comes to. `sees` tells whether its caller may see what is redacted: the parameter
-/// that asks for it counts for nobody else.
-pub fn task_of(call: Call, sees: bool) -> Task
-    ensures task { result ≡ task_of sees call }
+/// that asks for it counts for nobody else. `large_from` is the moment from which new changesets may
+/// grow large.
+pub fn task_of(call: Call, sees: bool, large_from: Option<u64>) -> Task
+    ensures task { result ≡ task_of sees large_from call }
     ensures numbers { HasPathNumbers call → HasTaskNumbers result }
 {
     match call {
-        Call::CreateChangeset => Task::Change(Edit::CreateChangeset),
+        Call::CreateChangeset => Task::Change(Edit::CreateChangeset { large_from }),
         Call::Retag { id } => Task::Change(Edit::Retag { id }),
         Call::CloseChangeset { id } => Task::Change(Edit::CloseChangeset { id }),
         Call::Upload { id } => Task::Change(Edit::Upload { id }),

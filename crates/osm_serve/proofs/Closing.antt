@@ -12,7 +12,7 @@ use Rattle.osm_model.specs.Journal.{IsLegal, calls_of}
 use Rattle.osm_model.specs.declared.commands.Entry.{Entry}
 use Rattle.http_link.specs.declared.end.LinkEnd.{LinkEnd}
 use Rattle.http_link.specs.declared.end.LinkEnd.TheVariants.{Memory}
-use Rattle.user_table.specs.Rows.{Row}
+use Rattle.user_table.specs.Users.{Users}
 use Rattle.snapshot_hub.specs.Known.{Known, newcomer, seeing, owed}
 use Rattle.snapshot_hub.specs.Ends.{MatchEnd}
 use Rattle.snapshot_hub.specs.declared.ends.End.{End}
@@ -126,7 +126,7 @@ own_entries (e ∷ es) own =
 
 -- ---- the one link of a new hub
 
-pub pipe_served : (users : List Row) (old new : Known Entry) (before after : Told) (end : LinkEnd) (served : ServesLink (at_desk users old) (at_desk users new) before after end)
+pub pipe_served : (users : Users) (old new : Known Entry) (before after : Told) (end : LinkEnd) (served : ServesLink (at_desk users old) (at_desk users new) before after end)
     → ServedStay → PointsConsistent → old ≡ newcomer 0 → HasClosed 1 (new ∷ []) → ServesPipe users before after end
 pipe_served users old new before after end served stay consistent fresh closed =
     let last = end_of_one closed.journal new closed.each.0 closed.each.1 closed.each.2 in
@@ -153,7 +153,7 @@ pub nothing_legal : IsLegal []
 nothing_legal = record { taken = refl; numbered = refl }
 
 -- there was no memory for the hub or the desk
-pub pipe_unserved : (users : List Row) (before : Told) → HaveReadings → PointsConsistent → ServesPipe users before before Memory
+pub pipe_unserved : (users : Users) (before : Told) → HaveReadings → PointsConsistent → ServesPipe users before before Memory
 pipe_unserved users before readings consistent = record {
   exchanges = [];
   link = unserved_link before readings;
@@ -168,7 +168,7 @@ pipe_unserved users before readings consistent = record {
   served = nothing_served users (newcomer 0) 0 (omega arith);
 }
 
-pub pipe_left_alone : (users : List Row) (before after : Told) → HaveReadings → PointsConsistent → after ≡ before → ServesPipe users before after Memory
+pub pipe_left_alone : (users : Users) (before after : Told) → HaveReadings → PointsConsistent → after ≡ before → ServesPipe users before after Memory
 pipe_left_alone users before after readings consistent same =
     subst (λ (t : Told). ServesPipe users before t Memory) (sym same) (pipe_unserved users before readings consistent)
 

@@ -12,7 +12,7 @@ use Rattle.osm_model.specs.Act.{Effect, judge}
 use Rattle.osm_model.specs.Answered.{Request, refused, does, reads, Place, all_of, IsRow, map_at, stamp_on}
 use Rattle.osm_model.specs.Journal.{replay, calls_of, next_entry, appended}
 use Rattle.http_link.specs.declared.desk.Reply.{Reply}
-use Rattle.user_table.specs.Rows.{Row}
+use Rattle.user_table.specs.Users.{Users}
 use Rattle.api_desk.specs.Answers.{reply_of}
 use Rattle.api_desk.specs.Request.{request_of}
 use Rattle.workload.specs.declared.sent.Sent.{Sent}
@@ -93,7 +93,7 @@ lacking_of answer reply text none = ap (λ (r : Reply). r.status) (text ∙ ap r
 tested : (status : ℕ) → status ≡ 503 → (status == 503) ≡ true
 tested status is = rw is refl
 
-one_done : (users : List Row) (sent : Sent) (old new : List Entry) (status : Option ℕ) → IsSent users sent old new status → lacks_memory status ≡ false
+one_done : (users : Users) (sent : Sent) (old new : List Entry) (status : Option ℕ) → IsSent users sent old new status → lacks_memory status ≡ false
     → IsDone users sent old new ⊎ IsUnread sent old new
 one_done users sent old new (Some status) is fine =
     let told = is.answered in
@@ -118,7 +118,7 @@ split p status later none =
       go true is = absurd (omega (arith, is))
       go false is = refl
 
-pub all_done : (users : List Row) (load : List Sent) (old new : List Entry) (statuses : List (Option ℕ))
+pub all_done : (users : Users) (load : List Sent) (old new : List Entry) (statuses : List (Option ℕ))
     → AreSent users load old new statuses → count_by lacks_memory statuses ≡ 0 → AreDone users load old new
 all_done users [] old new [] sent none = sent
 all_done users [] old new (status ∷ later) sent none = absurd sent

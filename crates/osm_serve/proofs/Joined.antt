@@ -7,7 +7,7 @@ use Rattle.osm_model.specs.declared.commands.Entry.{Entry}
 use Rattle.http_link.specs.Exchange.{Exchange}
 use Rattle.link_workers.specs.Port.{Visit, ServesEach}
 use Rattle.link_workers.specs.Joined.{all_of}
-use Rattle.user_table.specs.Rows.{Row}
+use Rattle.user_table.specs.Users.{Users}
 use Rattle.snapshot_hub.specs.Known.{Known, seeing}
 use Rattle.api_desk.specs.Answers.{AreAnswered}
 use Rattle.api_desk.specs.HubDesk.{AtDesk, IsFresh, HasServed, stands_at}
@@ -16,7 +16,7 @@ use Rattle.osm_serve.proofs.Serving.{nothing_served}
 
 -- what one link and then another had answered by the same session is answered together
 abbrev pub LinksChain : Type 0
-LinksChain = (users : List Row) (old mid new : Known Entry) (point : ℕ) (first second : List Exchange)
+LinksChain = (users : Users) (old mid new : Known Entry) (point : ℕ) (first second : List Exchange)
     → (served : HasServed users old point first mid) → HasServed users mid served.last second new → HasServed users old point (first ++ second) new
 
 prefix_trans : (xs ys zs : List Entry) → IsPrefix xs ys → IsPrefix ys zs → IsPrefix xs zs
@@ -26,7 +26,7 @@ no_shorter : (xs ys : List Entry) → IsPrefix xs ys → length xs ≤ length ys
 no_shorter xs ys p = omega (arith, sym (ap length p.1) ∙ length-append xs p.0)
 
 -- what a session was answered that was freshened first, it was answered from what it knew before
-from_fresh : (users : List Row) (old start new : Known Entry) (point : ℕ) (exchanges : List Exchange)
+from_fresh : (users : Users) (old start new : Known Entry) (point : ℕ) (exchanges : List Exchange)
     → IsFresh old start → HasServed users start point exchanges new → HasServed users old point exchanges new
 from_fresh users old start new point exchanges fresh served =
     let number : start.number ≡ old.number = ap (λ (k : Known Entry). k.number) fresh.comes_to in
@@ -69,7 +69,7 @@ join_more old mid new v visits point chain s first rest = record {
   exchanges = s.exchanges ∷ rest.exchanges;
   each = (s.link, rest.each);
   served = chain old.users old.known mid.known new.known point s.exchanges (all_of rest.exchanges) first
-      (subst (λ (u : List Row). HasServed u mid.known first.last (all_of rest.exchanges) new.known) s.users rest.served);
+      (subst (λ (u : Users). HasServed u mid.known first.last (all_of rest.exchanges) new.known) s.users rest.served);
 }
 
 pub joined : (old new : AtDesk) (visits : List Visit) (point : ℕ) → LinksChain → point ≤ length old.known.front
@@ -83,12 +83,12 @@ joined old new (v ∷ visits) point chain le h =
 
 -- what was served on a front stands on each longer one
 abbrev pub ServedStay : Type 0
-ServedStay = (users : List Row) (old new : Known Entry) (point : ℕ) (exchanges : List Exchange) (front : List Entry)
+ServedStay = (users : Users) (old new : Known Entry) (point : ℕ) (exchanges : List Exchange) (front : List Entry)
     → (served : HasServed users old point exchanges new) → IsPrefix new.front front
     → AreAnswered users old.number front (stands_at old point) exchanges (stands_at new served.last)
 
 -- the same of a session that has seen more at last
-pub seen_at_last : (users : List Row) (old stopped known : Known Entry) (point : ℕ) (exchanges : List Exchange) → ServedStay
+pub seen_at_last : (users : Users) (old stopped known : Known Entry) (point : ℕ) (exchanges : List Exchange) → ServedStay
     → known ≡ seeing stopped known.front → IsPrefix stopped.front known.front
     → HasServed users old point exchanges stopped → HasServed users old point exchanges known
 seen_at_last users old stopped known point exchanges stay is longer served = subst (λ (k : Known Entry). HasServed users old point exchanges k) (sym is) (record {

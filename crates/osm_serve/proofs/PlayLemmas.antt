@@ -4,7 +4,7 @@ use Rattle.osm_base.specs.declared.memory.Memory.{Memory}
 use Rattle.osm_model.specs.declared.commands.Entry.{Entry}
 use Rattle.osm_model.specs.Journal.{IsLegal, replay}
 use Rattle.load_summary.specs.Figures.{figures_of}
-use Rattle.user_table.specs.Rows.{Row}
+use Rattle.user_table.specs.Users.{Users}
 use Rattle.journal_text.specs.Text.{text_of}
 use Rattle.workload.specs.declared.sent.Sent.{Sent}
 use Rattle.workload.specs.Request.{requests}
@@ -15,11 +15,11 @@ use Rattle.osm_serve.proofs.DoneLemmas.{all_done}
 use Rattle.osm_serve.specs.Played.{AreReplied, IsPlayed, Plays}
 use Rattle.osm_serve.specs.Export.{IsExport}
 
-pub plays : (seed sessions uploads : ℕ) (users given : List Row) (load : List Sent) (old new : List Entry) (replies : Replies)
+pub plays : (seed sessions uploads : ℕ) (users given : Users) (load : List Sent) (old new : List Entry) (replies : Replies)
     → AreUsersOf sessions users → given ≡ users → load ≡ requests seed sessions uploads → old ≡ []
     → IsLegal new → AreReplied given load old new replies → Plays seed sessions uploads new replies
 plays seed sessions uploads users given load old new replies table same load_is old_is legal sent =
-    let by_users = subst (λ (rows : List Row). AreReplied rows load old new replies) same sent in
+    let by_users = subst (λ (rows : Users). AreReplied rows load old new replies) same sent in
     let of_load = subst (λ (list : List Sent). AreReplied users list old new replies) load_is by_users in
     let from_start = subst (λ (entries : List Entry). AreReplied users (requests seed sessions uploads) entries new replies) old_is of_load in
     record {
@@ -31,7 +31,7 @@ plays seed sessions uploads users given load old new replies table same load_is 
     }
 
 -- its numbers, from what was sent to a desk over a book that was empty
-pub played_of : (seed sessions uploads : ℕ) (users given : List Row) (load : List Sent) (old new : List Entry) (result : Result Played Memory)
+pub played_of : (seed sessions uploads : ℕ) (users given : Users) (load : List Sent) (old new : List Entry) (result : Result Played Memory)
     → AreUsersOf sessions users → given ≡ users → load ≡ requests seed sessions uploads → old ≡ []
     → IfOk result (λ played. IsLegal new × AreReplied given load old new played.replies × (played.figures ≡ figures_of (replay new).elements (length new)))
     → IfOk result (IsPlayed seed sessions uploads)
@@ -43,7 +43,7 @@ played_of seed sessions uploads users given load old new (Ok played) table same 
 played_of seed sessions uploads users given load old new (Err memory) table same load_is old_is made = tt
 
 -- the text of a desk's journal, where no reply told of want of memory
-pub text_at : (given : List Row) (load : List Sent) (old new shown : List Entry) (replies : Replies) (result : Result (List ℕ) Memory)
+pub text_at : (given : Users) (load : List Sent) (old new shown : List Entry) (replies : Replies) (result : Result (List ℕ) Memory)
     → AreReplied given load old new replies → replies.lacking ≡ 0 → IsLegal new → shown ≡ new
     → IfOk result (λ bytes. bytes ≡ text_of shown)
     → IfOk result (λ bytes. (r : Replies) × (r.lacking ≡ 0) × IsLegal new × AreReplied given load old new r × (bytes ≡ text_of new))
@@ -51,7 +51,7 @@ text_at given load old new shown replies (Ok bytes) sent none legal same is = (r
 text_at given load old new shown replies (Err memory) sent none legal same is = tt
 
 -- and the text of the journal of the run
-pub exported : (seed sessions uploads : ℕ) (users given : List Row) (load : List Sent) (old new : List Entry) (result : Result (List ℕ) Memory)
+pub exported : (seed sessions uploads : ℕ) (users given : Users) (load : List Sent) (old new : List Entry) (result : Result (List ℕ) Memory)
     → AreUsersOf sessions users → given ≡ users → load ≡ requests seed sessions uploads → old ≡ []
     → IfOk result (λ bytes. (r : Replies) × (r.lacking ≡ 0) × IsLegal new × AreReplied given load old new r × (bytes ≡ text_of new))
     → IfOk result (IsExport seed sessions uploads)

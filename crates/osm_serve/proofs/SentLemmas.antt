@@ -5,19 +5,19 @@ use Rattle.std.specs.Prelude.{count_by, cond}
 use Rattle.std.proofs.lemmas.List.{append-nil}
 use Rattle.std.proofs.lemmas.List.Sums.{sum_by-append}
 use Rattle.osm_model.specs.declared.commands.Entry.{Entry}
-use Rattle.user_table.specs.Rows.{Row}
+use Rattle.user_table.specs.Users.{Users}
 use Rattle.workload.specs.declared.sent.Sent.{Sent}
 use Rattle.osm_serve.specs.Sending.{IsSent, AreSent, refuses, lacks_memory}
 use Rattle.osm_serve.specs.Played.{AreReplied}
 use Rattle.osm_serve.specs.declared.sending.Replies.{Replies}
 
 -- Whatever the rest comes to from here, the whole comes to from the start.
-abbrev pub Goes : List Row → List Sent → List Entry → List Sent → List Entry → List (Option ℕ) → Type 0
+abbrev pub Goes : Users → List Sent → List Entry → List Sent → List Entry → List (Option ℕ) → Type 0
 Goes users all old rest now done =
     (new : List Entry) (later : List (Option ℕ)) → AreSent users rest now new later → AreSent users all old new (done ++ later)
 
 -- so many requests were sent, and these are the numbers of their replies so far
-pub record IsAt (users : List Row) (all : List Sent) (old : List Entry) (rest : List Sent) (now : List Entry) (replies : Replies) : Type 0 where
+pub record IsAt (users : Users) (all : List Sent) (old : List Entry) (rest : List Sent) (now : List Entry) (replies : Replies) : Type 0 where
   pub done : List (Option ℕ)
   pub goes : Goes users all old rest now done
   pub counted : length done + length rest ≡ replies.all
@@ -25,7 +25,7 @@ pub record IsAt (users : List Row) (all : List Sent) (old : List Entry) (rest : 
   pub lacking : replies.lacking ≡ count_by lacks_memory done
 
 -- nothing is sent yet
-pub begun : (users : List Row) (all : List Sent) (old : List Entry) (replies : Replies) → replies.all ≡ length all
+pub begun : (users : Users) (all : List Sent) (old : List Entry) (replies : Replies) → replies.all ≡ length all
     → replies.refused ≡ 0 → replies.lacking ≡ 0 → IsAt users all old all old replies
 begun users all old replies counted refused lacking = record {
   done = [];
@@ -36,7 +36,7 @@ begun users all old replies counted refused lacking = record {
 }
 
 -- nothing is left
-pub all_sent : (users : List Row) (all : List Sent) (old : List Entry) (rest : List Sent) (now : List Entry) (replies : Replies)
+pub all_sent : (users : Users) (all : List Sent) (old : List Entry) (rest : List Sent) (now : List Entry) (replies : Replies)
     → rest ≡ [] → IsAt users all old rest now replies → AreReplied users all old now replies
 all_sent users all old rest now replies is at =
     let none : AreSent users rest now now [] = rw is refl in
@@ -67,13 +67,13 @@ added count byte said holds is same =
     omega (arith, number)
 
 -- one request more
-pub one_more : (users given : List Row) (all : List Sent) (old : List Entry) (rest : List Sent) (before : List Entry) (replies later : Replies)
+pub one_more : (users given : Users) (all : List Sent) (old : List Entry) (rest : List Sent) (before : List Entry) (replies later : Replies)
     (sent : Sent) (more : List Sent) (now : List Entry) (status : Option ℕ) → given ≡ users → rest ≡ sent ∷ more
     → IsSent given sent before now status → later.all ≡ replies.all → later.refused ≡ replies.refused + cond (refuses status) 1 0
     → later.lacking ≡ replies.lacking + cond (lacks_memory status) 1 0
     → IsAt users all old rest before replies → IsAt users all old more now later
 one_more users given all old rest before replies later sent more now status same is one all_is refused lacking at =
-    let one_is : IsSent users sent before now status = subst (λ (rows : List Row). IsSent rows sent before now status) same one in
+    let one_is : IsSent users sent before now status = subst (λ (rows : Users). IsSent rows sent before now status) same one in
     let counted = at.counted in
     let size = ap length is in
     let longer = length-append at.done (status ∷ []) in

@@ -7,7 +7,7 @@ use Rattle.http_link.specs.declared.end.LinkEnd.TheVariants.{Memory}
 use Rattle.http_link.specs.Exchange.{Exchange, Chain}
 use Rattle.http_link.specs.Turns.{exchanges_of}
 use Rattle.http_link.specs.Link.{Serves}
-use Rattle.user_table.specs.Rows.{Row}
+use Rattle.user_table.specs.Users.{Users}
 use Rattle.snapshot_hub.specs.Known.{Known}
 use Rattle.api_desk.specs.HubDesk.{AtDesk, Allows, IsFresh, HasServed}
 use Rattle.osm_serve.specs.Serve.{ServesLink, IsSound}
@@ -31,12 +31,12 @@ serves_link old fresh new before after end chains users is_fresh s sound =
       users = (at 0 (omega arith)).0 ∙ users;
       start = fresh.known;
       started = inl is_fresh;
-      served = λ point le. subst (λ (u : List Row). HasServed u fresh.known point (exchanges_of s.turns) new.known) users (at point le).1;
+      served = λ point le. subst (λ (u : Users). HasServed u fresh.known point (exchanges_of s.turns) new.known) users (at point le).1;
       front = sound;
     }
 
 -- no message was answered
-pub nothing_served : (users : List Row) (it : Known Entry) (point : ℕ) → point ≤ length it.front → HasServed users it point [] it
+pub nothing_served : (users : Users) (it : Known Entry) (point : ℕ) → point ≤ length it.front → HasServed users it point [] it
 nothing_served users it point le = record {
   number = refl;
   begins = ([], append-nil it.front);

@@ -4,13 +4,15 @@ use Rattle.std.proofs.lemmas.List.{length-map}
 use Rattle.std.specs.List.{AllByRecursion, AllZip, list_any, range_with_len}
 use Rattle.std.specs.Prelude.{IfSome, slice_get}
 use Rattle.osm_outside.specs.Port.{PortTold}
+use Rattle.osm_outside.specs.Told.{Told}
+use Rattle.http_link.specs.declared.end.LinkEnd.{LinkEnd}
 use Rattle.osm_model.specs.declared.commands.Entry.{Entry}
 use Rattle.link_workers.specs.declared.worker.Worker.{Worker}
 use Rattle.link_workers.specs.Port.{Visit, ServesEach, ServesPort}
 use Rattle.link_workers.specs.Joined.{all_of}
 use Rattle.link_workers.specs.Seats.{seated, sessions_of, ports_of}
 use Rattle.link_workers.specs.Workers.{Works, AllWork}
-use Rattle.user_table.specs.Rows.{Row}
+use Rattle.user_table.specs.Users.{Users}
 use Rattle.snapshot_hub.specs.Known.{Known, newcomer}
 use Rattle.snapshot_hub.specs.declared.ends.End.{End}
 use Rattle.api_desk.specs.HubDesk.{AtDesk}
@@ -26,11 +28,19 @@ users_stay : (old new : AtDesk) (visits : List Visit) → ServesEach ServesLink 
 users_stay old new [] same = ap (λ (d : AtDesk). d.users) same
 users_stay old new (v ∷ visits) h = users_stay h.0 new visits h.2 ∙ h.1.users
 
-desk_is : (users : List Row) (desk : AtDesk) → desk.users ≡ users → desk ≡ at_desk users desk.known
+pub desk_is : (users : Users) (desk : AtDesk) → desk.users ≡ users → desk ≡ at_desk users desk.known
 desk_is users desk same = λ i. record { users = same i; known = desk.known }
 
+-- a link that a desk served, whose users and session are these
+pub served_at : (users : Users) (known : Known Entry) (desk new : AtDesk) (before after : Told) (end : LinkEnd)
+    → desk ≡ at_desk users known → ServesLink desk new before after end → ServesLink (at_desk users known) (at_desk users new.known) before after end
+served_at users known desk new before after end is served =
+    let same : new ≡ at_desk users new.known = desk_is users new (served.users ∙ ap (λ (d : AtDesk). d.users) is) in
+    subst (λ (n : AtDesk). ServesLink (at_desk users known) n before after end) same
+    (subst (λ (d : AtDesk). ServesLink d new before after end) is served)
+
 -- what workers with these desks and ports come to
-pub record Shifts {P : Type 0} (users : List Row) (told : P → PortTold) (numbers : List ℕ) (ports : List P) (new : List (Worker AtDesk P)) : Type 0 where
+pub record Shifts {P : Type 0} (users : Users) (told : P → PortTold) (numbers : List ℕ) (ports : List P) (new : List (Worker AtDesk P)) : Type 0 where
   pub shifts : List Shift
   pub served : AllByRecursion (HasServedPort users) shifts
   pub numbers_are : map (λ shift. shift.number) shifts ≡ numbers
@@ -39,14 +49,14 @@ pub record Shifts {P : Type 0} (users : List Row) (told : P → PortTold) (numbe
   pub back : map (λ shift. shift.after) shifts ≡ map told (ports_of new)
   pub some : list_any (λ w. w.failed) new ≡ list_any (λ shift. shift.failed) shifts
 
-one_shift : {P : Type 0} (users : List Row) (told : P → PortTold) (number : ℕ) (port : P) (w : Worker AtDesk P)
+one_shift : {P : Type 0} (users : Users) (told : P → PortTold) (number : ℕ) (port : P) (w : Worker AtDesk P)
     → ServesPort ServesLink (at_desk users (newcomer number)) w.session (told port) (told w.port) w.failed
     → HasServedPort users (record { number = number; stopped = w.session.known; before = told port; after = told w.port; failed = w.failed })
 one_shift users told number port w h =
     let same : w.session.users ≡ users = users_stay (at_desk users (newcomer number)) w.session h.links.visits h.links.served in
     subst (λ (d : AtDesk). ServesPort ServesLink (at_desk users (newcomer number)) d (told port) (told w.port) w.failed) (desk_is users w.session same) h
 
-more_shifts : {P : Type 0} (users : List Row) (told : P → PortTold) (number : ℕ) (numbers : List ℕ) (port : P) (ports : List P) (w : Worker AtDesk P) (new : List (Worker AtDesk P))
+more_shifts : {P : Type 0} (users : Users) (told : P → PortTold) (number : ℕ) (numbers : List ℕ) (port : P) (ports : List P) (w : Worker AtDesk P) (new : List (Worker AtDesk P))
     → ServesPort ServesLink (at_desk users (newcomer number)) w.session (told port) (told w.port) w.failed
     → Shifts users told numbers ports new → Shifts users told (number ∷ numbers) (port ∷ ports) (w ∷ new)
 more_shifts users told number numbers port ports w new h rest = record {
@@ -59,7 +69,7 @@ more_shifts users told number numbers port ports w new h rest = record {
   some = ap (λ (b : Bool). w.failed || b) rest.some;
 }
 
-pub shifts_of_workers : {P : Type 0} (users : List Row) (told : P → PortTold) (numbers : List ℕ) (ports : List P) (new : List (Worker AtDesk P)) → length numbers ≡ length ports
+pub shifts_of_workers : {P : Type 0} (users : Users) (told : P → PortTold) (numbers : List ℕ) (ports : List P) (new : List (Worker AtDesk P)) → length numbers ≡ length ports
     → AllZip (Works ServesLink told) (seated (map (at_desk users) (map newcomer numbers)) ports) new → Shifts users told numbers ports new
 shifts_of_workers users told [] [] [] count h = record { shifts = []; served = tt; numbers_are = refl; stopped_are = refl; handed = refl; back = refl; some = refl }
 shifts_of_workers users told [] [] (w ∷ new) count h = absurd h
@@ -70,7 +80,7 @@ shifts_of_workers users told (n ∷ numbers) (p ∷ ports) (w ∷ new) count h =
     more_shifts users told n numbers p ports w new h.0 (shifts_of_workers users told numbers ports new (omega (arith, count)) h.1)
 
 -- what `serve_by` says, of the desks and ports that came back
-pub have_served : {P : Type 0} (users : List Row) (told : P → PortTold) (numbers : List ℕ) (starts : List (Known Entry)) (desks : List AtDesk) (ports back : List P) (new : List (Worker AtDesk P))
+pub have_served : {P : Type 0} (users : Users) (told : P → PortTold) (numbers : List ℕ) (starts : List (Known Entry)) (desks : List AtDesk) (ports back : List P) (new : List (Worker AtDesk P))
     (left : List (Known Entry)) (failed : Bool)
     → starts ≡ map newcomer numbers → desks ≡ map (at_desk users) starts → length starts ≡ length ports
     → AllWork ServesLink told (seated desks ports) new
@@ -121,7 +131,7 @@ stopped_sound : (old new : AtDesk) (visits : List Visit) → ServesEach ServesLi
 stopped_sound old new [] same sound = subst (λ (d : AtDesk). IsSound d.known.front) (sym same) sound
 stopped_sound old new (v ∷ visits) h sound = stopped_sound h.0 new visits h.2 h.1.front
 
-pub has_worked : (users : List Row) (journal : List Entry) (shift : Shift) (known : Known Entry) (ended : End) → LinksChain → ServedStay → PointsConsistent → IsSound journal
+pub has_worked : (users : Users) (journal : List Entry) (shift : Shift) (known : Known Entry) (ended : End) → LinksChain → ServedStay → PointsConsistent → IsSound journal
     → HasServedPort users shift → EndsAs journal shift.stopped known ended → HasWorked users journal (record { shift = shift; known = known; ended = ended })
 has_worked users journal shift known ended chain stay consistent sound served ends =
     let old = at_desk users (newcomer shift.number) in
@@ -137,12 +147,12 @@ has_worked users journal shift known ended chain stay consistent sound served en
     }
 
 -- all of them
-pub record AllWorked (users : List Row) (journal : List Entry) (shifts : List Shift) : Type 0 where
+pub record AllWorked (users : Users) (journal : List Entry) (shifts : List Shift) : Type 0 where
   pub works : List Work
   pub worked : AllByRecursion (HasWorked users journal) works
   pub shifts_are : map (λ work. work.shift) works ≡ shifts
 
-all_worked : (users : List Row) (journal : List Entry) (shifts : List Shift) (known : List (Known Entry)) (ends : List End) → LinksChain → ServedStay → PointsConsistent → IsSound journal
+all_worked : (users : Users) (journal : List Entry) (shifts : List Shift) (known : List (Known Entry)) (ends : List End) → LinksChain → ServedStay → PointsConsistent → IsSound journal
     → AllByRecursion (HasServedPort users) shifts → EndEach journal (map (λ shift. shift.stopped) shifts) known ends → AllWorked users journal shifts
 all_worked users journal [] [] [] chain stay consistent sound served each = record { works = []; worked = tt; shifts_are = refl }
 all_worked users journal [] [] (e ∷ ends) chain stay consistent sound served each = absurd each
@@ -157,7 +167,7 @@ all_worked users journal (s ∷ shifts) (k ∷ known) (e ∷ ends) chain stay co
     }
 
 -- the clause on all workers
-pub serves_all : (users : List Row) (count : ℕ) (before after : List PortTold) (stopped : List (Known Entry)) (failed : Bool)
+pub serves_all : (users : Users) (count : ℕ) (before after : List PortTold) (stopped : List (Known Entry)) (failed : Bool)
     → LinksChain → ServedStay → PointsConsistent → length before ≡ count
     → HaveServed users (range_with_len 0 count) stopped before after failed → HasClosed count stopped → ServesAll users before after failed
 serves_all users count before after stopped failed chain stay consistent counted served closed =
@@ -178,7 +188,7 @@ serves_all users count before after stopped failed chain stay consistent counted
     }
 
 -- what `serve_ports` says, where the workers' sessions came back
-pub ports_served : (users : List Row) (count : ℕ) (before after : List PortTold) (items stopped : List (Known Entry)) (failed is : Bool)
+pub ports_served : (users : Users) (count : ℕ) (before after : List PortTold) (items stopped : List (Known Entry)) (failed is : Bool)
     → LinksChain → ServedStay → PointsConsistent → length before ≡ count → length items ≡ count
     → ((number : ℕ) → IfSome (slice_get items number) (λ s. s ≡ newcomer number))
     → ((numbers : List ℕ) → items ≡ map newcomer numbers → HaveServed users numbers stopped before after failed)

@@ -5,7 +5,7 @@ use Rattle.osm_model.specs.Answered.{Request, refused, does, reads}
 use Rattle.osm_model.specs.Journal.{journal_after}
 use Rattle.http_wire.specs.declared.message.Message.{Message}
 use Rattle.http_wire.specs.Message.{BeginsWith}
-use Rattle.user_table.specs.Rows.{Row}
+use Rattle.user_table.specs.Users.{Users}
 use Rattle.api_desk.specs.Request.{request_of}
 use Rattle.workload.specs.declared.sent.Sent.{Sent}
 use Rattle.osm_serve.specs.Sending.{IsUnread, moment_of_load}
@@ -17,14 +17,14 @@ journal_with journal session (does user c) = journal_after journal session user 
 journal_with journal session (reads q) = journal
 
 -- The message that a request begins with was done.
-pub record IsDone (users : List Row) (sent : Sent) (old new : List Entry) : Type 0 where
+pub record IsDone (users : Users) (sent : Sent) (old new : List Entry) : Type 0 where
   pub message : Message
   pub rest : List ℕ
   pub begins : BeginsWith sent.bytes message rest
   pub done : new ≡ journal_with old sent.session (request_of users message)
 
 -- Requests were done one after another, from a journal to another. Bytes that are no message do nothing.
-abbrev pub AreDone : List Row → List Sent → List Entry → List Entry → Type 0
+abbrev pub AreDone : Users → List Sent → List Entry → List Entry → Type 0
 AreDone users [] old new = new ≡ old
 AreDone users (sent ∷ more) old new =
     (mid : List Entry) × (IsDone users sent old mid ⊎ IsUnread sent old mid) × AreDone users more mid new

@@ -2,7 +2,7 @@
 use Rattle.std.specs.Prelude.{◌≡◌, ℕ, List, [], length, count_by, Option}
 use Rattle.osm_model.specs.declared.commands.Entry.{Entry}
 use Rattle.osm_model.specs.Journal.{IsLegal, replay}
-use Rattle.user_table.specs.Rows.{Row}
+use Rattle.user_table.specs.Users.{Users}
 use Rattle.load_summary.specs.Figures.{figures_of}
 use Rattle.workload.specs.declared.sent.Sent.{Sent}
 use Rattle.workload.specs.Users.{AreUsersOf}
@@ -13,7 +13,7 @@ use Rattle.osm_serve.specs.OneThread.{AreDone}
 use Rattle.osm_serve.specs.Sending.{AreSent, refuses, lacks_memory}
 
 -- Requests were sent, and these are the numbers of their replies.
-pub record AreReplied (users : List Row) (load : List Sent) (old new : List Entry) (replies : Replies) : Type 0 where
+pub record AreReplied (users : Users) (load : List Sent) (old new : List Entry) (replies : Replies) : Type 0 where
   pub statuses : List (Option ℕ)
   pub sent : AreSent users load old new statuses
   pub all : replies.all ≡ length statuses
@@ -22,7 +22,7 @@ pub record AreReplied (users : List Row) (load : List Sent) (old new : List Entr
 
 -- The requests of a load were sent from the empty journal on, by its users, and made that journal.
 pub record Plays (seed sessions uploads : ℕ) (journal : List Entry) (replies : Replies) : Type 0 where
-  pub users : List Row
+  pub users : Users
   pub table : AreUsersOf sessions users
   pub legal : IsLegal journal
   pub sent : AreReplied users (requests seed sessions uploads) [] journal replies

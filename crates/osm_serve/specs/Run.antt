@@ -7,8 +7,7 @@ use Rattle.osm_outside.specs.Port.{PortTold}
 use Rattle.http_link.specs.declared.end.LinkEnd.{LinkEnd}
 use Rattle.http_link.specs.declared.end.LinkEnd.TheVariants.{Ended, Closed, Budget, Refused, ReadFault, WriteFault, Memory}
 use Rattle.link_workers.specs.Back.{take_all}
-use Rattle.user_table.specs.Rows.{Row}
-use Rattle.user_table.specs.Users.{table_of}
+use Rattle.user_table.specs.Users.{Users, table_of}
 use Rattle.osm_words.specs.declared.words.LoadOptions.{LoadOptions}
 use Rattle.osm_words.specs.Words.{Reading, pipe, serve, measure, export, replay}
 use Rattle.osm_serve.specs.Serve.{ServesPipe}
@@ -37,7 +36,7 @@ IsStarted None before after = after ≡ before
 IsStarted (Some at) before after = after ≡ record before { fixed = Some at }
 
 -- The standard link was served from its start to an end, which tells the status.
-pub record ServesFrom (users : List Row) (at : Option ℕ) (before after : Told) (status : ℕ) : Type 0 where
+pub record ServesFrom (users : Users) (at : Option ℕ) (before after : Told) (status : ℕ) : Type 0 where
   pub start : Told
   pub started : IsStarted at before start
   pub end : LinkEnd
@@ -48,7 +47,7 @@ pub record ServesFrom (users : List Row) (at : Option ℕ) (before after : Told)
 pub record Serves (at : Option ℕ) (host : HostTold) (before after : Told) (status : ℕ) : Type 0 where
   pub text : List ℕ
   pub told : IsTextOf host text
-  pub users : List Row
+  pub users : Users
   pub table : table_of text ≡ Ok users
   pub serves : ServesFrom users at before after status
 
@@ -83,7 +82,7 @@ outcome_status LacksMemory = 5
 
 -- Ports that the host handed out were served by the users of the table, as ended so, and taken back: 6 only where accepting failed at
 -- one, which its count shows; where there was no memory they came back as they were.
-pub record ServesHanded (users : List Row) (ports : List PortTold) (host host' : HostTold) (status : ℕ) : Type 0 where
+pub record ServesHanded (users : Users) (ports : List PortTold) (host host' : HostTold) (status : ℕ) : Type 0 where
   pub returned : List PortTold
   pub back : host' ≡ record host { lent = take_all host.lent returned }
   pub outcome : Outcome
@@ -91,7 +90,7 @@ pub record ServesHanded (users : List Row) (ports : List PortTold) (host host' :
   pub status_is : status ≡ outcome_status outcome
 
 -- So many ports were handed out, served and taken back.
-pub record ServesListening (users : List Row) (workers : ℕ) (host host' : HostTold) (status : ℕ) : Type 0 where
+pub record ServesListening (users : Users) (workers : ℕ) (host host' : HostTold) (status : ℕ) : Type 0 where
   pub listening : HostTold
   pub ports : List PortTold
   pub count : length ports ≡ workers
@@ -110,7 +109,7 @@ pub record LacksRoomToListen (host host' : HostTold) (status : ℕ) : Type 0 whe
   pub status_is : status ≡ 5
 
 -- The host was asked to listen at that address and at no other, for so many ports.
-pub record ListensWith (users : List Row) (address : List ℕ) (workers : ℕ) (host host' : HostTold) (status : ℕ) : Type 0 where
+pub record ListensWith (users : Users) (address : List ℕ) (workers : ℕ) (host host' : HostTold) (status : ℕ) : Type 0 where
   pub keeps : OnlyPorts address host host'
   pub comes_to : ServesListening users workers host host' status ⊎ LacksPorts host host' status ⊎ LacksRoomToListen host host' status
 
@@ -118,7 +117,7 @@ pub record ListensWith (users : List Row) (address : List ℕ) (workers : ℕ) (
 pub record ServesUsers (path address : List ℕ) (workers : ℕ) (host host' : HostTold) (status : ℕ) : Type 0 where
   pub text : List ℕ
   pub told : IsTextOf host text
-  pub users : List Row
+  pub users : Users
   pub table : table_of text ≡ Ok users
   -- the host as it was when the users were read
   pub asked : HostTold

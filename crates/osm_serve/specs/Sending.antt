@@ -4,7 +4,7 @@ use Rattle.osm_model.specs.declared.commands.Entry.{Entry}
 use Rattle.http_wire.specs.declared.message.Message.{Message}
 use Rattle.http_wire.specs.Message.{BeginsWith}
 use Rattle.http_link.specs.declared.desk.Reply.{Reply}
-use Rattle.user_table.specs.Rows.{Row}
+use Rattle.user_table.specs.Users.{Users}
 use Rattle.api_desk.specs.Answers.{AnswersAlone}
 use Rattle.workload.specs.declared.sent.Sent.{Sent}
 use Rattle.whole_messages.specs.Messages.{HasNoMessage}
@@ -16,13 +16,13 @@ moment_of_load = 1700000000
 -- ---- one request
 
 -- A message of a session was answered as the rules of the map say, from a journal to the next.
-pub record IsAnswered (users : List Row) (session : ℕ) (message : Message) (old new : List Entry) (status : ℕ) : Type 0 where
+pub record IsAnswered (users : Users) (session : ℕ) (message : Message) (old new : List Entry) (status : ℕ) : Type 0 where
   pub reply : Reply
   pub answers : AnswersAlone users session old new message moment_of_load reply
   pub status_is : status ≡ reply.status
 
 -- A request was sent: the message that its bytes begin with was answered.
-pub record IsReplied (users : List Row) (sent : Sent) (old new : List Entry) (status : ℕ) : Type 0 where
+pub record IsReplied (users : Users) (sent : Sent) (old new : List Entry) (status : ℕ) : Type 0 where
   pub message : Message
   pub rest : List ℕ
   pub begins : BeginsWith sent.bytes message rest
@@ -34,14 +34,14 @@ pub record IsUnread (sent : Sent) (old new : List Entry) : Type 0 where
   pub stays : new ≡ old
 
 -- a request with the status of its reply, from a journal to the next: bytes that are no message have none
-abbrev pub IsSent : List Row → Sent → List Entry → List Entry → Option ℕ → Type 0
+abbrev pub IsSent : Users → Sent → List Entry → List Entry → Option ℕ → Type 0
 IsSent users sent old new (Some status) = IsReplied users sent old new status
 IsSent users sent old new None = IsUnread sent old new
 
 -- ---- a load
 
 -- Requests were sent one after another, from a journal to another, with these statuses.
-abbrev pub AreSent : List Row → List Sent → List Entry → List Entry → List (Option ℕ) → Type 0
+abbrev pub AreSent : Users → List Sent → List Entry → List Entry → List (Option ℕ) → Type 0
 AreSent users [] old new [] = new ≡ old
 AreSent users [] old new (status ∷ later) = ⊥
 AreSent users (sent ∷ more) old new [] = ⊥

@@ -17,7 +17,7 @@ use Rattle.http_link.specs.Exchange.{Exchange, messages_of, moments_of}
 use Rattle.http_link.specs.Input.{EndsByInput}
 use Rattle.http_link.specs.Turns.{Turn, Ending, AreRead, events_of, exchanges_of}
 use Rattle.http_link.specs.Link.{LinkEnds, rest_limit}
-use Rattle.user_table.specs.Rows.{Row}
+use Rattle.user_table.specs.Users.{Users}
 use Rattle.snapshot_hub.specs.Known.{Known, newcomer, owed}
 use Rattle.snapshot_hub.specs.Ends.{MatchEnd}
 use Rattle.snapshot_hub.specs.declared.ends.End.{End}
@@ -95,7 +95,7 @@ HasEnded journal session ended =
     (λ seen entries. (seen ≡ length session.front) × (entries ≡ length journal) × (entries < seen))
 
 -- The link was served to that end by the one session of a new hub, which was then closed.
-pub record ServesPipe (users : List Row) (before after : Told) (end : LinkEnd) : Type 0 where
+pub record ServesPipe (users : Users) (before after : Told) (end : LinkEnd) : Type 0 where
   -- the messages that were answered, with their moments and replies
   pub exchanges : List Exchange
   pub link : OnLink before after exchanges end

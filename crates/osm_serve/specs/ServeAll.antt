@@ -10,7 +10,7 @@ use Rattle.osm_model.specs.declared.commands.Entry.{Entry}
 use Rattle.http_link.specs.Exchange.{Exchange}
 use Rattle.link_workers.specs.Port.{ServesPort}
 use Rattle.link_workers.specs.Joined.{all_of}
-use Rattle.user_table.specs.Rows.{Row}
+use Rattle.user_table.specs.Users.{Users}
 use Rattle.snapshot_hub.specs.Known.{Known, newcomer, seeing}
 use Rattle.snapshot_hub.specs.Ends.{MatchEnd}
 use Rattle.snapshot_hub.specs.declared.ends.End.{End}
@@ -19,7 +19,7 @@ use Rattle.osm_serve.specs.Serve.{OnLink, IsSound, ServesLink, HasEnded}
 use Rattle.osm_serve.specs.declared.workers.Outcome.{Outcome}
 use Rattle.osm_serve.specs.declared.workers.Outcome.TheVariants.{Served, Failed, LacksMemory}
 
-abbrev pub at_desk : List Row → Known Entry → AtDesk
+abbrev pub at_desk : Users → Known Entry → AtDesk
 at_desk users known = record { users = users; known = known }
 
 -- What a worker was given, and what it gave back: the number of its new session and what that knew behind its last link, its port as
@@ -32,7 +32,7 @@ pub record Shift : Type 0 where
   pub failed : Bool
 
 -- Each link that the port handed out was served once, to an end, and given back; where accepting didn't fail, no known link is to come.
-abbrev pub HasServedPort : List Row → Shift → Type 0
+abbrev pub HasServedPort : Users → Shift → Type 0
 HasServedPort users shift = ServesPort ServesLink (at_desk users (newcomer shift.number)) (at_desk users shift.stopped) shift.before shift.after shift.failed
 
 -- A worker's session ended so, where this is the journal of the hub: nothing but what it has seen is new.
@@ -50,7 +50,7 @@ pub record Work : Type 0 where
   pub ended : End
 
 -- A worker served the links of its port by the session of that number, of a hub whose closing journal this is.
-pub record HasWorked (users : List Row) (journal : List Entry) (work : Work) : Type 0 where
+pub record HasWorked (users : Users) (journal : List Entry) (work : Work) : Type 0 where
   pub links : HasServedPort users work.shift
   pub ends : EndsAs journal work.shift.stopped work.known work.ended
   pub front : IsSound work.known.front
@@ -65,7 +65,7 @@ abbrev pub shifts_of : List Work → List Shift
 shifts_of works = map (λ work. work.shift) works
 
 -- The links of these ports were served by the sessions of a new hub, which was then closed.
-pub record ServesAll (users : List Row) (before after : List PortTold) (failed : Bool) : Type 0 where
+pub record ServesAll (users : Users) (before after : List PortTold) (failed : Bool) : Type 0 where
   -- there is one journal that replays as one thread's, and in which the calls of each session stand once and in order
   pub journal : List Entry
   pub legal : IsLegal journal
@@ -82,7 +82,7 @@ pub record ServesAll (users : List Row) (before after : List PortTold) (failed :
   pub own : (session : ℕ) → length before ≤ session → calls_of session journal ≡ 0
 
 -- what serving ports comes to: want of memory leaves them as they were
-abbrev pub ServesPorts : List Row → List PortTold → List PortTold → Outcome → Type 0
+abbrev pub ServesPorts : Users → List PortTold → List PortTold → Outcome → Type 0
 ServesPorts users before after Served = ServesAll users before after false
 ServesPorts users before after Failed = ServesAll users before after true
 ServesPorts users before after LacksMemory = after ≡ before
@@ -90,7 +90,7 @@ ServesPorts users before after LacksMemory = after ≡ before
 -- ---- for private clauses
 
 -- Workers with new sessions of these numbers served these ports.
-pub record HaveServed (users : List Row) (numbers : List ℕ) (stopped : List (Known Entry)) (before after : List PortTold) (failed : Bool) : Type 0 where
+pub record HaveServed (users : Users) (numbers : List ℕ) (stopped : List (Known Entry)) (before after : List PortTold) (failed : Bool) : Type 0 where
   pub shifts : List Shift
   pub served : AllByRecursion (HasServedPort users) shifts
   pub numbers_are : map (λ shift. shift.number) shifts ≡ numbers
