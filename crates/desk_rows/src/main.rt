@@ -23,10 +23,11 @@ use std::io;
 use std::process::ExitCode;
 use user_table::UserTable;
 
-/// The users of the rows: bob is a moderator, Carol's name has to be escaped in JSON, and the others
-/// send the loads.
+/// The users of the rows: bob is a moderator, Carol's name has to be escaped in JSON, dave has a limit
+/// on the boxes of changesets, and the others send the loads. Changesets may be large from the year
+/// 8307 on.
 const USERS: &str =
-    "1 alicetoken user alice\n2 bobtoken moderator bob\n3 caroltoken user Carol \"Ö\" \\ 3\n4 t1 user m1\n5 t2 user m2\n6 t3 user m3\n";
+    "1 alicetoken user alice\n2 bobtoken moderator bob\n3 caroltoken user Carol \"Ö\" \\ 3\n4 t1 user m1\n5 t2 user m2\n6 t3 user m3\n7 davetoken user/1000000 dave\n@large-from 200000000000\n";
 
 /// Plays each row of the text, and tells how often each route was answered and each refusal came.
 fn play_rows<R: Print>(

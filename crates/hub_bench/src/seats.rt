@@ -62,6 +62,7 @@ impl<K: Keeper + Drop> Seat<K> {
                 id: 1,
                 name: Text::of(alloc, "m1").ok()?,
                 moderator: false,
+                limit: None,
             },
             load,
             own: Own::of(number),
@@ -82,7 +83,11 @@ impl<K: Keeper + Drop> Seat<K> {
     fn make_way<L: Ledger>(&mut self, operations: u64, steps: &mut Steps<L>) -> Option<()> {
         if self.left < operations {
             let tags = Tags::none(self.alloc);
-            let done = self.commit(Command::CreateChangeset { tags }, steps)?;
+            let creation = Command::CreateChangeset {
+                tags,
+                large_from: None,
+            };
+            let done = self.commit(creation, steps)?;
             self.changeset = number_in(done.answer.as_slice())?;
             self.left = CHANGE_LIMIT;
         }

@@ -27,7 +27,8 @@ use user_table::UserTable;
 use workload::users_of_load;
 
 /// The users of the rows without a load.
-const USERS: &str = "1 alicetoken user alice\n2 bobtoken moderator bob\n";
+const USERS: &str =
+    "1 alicetoken user alice\n2 bobtoken moderator bob\n3 davetoken user/1000000 dave\n";
 
 fn play_for<R: Threads + Wait + Sync + Print>(
     rt: &R,

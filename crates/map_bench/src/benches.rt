@@ -51,6 +51,7 @@ impl Bench {
             id: 1,
             name: Text::of(alloc, "m1").ok()?,
             moderator: false,
+            limit: None,
         };
         Some(Bench {
             alloc,
@@ -109,7 +110,11 @@ impl Bench {
     fn make_way<L: Ledger>(&mut self, operations: u64, steps: &mut Steps<L>) -> Option<()> {
         if self.left < operations {
             let tags = Tags::none(self.alloc);
-            let _ = self.commit(Command::CreateChangeset { tags }, steps)?;
+            let creation = Command::CreateChangeset {
+                tags,
+                large_from: None,
+            };
+            let _ = self.commit(creation, steps)?;
             self.changeset = self.world().changesets().len() as u64;
             self.left = CHANGE_LIMIT;
         }

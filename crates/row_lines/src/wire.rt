@@ -4,10 +4,11 @@ use crate::lines::word_of;
 use itoa::Buffer;
 
 /// The fields that tell who asks.
-const TOKENS: [(&str, &str); 5] = [
+const TOKENS: [(&str, &str); 6] = [
     ("alice", "Authorization: Bearer alicetoken\r\n"),
     ("bob", "Authorization: Bearer bobtoken\r\n"),
     ("carol", "Authorization: Bearer caroltoken\r\n"),
+    ("dave", "Authorization: Bearer davetoken\r\n"),
     ("stranger", "Authorization: Bearer carolstoken\r\n"),
     ("nobody", ""),
 ];

@@ -23,6 +23,7 @@ impl Same<Changeset> for ChangesetRecord {
             && self.owner.name.as_str() == other.owner().name.as_str()
             && are_tags_same(&self.tags, other.tags())
             && self.created == other.created()
+            && self.limit == other.limit()
             && self.touched == other.touched()
             && self.closed_at(other.closes()) == Some(other.closes())
             && other.count() == self.did.items().len() as u64

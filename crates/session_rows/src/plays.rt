@@ -10,7 +10,7 @@ use std::sync::Wait;
 use std::thread::Threads;
 
 /// The room for what is written, in bytes, where a row's sweeps don't take less.
-const ROOM: usize = 1_000_000;
+const ROOM: usize = 4_000_000;
 
 /// How much is shown of what was wanted and of what came: so many bytes before the first that
 /// differs, and so many in all.

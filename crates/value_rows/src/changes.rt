@@ -1,77 +1,25 @@
 //! Changes: the rows of an upload, and single operations.
 ghost use Rattle.std.specs.Prelude.{IfOk, IfSome};
-ghost use Rattle.osm_change.specs.Build.{HasContent, IsRawOp, IsRaw};
+ghost use Rattle.osm_change.specs.Build.{IsRawOp};
 
 use crate::labels::labels;
+use crate::nodes::{NodeOp, built, change, content, raw_of};
 use diff_result::rows;
 use osm_base::{Items, Kind, Memory, TryCopy};
-use osm_change::{Action, Cause, Change, DiffRow, FirstIds, OneOp, Op, OpDone, OpDones, RawOp};
-use osm_element::{Content, RawContent, Tags};
+use osm_change::{Action, Change, DiffRow, FirstIds, OneOp, Op, OpDone, OpDones, RawOp};
+use osm_element::Content;
 use row_tally::Tally;
 use std::alloc::Global;
 
-/// The content of an operation on a node: a delete has none.
-fn content(action: Action) -> Option<RawContent>
-    ensures { HasContent action Kind.Node result }
-{
-    match action {
-        Action::Create => Some(RawContent::Node { lat7: 5, lon7: 6 }),
-        Action::Modify => Some(RawContent::Node { lat7: 5, lon7: 6 }),
-        Action::Delete { .. } => None,
-    }
-}
-
-/// An operation on a node: its id or placeholder, and the version that it replaces.
-fn node(alloc: Global, action: Action, id: i64, version: u32) -> Option<RawOp>
-    ensures { IfSome result IsRawOp }
-{
-    if id == 0 || id == i64::MIN || version == 0 {
-        return None;
-    }
-    Some(RawOp {
-        action,
-        kind: Kind::Node,
-        id,
-        version: Some(u64::from(version)),
-        changeset: None,
-        content: content(action),
-        tags: Tags::none(alloc),
-    })
-}
-
 /// Two creates, changes of what was made and of node 9, an applied delete and a skipped one.
-const OPERATIONS: [(Action, i64, u32); 6] = [
-    (Action::Create, -7, 1),
-    (Action::Create, -1, 1),
-    (Action::Modify, -1, 1),
-    (Action::Modify, 9, 3),
-    (Action::Delete { if_unused: false }, -7, 1),
-    (Action::Delete { if_unused: true }, 9, 4),
+const OPERATIONS: [NodeOp; 6] = [
+    (Action::Create, -7, 1, (5, 6)),
+    (Action::Create, -1, 1, (5, 6)),
+    (Action::Modify, -1, 1, (5, 6)),
+    (Action::Modify, 9, 3, (5, 6)),
+    (Action::Delete { if_unused: false }, -7, 1, (0, 0)),
+    (Action::Delete { if_unused: true }, 9, 4, (0, 0)),
 ];
-
-fn raws(alloc: Global) -> Result<Vec<RawOp>, Memory>
-    ensures { IfOk result (λ made. IsRaw made.items) }
-{
-    let mut made = Vec::new(alloc);
-    for operation in &OPERATIONS {
-        let Some(raw) = node(alloc, operation.0, operation.1, operation.2) else {
-            break;
-        };
-        made.push(raw)?;
-    }
-    Ok(made)
-}
-
-/// The change of an upload to changeset 1, unless that is refused.
-fn built(alloc: Global, raws: Vec<RawOp>) -> Result<Option<Change>, Memory>
-    requires { IsRaw raws.items }
-{
-    match Change::build(alloc, 1, raws) {
-        Ok(change) => Ok(Some(change)),
-        Err(fault) if fault.cause == Cause::Memory => Err(Memory),
-        Err(_) => Ok(None),
-    }
-}
 
 /// What the operations came to.
 const DONE: [OpDone; 6] = [
@@ -122,7 +70,7 @@ fn has_its_rows(alloc: Global, change: &Change) -> Result<bool, Memory> {
 }
 
 fn a_row_for_each_operation(alloc: Global) -> Result<bool, Memory> {
-    match built(alloc, raws(alloc)?)? {
+    match change(alloc, &OPERATIONS)? {
         Some(change) => has_its_rows(alloc, &change),
         None => Ok(false),
     }
@@ -153,14 +101,14 @@ fn is_given_back(change: Change) -> bool {
 }
 
 fn six_are_not_one(alloc: Global) -> Result<bool, Memory> {
-    match built(alloc, raws(alloc)?)? {
+    match change(alloc, &OPERATIONS)? {
         Some(six) => Ok(is_given_back(six)),
         None => Ok(false),
     }
 }
 
 fn one_is_one(alloc: Global) -> Result<bool, Memory> {
-    let Some(raw) = node(alloc, Action::Create, -7, 1) else {
+    let Some(raw) = raw_of(alloc, OPERATIONS[0]) else {
         return Ok(false);
     };
     match only(alloc, raw)? {
@@ -182,7 +130,7 @@ fn tagged(alloc: Global) -> Result<Option<RawOp>, Memory>
         id: -1,
         version: None,
         changeset: None,
-        content: content(Action::Create),
+        content: content(Action::Create, (5, 6)),
         tags,
     }))
 }

@@ -8,6 +8,7 @@ mod changes;
 mod commands;
 mod labels;
 mod loads;
+mod nodes;
 mod tables;
 mod texts;
 mod values;

@@ -223,6 +223,19 @@ fn of_changesets<R: Print>(rt: &R, alloc: Global, tally: &mut Tally) {
         409,
         r#"{"applied":1,"changeset":1,"count":10000,"error":"full","limit":10000}"#,
     );
+    let large = Refusal::BoxTooLarge {
+        area: 1_001_000,
+        changeset: 1,
+        limit: 1_000_000,
+    };
+    row(
+        rt,
+        alloc,
+        tally,
+        large,
+        413,
+        r#"{"area":1001000,"changeset":1,"error":"box_too_large","limit":1000000}"#,
+    );
     let closed = Refusal::Closed {
         changeset: 1,
         closed_at: Stamp(1_700_003_600),

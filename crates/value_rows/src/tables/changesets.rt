@@ -1,6 +1,6 @@
 //! A changeset, under promised room.
 use changeset_core::Changeset;
-use osm_base::{Coord, Key, Kind, Memory, Owner, Stamp, Text};
+use osm_base::{CHANGE_LIMIT, Coord, Key, Kind, Memory, Owner, Stamp, Text};
 use osm_element::Tags;
 use std::alloc::Global;
 
@@ -15,7 +15,7 @@ fn of_alice(alloc: Global) -> Result<Changeset, Memory> {
         name: Text::of(alloc, "alice")?,
     };
     let tags = Tags::none(alloc);
-    Ok(Changeset::new(alloc, 1, owner, tags, Stamp(1_700_000_000)))
+    Ok(Changeset::new(alloc, 1, owner, tags, Stamp(1_700_000_000), CHANGE_LIMIT))
 }
 
 /// Whether a changeset that is widened to a position touches it alone.
@@ -35,6 +35,7 @@ fn counts(changeset: &mut Changeset) -> Result<bool, Memory> {
     changeset.worked(NODE, 1);
     Ok(
         changeset.count() == 1
+            && changeset.limit() == 10_000
             && changeset.open_at(Stamp(1_700_003_599))
             && !changeset.open_at(Stamp(1_700_003_600))
             && touches(changeset, 5, 6),

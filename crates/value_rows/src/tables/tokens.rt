@@ -59,6 +59,112 @@ fn a_line_twice_is_a_double_id(alloc: Global) -> bool {
     fault == Some(UsersFault::DoubleId { line: 2 })
 }
 
+/// Users texts of one user, and the user's limit on the box of a changeset.
+const LIMITS: [(&str, &[u8], Option<u64>); 6] = [
+    ("a user without a limit", b"1 a user x\n", None),
+    ("a user's limit", b"1 a user/1000000 x\n", Some(1_000_000)),
+    ("a moderator's limit", b"1 a moderator/5 x\n", Some(5)),
+    ("a limit of 0", b"1 a moderator/0 x\n", Some(0)),
+    (
+        "a limit of nineteen digits",
+        b"1 a user/0000000000000000007 x\n",
+        Some(7),
+    ),
+    (
+        "the largest limit",
+        b"1 a user/9223372036854775807 x\n",
+        Some(9_223_372_036_854_775_807),
+    ),
+];
+
+fn first_has_limit(table: &UserTable, limit: Option<u64>) -> bool {
+    match table.who(Some(b"Bearer a")) {
+        Who::Known(place) => table.user(place).limit == limit,
+        _ => false,
+    }
+}
+
+fn has_limit(alloc: Global, text: &[u8], limit: Option<u64>) -> Result<bool, Memory> {
+    match UserTable::read(alloc, text) {
+        Ok(table) => Ok(first_has_limit(&table, limit)),
+        Err(UsersFault::Memory) => Err(Memory),
+        Err(_) => Ok(false),
+    }
+}
+
+/// Users texts, and the moment from which new changesets may be large.
+const MOMENTS: [(&str, &[u8], Option<u64>); 6] = [
+    ("a text without a moment", b"1 a user x\n", None),
+    (
+        "a moment behind the users",
+        b"1 a user x\n2 b user y\n@large-from 1700000000\n",
+        Some(1_700_000_000),
+    ),
+    (
+        "a moment before the users",
+        b"@large-from 0\r\n1 a user x\r\n",
+        Some(0),
+    ),
+    ("a moment in a comment", b"# @large-from 5\n", None),
+    (
+        "a moment between comments",
+        b"# the moment\n\n@large-from 5\n\n# the user\n1 a user x\n",
+        Some(5),
+    ),
+    (
+        "the last moment",
+        b"@large-from 0018446744073709551615",
+        Some(18_446_744_073_709_551_615),
+    ),
+];
+
+fn has_moment(alloc: Global, text: &[u8], moment: Option<u64>) -> Result<bool, Memory> {
+    match UserTable::read(alloc, text) {
+        Ok(table) => Ok(table.large_from() == moment),
+        Err(UsersFault::Memory) => Err(Memory),
+        Err(_) => Ok(false),
+    }
+}
+
+/// Users texts with a line that is no user and no moment, and its number.
+const BAD_LINES: [(&str, &[u8], u64); 15] = [
+    ("a slash without a limit", b"1 a user/ x\n", 1),
+    ("a limit with a sign", b"1 a user/+1 x\n", 1),
+    ("a limit with a letter", b"1 a user/1x x\n", 1),
+    ("a limit without a role", b"1 a /5 x\n", 1),
+    ("two limits", b"1 a user/5/5 x\n", 1),
+    ("a limit of 2^63", b"1 a user/9223372036854775808 x\n", 1),
+    (
+        "a limit of twenty digits",
+        b"1 a user/00000000000000000001 x\n",
+        1,
+    ),
+    (
+        "two moments",
+        b"@large-from 1\n1 a user x\n@large-from 1\n",
+        3,
+    ),
+    (
+        "a moment of 2^64",
+        b"#\n@large-from 18446744073709551616\n",
+        2,
+    ),
+    ("two spaces before a moment", b"@large-from  1\n", 1),
+    ("a moment with a sign", b"@large-from +1\n", 1),
+    ("a moment and a space", b"@large-from 1 \n", 1),
+    ("a moment that is missing", b"#\n\n@large-from\n", 3),
+    ("a setting without a name", b"@\n", 1),
+    ("another setting", b"1 a user x\n@small-from 1\n", 2),
+];
+
+fn is_bad_line(alloc: Global, text: &[u8], line: u64) -> Result<bool, Memory> {
+    match UserTable::read(alloc, text) {
+        Ok(_) => Ok(false),
+        Err(UsersFault::Memory) => Err(Memory),
+        Err(fault) => Ok(fault == UsersFault::Line { line }),
+    }
+}
+
 /// Users texts of one comment: how many bytes, and whether they are too many.
 const LENGTHS: [(&str, usize, bool); 2] = [
     ("a users text of 1,048,576 bytes", 1_048_576, false),
@@ -72,6 +178,18 @@ fn is_judged_by_length(alloc: Global, length: usize, long: bool) -> Result<bool,
         Ok(_) => Ok(!long),
         Err(UsersFault::Memory) => Err(Memory),
         Err(fault) => Ok(long && fault == UsersFault::Long),
+    }
+}
+
+fn play_settings<R: Print>(rt: &R, alloc: Global, tally: &mut Tally) {
+    for (name, text, limit) in &LIMITS {
+        tally.note(rt, name, has_limit(alloc, text, *limit));
+    }
+    for (name, text, moment) in &MOMENTS {
+        tally.note(rt, name, has_moment(alloc, text, *moment));
+    }
+    for (name, text, line) in &BAD_LINES {
+        tally.note(rt, name, is_bad_line(alloc, text, *line));
     }
 }
 
@@ -91,5 +209,6 @@ pub fn play<R: Print>(rt: &R, alloc: Global, tally: &mut Tally) {
         "a line twice is a double id",
         Ok(a_line_twice_is_a_double_id(alloc)),
     );
+    play_settings(rt, alloc, tally);
     play_lengths(rt, alloc, tally);
 }
