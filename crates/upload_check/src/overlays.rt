@@ -128,8 +128,8 @@ impl Overlay {
     }
 
     /// Enters an operation that makes a version of an element, counts the users of what it listed and
-    /// of what it lists, and joins the box of what it touches. All memory is taken before anything is
-    /// entered.
+    /// of what it lists, and joins the box of what it touches. Room for the key is taken before the
+    /// counts change, so that want of memory leaves what the overlay stands for.
     fn apply(
         &mut self,
         alloc: Global,

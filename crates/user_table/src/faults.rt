@@ -9,7 +9,7 @@ pub enum UsersFault {
     Long,
     /// The bytes aren't UTF-8.
     NotUtf8,
-    /// The line isn't `ID TOKEN ROLE NAME`.
+    /// The line is neither `ID TOKEN ROLE NAME` nor `@large-from SECONDS`.
     Line { line: u64 },
     /// A line before has the id.
     DoubleId { line: u64 },
