@@ -143,4 +143,9 @@ pub enum Refusal {
         limit: u64,
         nodes: u64,
     },
+    /// `last` is the number of the feed's last piece, and 0 where it has none.
+    NoPiece {
+        last: u64,
+        number: u64,
+    },
 }

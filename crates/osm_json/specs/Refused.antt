@@ -48,6 +48,7 @@ refusal_status (refusals.NoRedaction id) = 404
 refusal_status (refusals.RedactCurrent id k version) = 400
 refusal_status (refusals.MapArea area limit) = 400
 refusal_status (refusals.MapNodes limit nodes) = 400
+refusal_status (refusals.NoPiece last number) = 404
 
 -- ---- the name of the error
 
@@ -97,6 +98,7 @@ error_name (refusals.NoRedaction id) = codes "no_redaction"
 error_name (refusals.RedactCurrent id k version) = codes "redact_current"
 error_name (refusals.MapArea area limit) = codes "map_area"
 error_name (refusals.MapNodes limit nodes) = codes "map_nodes"
+error_name (refusals.NoPiece last number) = codes "no_piece"
 
 -- ---- the other members: those of before the error's, and those of behind it
 
@@ -128,7 +130,7 @@ of_request (refusals.Local fault op) = op_field op ∷ []
 of_request (refusals.OtherChangeset named op) = field (codes "named") (natural named) ∷ op_field op ∷ []
 of_request _ = []
 
--- of changesets, redactions and the map call
+-- of changesets, redactions, the map call and the feed
 unfoldable pub of_changeset : Refusal → List Field
 of_changeset (refusals.NoChangeset id) = field (codes "id") (natural id) ∷ []
 of_changeset (refusals.NotOwner changeset owner) = field (codes "owner") (natural owner) ∷ []
@@ -137,6 +139,7 @@ of_changeset (refusals.BoxTooLarge area changeset limit) = field (codes "limit")
 of_changeset (refusals.NoRedaction id) = field (codes "id") (natural id) ∷ []
 of_changeset (refusals.MapArea area limit) = field (codes "limit") (natural limit) ∷ []
 of_changeset (refusals.MapNodes limit nodes) = field (codes "limit") (natural limit) ∷ field (codes "nodes") (natural nodes) ∷ []
+of_changeset (refusals.NoPiece last number) = field (codes "last") (natural last) ∷ field (codes "number") (natural number) ∷ []
 of_changeset _ = []
 
 -- an element, as the client named it

@@ -67,6 +67,7 @@ fn error_name(fault: &Refusal) -> &'static str
         Refusal::RedactCurrent { .. } => "redact_current",
         Refusal::MapArea { .. } => "map_area",
         Refusal::MapNodes { .. } => "map_nodes",
+        Refusal::NoPiece { .. } => "no_piece",
     }
 }
 
@@ -151,7 +152,7 @@ fn of_request(out: &mut Writer, fault: &Refusal) -> Result<(), AllocError>
     }
 }
 
-/// What a refusal of a changeset, a redaction or a map call says.
+/// What a refusal of a changeset, a redaction, a map call or the feed says.
 #[tactic(auto, unfolding(crate::specs::Refused::of_changeset))]
 fn of_changeset(out: &mut Writer, fault: &Refusal) -> Result<(), AllocError>
     ensures { SendsFields result out.old out.new (fields_of_changeset fault.now) }
@@ -168,6 +169,13 @@ fn of_changeset(out: &mut Writer, fault: &Refusal) -> Result<(), AllocError>
             &[
                 ("limit", Shown::Natural(*limit)),
                 ("nodes", Shown::Natural(*nodes)),
+            ],
+        ),
+        Refusal::NoPiece { last, number } => members(
+            out,
+            &[
+                ("last", Shown::Natural(*last)),
+                ("number", Shown::Natural(*number)),
             ],
         ),
         _ => Ok(()),

@@ -32,7 +32,8 @@ fn refusal_status(fault: &Refusal) -> u16
         | Refusal::NoChangeset { .. }
         | Refusal::NoElement { .. }
         | Refusal::NoSuchVersion { .. }
-        | Refusal::NoRedaction { .. } => 404,
+        | Refusal::NoRedaction { .. }
+        | Refusal::NoPiece { .. } => 404,
         Refusal::WrongMethod => 405,
         Refusal::OtherChangeset { .. }
         | Refusal::NotOwner { .. }

@@ -164,5 +164,9 @@ pub fn copy_refusal(alloc: Global, refusal: &Refusal) -> Result<Refusal, Memory>
             limit: *limit,
             nodes: *nodes,
         },
+        Refusal::NoPiece { last, number } => Refusal::NoPiece {
+            last: *last,
+            number: *number,
+        },
     })
 }

@@ -278,6 +278,14 @@ fn of_maps_and_redactions<R: Print>(rt: &R, alloc: Global, tally: &mut Tally) {
         rt,
         alloc,
         tally,
+        Refusal::NoPiece { last: 2, number: 3 },
+        404,
+        r#"{"error":"no_piece","last":2,"number":3}"#,
+    );
+    row(
+        rt,
+        alloc,
+        tally,
         Refusal::NoRedaction { id: 2 },
         404,
         r#"{"error":"no_redaction","id":2}"#,
