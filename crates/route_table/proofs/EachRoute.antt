@@ -60,6 +60,8 @@ targets =
     ∷ codes "nodes?nodes=5,1,5"
     ∷ codes "ways?ways=5,1,5"
     ∷ codes "relations?relations=5,1,5"
+    ∷ codes "replication/state"
+    ∷ codes "replication/2"
     ∷ []
 
 get :
@@ -96,6 +98,8 @@ get :
     ∷ Ok (call.Many Node (5 ∷ 1 ∷ 5 ∷ []))
     ∷ Ok (call.Many Way (5 ∷ 1 ∷ 5 ∷ []))
     ∷ Ok (call.Many Relation (5 ∷ 1 ∷ 5 ∷ []))
+    ∷ Ok call.FeedState
+    ∷ Ok (call.FeedPiece 2)
     ∷ []
 unfolding matchit_on_literals percent_encoding_on_literals area_of method_of paths routes call_at call_of
 get = refl
@@ -124,6 +128,8 @@ put :
     ∷ Err WrongMethod
     ∷ Ok (call.CreateSingle Relation)
     ∷ Ok (call.ModifySingle (key Relation 12))
+    ∷ Err WrongMethod
+    ∷ Err WrongMethod
     ∷ Err WrongMethod
     ∷ Err WrongMethod
     ∷ Err WrongMethod
@@ -172,6 +178,8 @@ post :
     ∷ Err WrongMethod
     ∷ Err WrongMethod
     ∷ Err WrongMethod
+    ∷ Err WrongMethod
+    ∷ Err WrongMethod
     ∷ []
 unfolding matchit_on_literals percent_encoding_on_literals area_of method_of paths routes call_at call_of
 post = refl
@@ -210,6 +218,8 @@ delete :
     ∷ Err WrongMethod
     ∷ Err WrongMethod
     ∷ Err WrongMethod
+    ∷ Err WrongMethod
+    ∷ Err WrongMethod
     ∷ []
 unfolding matchit_on_literals percent_encoding_on_literals area_of method_of paths routes call_at call_of
 delete = refl
@@ -217,6 +227,8 @@ delete = refl
 patch :
     calls_of (codes "PATCH") targets
     ≡ Err WrongMethod
+    ∷ Err WrongMethod
+    ∷ Err WrongMethod
     ∷ Err WrongMethod
     ∷ Err WrongMethod
     ∷ Err WrongMethod

@@ -57,6 +57,10 @@ unknown_word : HasNoPath (codes "/api/0.6/trackpoints")
 unfolding quick matchit_on_literals paths routes
 unknown_word = nowhere (codes "/api/0.6/trackpoints") (codes "/api/0.6/trackpoints") refl refl
 
+no_number : HasNoPath (codes "/api/0.6/replication")
+unfolding quick matchit_on_literals paths routes
+no_number = nowhere (codes "/api/0.6/replication") (codes "/api/0.6/replication") refl refl
+
 unknown_part : HasNoPath (codes "/api/0.6/changeset/7/open")
 unfolding quick matchit_on_literals paths routes
 unknown_part = nowhere (codes "/api/0.6/changeset/7/open") (codes "/api/0.6/changeset/7/open") refl refl

@@ -13,7 +13,7 @@ use Rattle.route_table.specs.Methods.{method_of}
 use Rattle.route_table.specs.Paths.{Path, paths, routes, with_path}
 use Rattle.route_table.specs.Parameters.{parameter_of}
 use Rattle.route_table.specs.Calls.{call_at, call_of}
-use Rattle.route_table.specs.declared.faults.RouteFault.TheVariants.{BadParameter}
+use Rattle.route_table.specs.declared.faults.RouteFault.TheVariants.{BadNumber, BadParameter}
 
 escaped : parameter_of (codes "/api/0.6/notes?closed=%74rue&closed=x") (codes "closed") ≡ Some (codes "true")
 unfolding percent_encoding_on_literals
@@ -26,6 +26,15 @@ no_query = refl
 map_without_box : call_of (codes "GET") (codes "/api/0.6/map") ≡ Err (BadParameter (codes "bbox"))
 unfolding matchit_on_literals percent_encoding_on_literals area_of method_of paths routes call_at call_of
 map_without_box = refl
+
+-- pieces count from 1, and other words are no numbers
+piece_0 : call_of (codes "GET") (codes "/api/0.6/replication/0") ≡ Err BadNumber
+unfolding matchit_on_literals percent_encoding_on_literals area_of method_of paths routes call_at call_of
+piece_0 = refl
+
+piece_of_a_word : call_of (codes "GET") (codes "/api/0.6/replication/states") ≡ Err BadNumber
+unfolding matchit_on_literals percent_encoding_on_literals area_of method_of paths routes call_at call_of
+piece_of_a_word = refl
 
 -- each path reads well and conflicts with none before it, so only want of memory keeps it out
 goes_in : RowsOf (RouteOf Resource) → List Path → Bool

@@ -15,7 +15,7 @@ use Rattle.route_table.specs.Parameters.{optional, needed, flag, area_in, ids_in
 use Rattle.route_table.specs.declared.methods.Method.{Method}
 use Rattle.route_table.specs.declared.methods.Method.TheVariants.{Get, Put, Post, Delete}
 use Rattle.route_table.specs.declared.resources.Resource.{Resource}
-use Rattle.route_table.specs.declared.resources.Resource.TheVariants.{NewChangeset, Changeset, ChangesetClosing, ChangesetUpload, ChangesetDownload, Changesets, Map, Redactions, NewElement, Element, History, Version, VersionRedaction, Relations, NodeWays, Full, Elements}
+use Rattle.route_table.specs.declared.resources.Resource.TheVariants.{NewChangeset, Changeset, ChangesetClosing, ChangesetUpload, ChangesetDownload, Changesets, Map, Redactions, NewElement, Element, History, Version, VersionRedaction, Relations, NodeWays, Full, Elements, FeedState, FeedPiece}
 use Rattle.route_table.specs.declared.calls.Call.{Call}
 use Rattle.route_table.specs.declared.calls.Call.TheVariants as call
 use Rattle.route_table.specs.declared.faults.RouteFault.{RouteFault}
@@ -100,6 +100,8 @@ call_at (Relations kind) Get d = key_in kind d >>= λ key. Ok (call.RelationsOf 
 call_at NodeWays Get d = id_in d >>= λ id. Ok (call.WaysOf id)
 call_at (Full kind) Get d = key_in kind d >>= λ key. Ok (call.Full key)
 call_at (Elements kind) Get d = many kind d
+call_at FeedState Get d = Ok call.FeedState
+call_at FeedPiece Get d = id_in d >>= λ number. Ok (call.FeedPiece number)
 call_at _ _ _ = Err fault.WrongMethod
 
 -- the call of a request line, or the first cause for which there is none
@@ -116,7 +118,7 @@ call_of method target = do
 abbrev pub IsPathNumber : ℕ → Type 0
 IsPathNumber n = (1 ≤ n) × (n < 2 ^ 63)
 
--- the ids and versions that a path gave
+-- the ids, versions and numbers of pieces that a path gave
 abbrev pub HasPathNumbers : Call → Type 0
 HasPathNumbers (call.Changeset id) = IsPathNumber id
 HasPathNumbers (call.Retag id) = IsPathNumber id
@@ -132,6 +134,7 @@ HasPathNumbers (call.Redact key version redaction) = IsPathNumber key.id × IsPa
 HasPathNumbers (call.RelationsOf key) = IsPathNumber key.id
 HasPathNumbers (call.WaysOf id) = IsPathNumber id
 HasPathNumbers (call.Full key) = IsPathNumber key.id
+HasPathNumbers (call.FeedPiece number) = IsPathNumber number
 HasPathNumbers _ = ⊤
 
 -- ---- memory: none is taken for a call without parameters

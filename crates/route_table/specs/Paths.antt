@@ -10,7 +10,7 @@ use Rattle.matchit.specs.declared.error.InsertError.{InsertError}
 use Rattle.osm_base.specs.declared.keys.Kind.{Kind}
 use Rattle.osm_base.specs.declared.keys.Kind.TheVariants.{Node, Way, Relation}
 use Rattle.route_table.specs.declared.resources.Resource.{Resource}
-use Rattle.route_table.specs.declared.resources.Resource.TheVariants.{NewChangeset, Changeset, ChangesetClosing, ChangesetUpload, ChangesetDownload, Changesets, Map, Redactions, NewElement, Element, History, Version, VersionRedaction, Relations, NodeWays, Full, Elements}
+use Rattle.route_table.specs.declared.resources.Resource.TheVariants.{NewChangeset, Changeset, ChangesetClosing, ChangesetUpload, ChangesetDownload, Changesets, Map, Redactions, NewElement, Element, History, Version, VersionRedaction, Relations, NodeWays, Full, Elements, FeedState, FeedPiece}
 
 abbrev pub Path : Type 0
 Path = List ℕ × Resource
@@ -50,11 +50,15 @@ further_paths =
     ∷ at_root (codes "relations") (Elements Relation)
     ∷ []
 
+-- the feed of the journal's entries
+abbrev pub feed_paths : List Path
+feed_paths = at_root (codes "replication/state") FeedState ∷ at_root (codes "replication/{id}") FeedPiece ∷ []
+
 -- each path with what it is a path of
 unfoldable pub paths : List Path
 paths =
     changeset_paths ++ paths_of_kind (codes "node") Node ++ paths_of_kind (codes "way") Way ++ paths_of_kind (codes "relation") Relation
-    ++ further_paths
+    ++ further_paths ++ feed_paths
 
 -- ---- the search of `matchit` over them
 

@@ -82,6 +82,12 @@ pub enum Call {
         kind: Kind,
         ids: Ids,
     },
+    /// How far the feed goes.
+    FeedState,
+    /// The piece of the feed with this number.
+    FeedPiece {
+        number: u64,
+    },
 }
 
 /// The call of a resource by a method.
@@ -127,6 +133,10 @@ fn get_call(alloc: Global, resource: Resource, details: &Details<'_>) -> Result<
             key: details.key(kind)?,
         }),
         Resource::Elements(kind) => many(alloc, kind, details),
+        Resource::FeedState => Ok(Call::FeedState),
+        Resource::FeedPiece => Ok(Call::FeedPiece {
+            number: details.id()?,
+        }),
         _ => Err(RouteFault::WrongMethod),
     }
 }

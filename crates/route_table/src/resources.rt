@@ -24,10 +24,12 @@ pub enum Resource {
     NodeWays,
     Full(Kind),
     Elements(Kind),
+    FeedState,
+    FeedPiece,
 }
 
 /// Each path with what it is a path of. A braced part stands for one byte or more without `/`.
-const PATHS: [(&str, Resource); 32] = [
+const PATHS: [(&str, Resource); 34] = [
     ("/api/0.6/changeset/create", Resource::NewChangeset),
     ("/api/0.6/changeset/{id}", Resource::Changeset),
     ("/api/0.6/changeset/{id}/close", Resource::ChangesetClosing),
@@ -96,6 +98,8 @@ const PATHS: [(&str, Resource); 32] = [
     ("/api/0.6/nodes", Resource::Elements(Kind::Node)),
     ("/api/0.6/ways", Resource::Elements(Kind::Way)),
     ("/api/0.6/relations", Resource::Elements(Kind::Relation)),
+    ("/api/0.6/replication/state", Resource::FeedState),
+    ("/api/0.6/replication/{id}", Resource::FeedPiece),
 ];
 
 /// Each path of the table with its resource.
