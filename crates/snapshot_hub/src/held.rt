@@ -1,5 +1,5 @@
 //! What lies under the hub's lock, and the steps that are made there.
-ghost use Rattle.std.specs.Prelude.{◌≡◌, ℕ, ◌⊎◌, ◌+◌, ◌≤◌, ◌<◌, ◌^◌, true, false, [], length, IfOk, OnOk, OnErr, IfSome, List, Option, IsTrue, ◌↔◌, slice_get};
+ghost use Rattle.std.specs.Prelude.{◌≡◌, ℕ, ◌⊎◌, ◌+◌, ◌≤◌, ◌<◌, ◌^◌, true, false, [], length, IfOk, OnOk, OnErr, IfSome, List, Option, IsTrue, ◌↔◌, slice_get, take, drop};
 ghost use mathlib.Core.List.{IsPrefix};
 ghost use Rattle.machine_law.specs.Rules.{replay, is_legal};
 ghost use Rattle.hub_core.specs.Core.{tagged};
@@ -241,4 +241,49 @@ pub fn freshen<N: HubName, M: Machine, S: Snapshot<N, M>, R: Wait + Drop>(
     let calls = session.calls();
     session.standing.catch_up(held.press.front().again(), calls);
     Ok(())
+}
+
+/// Publishes the journal as `freshen` does, and copies its entries from this place on, counted from
+/// 0: at most so many, and fewer where the journal ends. The copies come first, so `Memory` leaves
+/// all as it was.
+pub fn part<N: HubName, M: Machine, S: Snapshot<N, M>, R: Wait + Drop>(
+    held: &mut Held<N, M, S, R>,
+    session: &mut Session<N, M, S>,
+    from: u64,
+    count: u64,
+) -> Result<Vec<M::Entry>, Memory>
+    requires seen { length session.old.front ≤ length held.old.journal }
+    requires calls { session.old.calls ≡ calls_of M.rules.tag_of session.old.number held.old.journal }
+    ensures part { IfOk result (λ part. part.items ≡ take count (drop from held.new.journal)) }
+    ensures begins { IsPrefix session.old.front held.old.journal }
+    ensures front { IsPrefix session.old.front session.new.front }
+    ensures journal { held.new.journal ≡ held.old.journal }
+    ensures ok { OnOk result ((session.new ≡ caught_up session.old held.new.journal session.old.calls)
+        × (held.new.published ≡ held.new.journal)) }
+    ensures err { OnErr result ((held.new ≡ held.old) × (session.new ≡ session.old)) }
+{
+    let _begins = session.standing.front().begins(held.press.front());
+    let part = copied::<M>(session.alloc, part_of(held.journal(), from, count))?;
+    freshen(held, session)?;
+    Ok(part)
+}
+
+// The entries from a place on, at most so many.
+#[tactic(auto, using(std::proofs::lemmas::List::drop_min, std::proofs::lemmas::List::take_min))]
+fn part_of<E>(entries: &[E], from: u64, count: u64) -> &[E]
+    ensures { result.now ≡ take count (drop from entries.now) }
+{
+    let rest = &entries[(from as usize).min(entries.len())..];
+    &rest[..(count as usize).min(rest.len())]
+}
+
+// Copies of entries, in their order.
+fn copied<M: Machine>(alloc: Global, entries: &[M::Entry]) -> Result<Vec<M::Entry>, Memory>
+    ensures { IfOk result (λ made. made.items ≡ entries.now) }
+{
+    let mut made = Vec::with_capacity(alloc, entries.len())?;
+    for entry in entries {
+        made.push(M::copy(alloc, entry)?)?;
+    }
+    Ok(made)
 }

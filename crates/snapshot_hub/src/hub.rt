@@ -1,5 +1,5 @@
 //! The held value under its lock.
-ghost use Rattle.std.specs.Prelude.{◌≡◌, ℕ, ◌⊎◌, ◌+◌, ◌≤◌, ◌<◌, [], Some, false, true, length, List, IfOk, OnOk, OnErr, IfSome, slice_get};
+ghost use Rattle.std.specs.Prelude.{◌≡◌, ℕ, ◌⊎◌, ◌+◌, ◌≤◌, ◌<◌, [], Some, false, true, length, List, IfOk, OnOk, OnErr, IfSome, slice_get, take, drop};
 ghost use Rattle.std.specs.Sync.Mutex.{mutex_guard_value};
 ghost use mathlib.Core.List.{IsPrefix};
 ghost use Rattle.hub_core.specs.Journal.{calls_of, IsMadeBefore};
@@ -153,6 +153,25 @@ impl<N: HubName, M: Machine, S: Snapshot<N, M>, G: Gate + Drop, R: Wait + Drop> 
     {
         let mut held = self.lock_for(rt, session);
         held::freshen(&mut held, session)
+    }
+
+    /// Freshens the session, and copies the entries of its front from this place on, counted from 0:
+    /// at most so many, and fewer where the front ends. Only these are copied while the lock is held.
+    pub fn part<W: Wait>(
+        &self,
+        rt: &W,
+        session: &mut Session<N, M, S>,
+        from: u64,
+        count: u64,
+    ) -> Result<Vec<M::Entry>, Memory>
+        ensures part { IfOk result (λ part. part.items ≡ take count (drop from session.new.front)) }
+        ensures begins { IsPrefix session.old.front session.new.front }
+        ensures ok { OnOk result (session.new ≡ caught_up session.old session.new.front session.old.calls) }
+        ensures calls { OnOk result (session.old.calls ≡ calls_of M.rules.tag_of session.old.number session.new.front) }
+        ensures err { OnErr result (session.new ≡ session.old) }
+    {
+        let mut held = self.lock_for(rt, session);
+        held::part(&mut held, session, from, count)
     }
 
     /// Publishes what a session owes. It owes nothing then, and has seen the journal.

@@ -20,7 +20,7 @@ use std::sync::ledger::Ledger;
 /// It asks and plans on the copy that is published, and waits for nobody.
 #[derive(Drop)]
 pub struct Session<N: HubName, M: Machine, S: Snapshot<N, M>> {
-    alloc: Global,
+    pub(crate) alloc: Global,
     reader: ReadHandle<S>,
     pub(crate) standing: Standing<N, M>,
 }

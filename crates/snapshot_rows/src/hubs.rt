@@ -90,6 +90,19 @@ pub fn reads<N: HubName, R: Wait + Drop, L: Ledger>(
     Ok(bytes.as_slice().first().copied() == number)
 }
 
+/// Whether a part of the journal has these entries.
+pub fn has_part<N: HubName, R: Wait + Drop, W: Wait>(
+    rt: &W,
+    hub: &ListHub<N, R>,
+    session: &mut ListSession<N>,
+    from: u64,
+    count: u64,
+    wanted: &[Noted],
+) -> Result<bool, Memory> {
+    let part = hub.part(rt, session, from, count)?;
+    Ok(part.as_slice() == wanted)
+}
+
 /// The entry of a session's call.
 pub fn noted(session: u32, call: u64, number: u64, lack: Lack) -> Noted {
     Noted {

@@ -4,7 +4,7 @@ ghost use Rattle.std.specs.Prelude.{◌≡◌, ◌<◌};
 use crate::books::a_lack_leaves_book_and_outlet;
 use crate::lacks::{a_lack_changes_nothing, a_lack_in_publishing_is_a_debt};
 use crate::sessions::{
-    a_new_hub_is_settled, a_plan_stands_no_longer, a_refused_command_is_no_call,
+    a_new_hub_is_settled, a_part_is_copied, a_plan_stands_no_longer, a_refused_command_is_no_call,
     a_session_ends_twice, freshening_shows_a_commit,
 };
 use crate::threads::two_threads_add;
@@ -31,6 +31,8 @@ pub fn play_all<L: Ledger, R: Threads + Wait + Sync + Print>(
     let mut steps = Steps::of(ledger, share);
     let shown = freshening_shows_a_commit::<Brand, R, L>(rt, alloc, Seats::new(2), &mut steps);
     tally.note(rt, "freshening shows a commit", shown);
+    let part = a_part_is_copied::<Brand, R, L>(rt, alloc, Seats::new(2), &mut steps);
+    tally.note(rt, "a part is copied", part);
     let settled = a_new_hub_is_settled::<Brand, R>(rt, alloc, Seats::new(2));
     tally.note(rt, "a new hub is settled", settled);
     let slow = a_plan_stands_no_longer::<Brand, R, L>(rt, alloc, Seats::new(2), &mut steps);

@@ -1,7 +1,7 @@
 //! Rows of one or two sessions on one thread.
 ghost use Rattle.std.specs.Prelude.{◌≡◌, false};
 
-use crate::hubs::{Given, ListHub, add, at, noted, reads, standing_of};
+use crate::hubs::{Given, ListHub, add, at, has_part, noted, reads, standing_of};
 use crate::listing::{Lack, Noted, Wish};
 use hub_core::Path;
 use osm_base::{Memory, Steps};
@@ -36,6 +36,36 @@ pub fn freshening_shows_a_commit<N: HubName, R: Wait, L: Ledger>(
     right &= first.begins(second) && second.begins(first);
     right &= reads(&hub, first, 0, Some(7), steps)? && reads(&hub, second, 0, Some(7), steps)?;
     Ok(right && reads(&hub, second, 1, None, steps)?)
+}
+
+/// A part of the journal begins at its place, has no more entries than were asked for, and ends with
+/// the journal, of which the session has seen all then.
+pub fn a_part_is_copied<N: HubName, R: Wait, L: Ledger>(
+    rt: &R,
+    alloc: Global,
+    seats: Seats<Noted>,
+    steps: &mut Steps<L>,
+) -> Result<bool, Memory>
+    requires named { seats.opened ≡ N.book }
+    requires seated { seats.sessions ≡ N.sessions }
+{
+    let (hub, mut sessions) = ListHub::<N, &R>::new(alloc, rt, seats, NoGate)?;
+    let Some((first, rest)) = sessions.split_first_mut() else {
+        return Ok(false);
+    };
+    let Some(second) = rest.first_mut() else {
+        return Ok(false);
+    };
+    add(rt, &hub, first, 3, Lack::Nothing, steps)?;
+    add(rt, &hub, first, 4, Lack::Nothing, steps)?;
+    let all = [noted(0, 1, 3, Lack::Nothing), noted(0, 2, 4, Lack::Nothing)];
+    let mut right = has_part(rt, &hub, second, 1, 1, &all[1..])?;
+    right &= standing_of(&hub, second) == at(2, 0);
+    right &= has_part(rt, &hub, second, 0, 1, &all[..1])?;
+    right &= has_part(rt, &hub, second, 0, u64::MAX, all.as_slice())?;
+    right &= has_part(rt, &hub, second, 2, 1, &[])?
+        && has_part(rt, &hub, second, u64::MAX, 1, &[])?;
+    Ok(right && has_part(rt, &hub, second, 0, 0, &[])?)
 }
 
 /// A session of a new hub owes nothing, and settling changes nothing.

@@ -3,6 +3,9 @@ use Rattle.snapshot_rows.proofs.play.play_all.Given as goal
 abbrev pub ghosts-freshening_shows_a_commit : goal.ghosts-freshening_shows_a_commit
 ghosts-freshening_shows_a_commit g a = record { book = a.seats.opened; sessions = a.seats.sessions }
 
+abbrev pub ghosts-a_part_is_copied : goal.ghosts-a_part_is_copied
+ghosts-a_part_is_copied g a = record { book = a.seats.opened; sessions = a.seats.sessions }
+
 abbrev pub ghosts-a_new_hub_is_settled : goal.ghosts-a_new_hub_is_settled
 ghosts-a_new_hub_is_settled g a = record { book = a.seats.opened; sessions = a.seats.sessions }
 
