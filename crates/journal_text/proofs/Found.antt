@@ -27,3 +27,7 @@ found_is (Err NotLine) found e h is = let clash : Some e ≡ None = sym is ∙ h
 -- an entry that is read so has this line
 pub read_is : (result : Result Entry LineFault) (x e : Entry) → result ≡ Ok x → IsEntryRead result e → x ≡ e
 read_is result x e is h = subst (λ r. IsEntryRead r e) is h
+
+-- one reading has one entry
+pub same_read : (e other : Entry) → ◌≡◌ {A = Parsed Entry} (Some (e, [])) (Some (other, [])) → e ≡ other
+same_read e other same = let both : Some e ≡ Some other = ap alone same in cc

@@ -21,7 +21,7 @@ numbered_last before (x ∷ es) e more numbered =
     ∙ ap (λ (xs : List Entry). calls_of e.session xs + 1) (append_assoc before (x ∷ []) es)
 
 -- the last of a legal list may follow those before it
-follows_last : (es : List Entry) (e : Entry) → IsLegal (es ++ e ∷ []) → may_follow es e ≡ true
+pub follows_last : (es : List Entry) (e : Entry) → IsLegal (es ++ e ∷ []) → may_follow es e ≡ true
 follows_last es e legal =
     and_from (takes (replay es) e) (e.call == calls_of e.session es + 1) (taken_last empty es e [] legal.taken) (eq-eqb e.call (calls_of e.session es + 1) (numbered_last [] es e [] legal.numbered))
 

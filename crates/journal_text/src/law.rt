@@ -1,8 +1,11 @@
 //! Laws on texts that are read line by line.
-ghost use Rattle.std.specs.Prelude.{◌≡◌, ◌+◌, ℕ, List, [], ◌∷◌, ◌++◌, length, All, None, Some};
+ghost use Rattle.std.specs.Prelude.{◌≡◌, ◌+◌, ℕ, true, List, [], ◌∷◌, ◌++◌, length, All, None, Some};
 ghost use Rattle.osm_base.specs.Parts.{parted};
+ghost use Rattle.osm_model.specs.Journal.{IsLegal};
 ghost use Rattle.osm_model.specs.declared.commands.Entry.{Entry};
 ghost use Rattle.journal_text.specs.Faults.{BeginsWithLine};
+ghost use Rattle.journal_text.specs.Kept.{may_follow};
+ghost use Rattle.journal_text.specs.Line.{line, IsEntry};
 ghost use Rattle.journal_text.specs.Lines.{Follows, FollowsAlone, IsLineFault, IsLinesFault, IsRefused, Reads};
 ghost use Rattle.journal_text.specs.Text.{lines};
 ghost use Rattle.journal_text.specs.Version.{IsEntryIn};
@@ -10,7 +13,26 @@ ghost use Rattle.journal_text.specs.declared.faults.JournalFault.{JournalFault};
 ghost use Rattle.journal_text.specs.declared.faults.JournalFault.TheVariants.{Line};
 ghost use Rattle.journal_text.specs.declared.versions.Version.{Version};
 
-use osm_json::{parts_are_read_again, texts_are_read_again};
+use osm_change::changes_are_read_again;
+use osm_json::{parts_are_read_again, texts_are_read_again, values_are_read_again};
+
+/// A legal journal stays legal with exactly those entries behind it that may follow it, and each
+/// beginning of it is legal.
+pub fn legal_journals_grow()
+    ensures more { (journal : List Entry) (entry : Entry) → IsLegal journal → may_follow journal entry ≡ true → IsLegal (journal ++ entry ∷ []) }
+    ensures follows { (journal : List Entry) (entry : Entry) → IsLegal (journal ++ entry ∷ []) → may_follow journal entry ≡ true }
+    ensures front { (journal more : List Entry) → IsLegal (journal ++ more) → IsLegal journal }
+{}
+
+/// Entries that have the same line are the same.
+pub fn lines_tell_entries()
+    ensures { (entry other : Entry) → IsEntry entry → IsEntry other → line entry ≡ line other → entry ≡ other }
+{
+    texts_are_read_again();
+    parts_are_read_again();
+    values_are_read_again();
+    changes_are_read_again();
+}
 
 /// Lines that are cut from a text and read one after another are the lines of that text: what is
 /// kept at its end is its journal, and the fault of a line, or of a rest that no byte 10 ends, is the
