@@ -1,0 +1,5 @@
+mod Digits
+mod Numbered
+mod Decimals
+mod Replayed
+mod Vectors
