@@ -1,17 +1,17 @@
 -- Rows on a session's front of their time are rows on its front at the end.
-use Rattle.std.proofs.Common.{◌≡◌, ℕ, ◌≤◌, ⊎_elim, List, [], ◌∷◌, ◌++◌, length, refl, sym, ap, ◌∙◌, subst, arith, length-append, Option}
+use Rattle.std.proofs.Common.{◌≡◌, ℕ, ◌≤◌, List, [], ◌∷◌, ◌++◌, length, refl, sym, ◌∙◌, subst, arith, length-append}
 use mathlib.Core.List.{IsPrefix}
-use Rattle.osm_change.specs.declared.answers.Answer.{Answer}
-use Rattle.osm_model.specs.Answered.{Request, refused, does, reads, Place, SessionRow, IsRow, IsAnswered}
+use Rattle.osm_model.specs.Answered.{Place}
 use Rattle.osm_model.specs.declared.commands.Entry.{Entry}
 use Rattle.http_link.specs.Exchange.{Exchange, Chain}
 use Rattle.user_table.specs.Users.{Users}
 use Rattle.snapshot_hub.specs.Known.{Known}
 use Rattle.api_desk.specs.Request.{request_of}
+use Rattle.api_desk.specs.Answered.{SessionRow, IsRow, IsAnswered}
 use Rattle.api_desk.specs.Answers.{AllTell, AreAnswered}
 use Rattle.api_desk.specs.HubDesk.{AtDesk, Allows, HasServed, stands_at}
 use Rattle.api_desk.proofs.Fronts.{prefix_self, prefix_trans}
-use Rattle.api_desk.proofs.Rows.{row-append}
+use Rattle.api_desk.proofs.Answered.{goes_on, row-longer}
 
 -- ---- rows
 
@@ -20,31 +20,17 @@ pub answered-append : (F : List Entry) (s : ℕ) (before mid after : Place) (fir
 answered-append F s before mid after [] second h k = subst (λ (p : Place). IsAnswered F s p second after) h.0 k
 answered-append F s before mid after (a ∷ first) second h k = (h.0, h.1, answered-append F s h.0 mid after first second h.2 k)
 
--- the points never go back
-row_later : (F : List Entry) (s : ℕ) (before after : Place) (q : Request) (m : ℕ) (reply : Option Answer) → IsRow F s before q m reply after → before.point ≤ after.point
-row_later F s before after (refused r) m reply row =
-    ⊎_elim (λ refuses. omega (arith, ap (λ (p : Place). p.point) refuses.stays)) (λ lacks. omega (arith, ap (λ (p : Place). p.point) lacks.stays)) row
-row_later F s before after (does user c) m reply row =
-    ⊎_elim
-    (λ refuses. refuses.later)
-    (λ other. ⊎_elim
-    (λ accepts. omega (arith, accepts.later, ap (λ (p : Place). p.point) accepts.comes_to))
-    (λ rest. ⊎_elim (λ lacks. omega (arith, ap (λ (p : Place). p.point) lacks.stays)) (λ owed. omega (arith, owed.point)) rest)
-    other)
-    row
-row_later F s before after (reads q) m reply row = ⊎_elim (λ answers. answers.later) (λ lacks. omega (arith, ap (λ (p : Place). p.point) lacks.stays)) row
-
 within : (F : List Entry) (s : ℕ) (before after : Place) (asked : List SessionRow) → IsAnswered F s before asked after → before.point ≤ length F
 within F s before after [] h = h.1
 within F s before after (a ∷ asked) h =
-    omega (arith, row_later F s before h.0 a.request a.moment a.reply h.1, within F s h.0 after asked h.2)
+    omega (arith, goes_on F s before h.0 a.request a.moment a.reply h.1, within F s h.0 after asked h.2)
 
 pub answered-longer : (F more : List Entry) (s : ℕ) (before after : Place) (asked : List SessionRow)
     → IsAnswered F s before asked after → IsAnswered (F ++ more) s before asked after
 answered-longer F more s before after [] h = (h.0, omega (arith, h.1, length-append F more))
 answered-longer F more s before after (a ∷ asked) h = (
   h.0,
-  row-append F more s before h.0 a.request a.moment a.reply (within F s h.0 after asked h.2) h.1,
+  row-longer F more s before h.0 a.request a.moment a.reply (within F s h.0 after asked h.2) h.1,
   answered-longer F more s h.0 after asked h.2,
 )
 
@@ -76,7 +62,7 @@ one_more old mid new e es point le allowed more =
     subst (λ (n : ℕ). AreAnswered old.users n new.known.front (stands_at mid.known step.0) es (stands_at new.known served.last)) allowed.replies.number served.answered in
     let row : IsRow new.known.front old.known.number (stands_at old.known point) (request_of old.users e.message) e.moment told.answer (stands_at mid.known step.0) =
     subst (λ (F : List Entry). IsRow F old.known.number (stands_at old.known point) (request_of old.users e.message) e.moment told.answer (stands_at mid.known step.0)) served.begins.1
-    (row-append mid.known.front served.begins.0 old.known.number (stands_at old.known point) (stands_at mid.known step.0) (request_of old.users e.message) e.moment told.answer step.1 told.row) in (
+    (row-longer mid.known.front served.begins.0 old.known.number (stands_at old.known point) (stands_at mid.known step.0) (request_of old.users e.message) e.moment told.answer step.1 told.row) in (
       rest.0 ∙ allowed.users,
       record {
         number = served.number ∙ allowed.replies.number;

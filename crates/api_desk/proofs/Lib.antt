@@ -2,7 +2,10 @@ pub mod Fronts
 pub mod Journals
 pub mod ReplyBytes
 pub mod Rows
+pub mod Answered
 pub mod Replies
+pub mod Feeds
+pub mod FeedAlone
 pub mod Sessions
 pub mod MachineRows
 pub mod HubReplies

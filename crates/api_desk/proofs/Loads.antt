@@ -2,7 +2,7 @@
 use Rattle.std.proofs.Common.{◌≡◌, ℕ, List, [], ◌∷◌, ◌++◌, Some, Result, Ok, Err, refl, sym, ap, subst, ◌∙◌, inr, append_assoc}
 use Rattle.std.specs.Prelude.{MatchResult}
 use Rattle.std.proofs.lemmas.List.{append-nil}
-use Rattle.osm_model.specs.Answered.{Request, refused, reads}
+use Rattle.osm_model.specs.Answered.{refused, reads}
 use Rattle.osm_model.specs.declared.queries.Query.{Query}
 use Rattle.osm_change.specs.declared.refusals.Refusal.{Refusal}
 use Rattle.hub_core.specs.declared.events.Event.{Event}
@@ -10,7 +10,8 @@ use Rattle.http_wire.specs.declared.message.Message.{Message}
 use Rattle.user_table.specs.Users.{Users}
 use Rattle.workload.specs.declared.sent.Sent.{Sent}
 use Rattle.workload.specs.Request.{requests}
-use Rattle.api_desk.specs.Request.{request_of}
+use Rattle.api_desk.specs.Request.{Ask, of_map, of_feed, request_of}
+use Rattle.api_desk.specs.declared.feed.FeedCall.{FeedCall}
 use Rattle.api_desk.specs.declared.load_faults.LoadFault.{LoadFault}
 use Rattle.api_desk.specs.declared.load_faults.LoadFault.TheVariants.{Memory, NoCommand}
 use Rattle.api_desk.specs.declared.requests.Asked.{Asked}
@@ -98,10 +99,13 @@ of_seed items seed sessions uploads users load (Err NoCommand) table is fails = 
   lacks = subst (λ (l : List Sent). LacksCommand users l) is fails;
 }
 
-pub no_work_read : (request : Request) (query : Query) → request ≡ reads query → IsNoWork request
+pub no_work_read : (request : Ask) (query : Query) → request ≡ of_map (reads query) → IsNoWork request
 no_work_read request query is = rw is tt
 
-pub no_work_refused : (request : Request) (refusal : Refusal) → request ≡ refused refusal → IsNoWork request
+pub no_work_feed : (request : Ask) (call : FeedCall) → request ≡ of_feed call → IsNoWork request
+no_work_feed request call is = rw is tt
+
+pub no_work_refused : (request : Ask) (refusal : Refusal) → request ≡ of_map (refused refusal) → IsNoWork request
 no_work_refused request refusal is = rw is tt
 
 -- what the message of the bytes asks for is what the bytes ask for

@@ -1,5 +1,5 @@
 -- What one request is answered, whatever it comes to.
-use Rattle.std.proofs.Common.{◌≡◌, ℕ, ◌+◌, length, arith, List, [], ◌∷◌, ◌++◌, Some, None, Result, Ok, Err, refl, sym, ap, ◌∙◌, subst, inl, inr, append-nil}
+use Rattle.std.proofs.Common.{◌≡◌, ℕ, ◌+◌, length, arith, List, [], ◌∷◌, ◌++◌, Some, None, Result, Ok, Err, refl, sym, ap, ◌∙◌, subst, inl, append-nil}
 use Rattle.std.specs.Prelude.{IfOk, OnOk, OnErr}
 use Rattle.osm_base.specs.declared.memory.Memory.{Memory}
 use Rattle.osm_base.specs.declared.people.User.{User}
@@ -10,35 +10,35 @@ use Rattle.osm_model.specs.declared.commands.Entry.{Entry}
 use Rattle.osm_model.specs.Act.{Effect, act, judge}
 use Rattle.osm_model.specs.Journal.{replay, calls_of, appended, journal_after, next_entry}
 use Rattle.osm_model.specs.Ask.{ask}
-use Rattle.osm_model.specs.Answered.{Request, refused, does, reads, Place, all_of, stamp_on, IsRow}
+use Rattle.osm_model.specs.Answered.{refused, does, reads, Place, all_of, stamp_on}
 use Rattle.osm_model.specs.declared.queries.Query.{Query}
 use Rattle.http_wire.specs.declared.message.Message.{Message}
 use Rattle.http_link.specs.declared.desk.Reply.{Reply}
 use Rattle.http_link.specs.Desk.{counted_reply}
 use Rattle.user_table.specs.Users.{Users}
-use Rattle.api_desk.specs.Request.{request_of}
+use Rattle.api_desk.specs.Request.{Ask, of_map, request_of}
+use Rattle.api_desk.specs.Answered.{IsRow}
 use Rattle.api_desk.specs.Answers.{Answers, AnswersAlone, reply_of}
+use Rattle.api_desk.specs.Feed.{says}
+use Rattle.api_desk.proofs.Answered.{lacks}
 use Rattle.api_desk.proofs.Rows.{row_of_act, row_of_ask, calls_of-next}
-
--- want of memory is a row of every request
-pub lacking : (F : List Entry) (s : ℕ) (p : Place) (q : Request) (m : ℕ) → IsRow F s p q m None p
-lacking F s p (refused r) m = inr (record { told = refl; stays = refl })
-lacking F s p (does user c) m = inr (inr (inl (record { told = refl; stays = refl })))
-lacking F s p (reads q) m = inr (record { told = refl; stays = refl })
 
 -- what is refused by itself, and want of memory, leave a session where it stands
 
 pub memory_stays : (users : Users) (s : ℕ) (F : List Entry) (p : Place) (message : Message) (moment : ℕ) → Answers users s F p message moment (reply_of None) p
-memory_stays users s F p message moment = record { answer = None; row = lacking F s p (request_of users message) moment; text = refl }
+memory_stays users s F p message moment = record { answer = None; row = lacks F s p (request_of users message) moment; text = refl }
 
 pub refusal_stays :
     (users : Users) (s : ℕ) (F : List Entry) (p : Place) (message : Message) (moment : ℕ) (r : Refusal) (result : Result Reply Memory)
-    → request_of users message ≡ refused r
-    → IfOk result (λ reply. reply ≡ reply_of (Some (Refused r)))
+    → request_of users message ≡ of_map (refused r)
+    → IfOk result (λ reply. reply ≡ reply_of (Some (says (Refused r))))
     → Answers users s F p message moment (counted_reply result) p
 refusal_stays users s F p message moment r (Ok reply) asks text = record {
-  answer = Some (Refused r);
-  row = subst (λ (q : Request). IsRow F s p q moment (Some (Refused r)) p) (sym asks) (inl (record { told = refl; stays = refl }));
+  answer = Some (says (Refused r));
+  row = subst
+      (λ (q : Ask). IsRow F s p q moment (Some (says (Refused r))) p)
+      (sym asks)
+      (record { answer = Some (Refused r); told = refl; row = inl (record { told = refl; stays = refl }) });
   text = text;
 }
 refusal_stays users s F p message moment r (Err memory) asks text = memory_stays users s F p message moment
@@ -88,8 +88,8 @@ memory_answers users s old new message moment same =
 pub change_answers :
     (users : Users) (s : ℕ) (old new : List Entry) (message : Message) (moment : ℕ) (user : User) (c : Command)
     (result : Result Reply Memory)
-    → request_of users message ≡ does user c
-    → IfOk result (λ reply. reply ≡ reply_of (Some (act (replay old) user moment c).1))
+    → request_of users message ≡ of_map (does user c)
+    → IfOk result (λ reply. reply ≡ reply_of (Some (says (act (replay old) user moment c).1)))
     → OnOk result (new ≡ journal_after old s user moment c)
     → OnErr result (new ≡ old)
     → AnswersAlone users s old new message moment (counted_reply result)
@@ -97,14 +97,14 @@ change_answers users s old new message moment user c (Ok reply) asks text after 
     let grows = appended_grows old (next_entry old s user moment c) (judge (replay old) user (stamp_on (replay old) moment) c) in
     record {
       answers = record {
-        answer = Some (act (replay old) user moment c).1;
+        answer = Some (says (act (replay old) user moment c).1);
         row = subst
-            (λ (es : List Entry). IsRow es s (all_of s old) (request_of users message) moment (Some (act (replay old) user moment c).1) (all_of s es))
+            (λ (es : List Entry). IsRow es s (all_of s old) (request_of users message) moment (Some (says (act (replay old) user moment c).1)) (all_of s es))
             (sym after)
             (subst
-            (λ (q : Request). IsRow (journal_after old s user moment c) s (all_of s old) q moment (Some (act (replay old) user moment c).1) (all_of s (journal_after old s user moment c)))
+            (λ (q : Ask). IsRow (journal_after old s user moment c) s (all_of s old) q moment (Some (says (act (replay old) user moment c).1)) (all_of s (journal_after old s user moment c)))
             (sym asks)
-            (row_of_act old s user moment c));
+            (record { answer = Some (act (replay old) user moment c).1; told = refl; row = row_of_act old s user moment c }));
         text = text;
       };
       more = grows.more;
@@ -116,15 +116,15 @@ change_answers users s old new message moment user c (Err memory) asks text afte
 -- a query
 pub query_answers :
     (users : Users) (s : ℕ) (es : List Entry) (message : Message) (moment : ℕ) (q : Query) (result : Result Reply Memory)
-    → request_of users message ≡ reads q
-    → IfOk result (λ reply. reply ≡ reply_of (Some (ask (replay es) moment q)))
+    → request_of users message ≡ of_map (reads q)
+    → IfOk result (λ reply. reply ≡ reply_of (Some (says (ask (replay es) moment q))))
     → AnswersAlone users s es es message moment (counted_reply result)
 query_answers users s es message moment q (Ok reply) asks text = stays_alone users s es message moment reply (record {
-  answer = Some (ask (replay es) moment q);
+  answer = Some (says (ask (replay es) moment q));
   row = subst
-      (λ (r : Request). IsRow es s (all_of s es) r moment (Some (ask (replay es) moment q)) (all_of s es))
+      (λ (r : Ask). IsRow es s (all_of s es) r moment (Some (says (ask (replay es) moment q))) (all_of s es))
       (sym asks)
-      (row_of_ask es s moment q);
+      (record { answer = Some (ask (replay es) moment q); told = refl; row = row_of_ask es s moment q });
   text = text;
 })
 query_answers users s es message moment q (Err memory) asks text = memory_answers users s es es message moment refl

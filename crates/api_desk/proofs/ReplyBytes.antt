@@ -11,6 +11,7 @@ use Rattle.osm_json.specs.Answered.{status_of, body_of}
 use Rattle.osm_json.specs.Refused.{refusal_status}
 use Rattle.http_link.specs.declared.desk.Reply.{Reply}
 use Rattle.api_desk.specs.Answers.{reply_of}
+use Rattle.api_desk.specs.Feed.{says}
 use Rattle.api_desk.specs.Machine.{bytes_of}
 
 -- ---- statuses
@@ -53,6 +54,7 @@ refusal_listed (refusals.NoRedaction id) = refl
 refusal_listed (refusals.RedactCurrent id k version) = refl
 refusal_listed (refusals.MapArea area limit) = refl
 refusal_listed (refusals.MapNodes limit nodes) = refl
+refusal_listed (refusals.NoPiece last number) = refl
 
 listed : (a : Answer) → IsStatus (status_of a)
 listed (answers.Refused r) = refusal_listed r
@@ -78,7 +80,7 @@ pub read_back :
     → bytes ≡ bytes_of a
     → reply.status ≡ slice_index bytes 0 * 256 + slice_index bytes 1
     → reply.body ≡ drop 2 bytes
-    → reply ≡ reply_of (Some a)
+    → reply ≡ reply_of (Some (says a))
 read_back a bytes reply is status body =
     let status_is : reply.status ≡ status_of a =
     status ∙ ap (λ (bs : List ℕ). slice_index bs 0 * 256 + slice_index bs 1) is ∙ div-add-mod' (status_of a) 256
@@ -86,13 +88,16 @@ read_back a bytes reply is status body =
     let body_is : reply.body ≡ body_of a = body ∙ ap (λ (bs : List ℕ). drop 2 bs) is in
     λ i. record { status = status_is i; body = body_is i }
 
+pub told_status : (a : Answer) (bytes : List ℕ) → bytes ≡ bytes_of a → IsStatus (slice_index bytes 0 * 256 + slice_index bytes 1)
+told_status a bytes is =
+    subst
+    IsStatus
+    (sym (ap (λ (bs : List ℕ). slice_index bs 0 * 256 + slice_index bs 1) is ∙ div-add-mod' (status_of a) 256))
+    (listed a)
+
 pub read_status :
     (a : Answer) (bytes : List ℕ) (reply : Reply)
     → bytes ≡ bytes_of a
     → reply.status ≡ slice_index bytes 0 * 256 + slice_index bytes 1
     → IsStatus reply.status
-read_status a bytes reply is status =
-    subst
-    IsStatus
-    (sym (status ∙ ap (λ (bs : List ℕ). slice_index bs 0 * 256 + slice_index bs 1) is ∙ div-add-mod' (status_of a) 256))
-    (listed a)
+read_status a bytes reply is status = subst IsStatus (sym status) (told_status a bytes is)

@@ -189,3 +189,19 @@ row-append F more s before after (does user c) m reply within row =
     row
 row-append F more s before after (reads q) m reply within row =
     ⊎_elim (λ answers. inl (answers-append F more before after q m reply within answers)) (λ lacks. inr lacks) row
+
+-- ---- places
+
+-- the points never go back
+pub row_later : (F : List Entry) (s : ℕ) (before after : Place) (q : Request) (m : ℕ) (reply : Option Answer) → IsRow F s before q m reply after → before.point ≤ after.point
+row_later F s before after (refused r) m reply row =
+    ⊎_elim (λ refuses. omega (arith, ap (λ (p : Place). p.point) refuses.stays)) (λ lacks. omega (arith, ap (λ (p : Place). p.point) lacks.stays)) row
+row_later F s before after (does user c) m reply row =
+    ⊎_elim
+    (λ refuses. refuses.later)
+    (λ other. ⊎_elim
+    (λ accepts. omega (arith, accepts.later, ap (λ (p : Place). p.point) accepts.comes_to))
+    (λ rest. ⊎_elim (λ lacks. omega (arith, ap (λ (p : Place). p.point) lacks.stays)) (λ owed. omega (arith, owed.point)) rest)
+    other)
+    row
+row_later F s before after (reads q) m reply row = ⊎_elim (λ answers. answers.later) (λ lacks. omega (arith, ap (λ (p : Place). p.point) lacks.stays)) row

@@ -2,14 +2,15 @@
 use Rattle.std.proofs.Common.{◌≡◌, ℕ, ◌+◌, List, [], ◌∷◌, ◌++◌, length, refl, sym, ap, ◌∙◌, subst, arith, append_assoc, append-nil, length-append}
 use Rattle.osm_model.specs.declared.commands.Entry.{Entry}
 use Rattle.osm_model.specs.Journal.{calls_of}
-use Rattle.osm_model.specs.Answered.{all_of, IsRow}
+use Rattle.osm_model.specs.Answered.{all_of}
 use Rattle.http_link.specs.Exchange.{Exchange, Chain}
 use Rattle.user_table.specs.Users.{Users}
 use Rattle.api_desk.specs.declared.desk.OneDesk.{OneDesk}
 use Rattle.api_desk.specs.Request.{request_of}
+use Rattle.api_desk.specs.Answered.{IsRow}
 use Rattle.api_desk.specs.Answers.{AreAnswered}
 use Rattle.api_desk.specs.Desk.{Allows, HasServed, entries_of, users_of, session_of}
-use Rattle.api_desk.proofs.Rows.{row-append}
+use Rattle.api_desk.proofs.Answered.{row-longer}
 
 -- no exchange
 none_answered : (old new : OneDesk) → new ≡ old → HasServed old [] new
@@ -36,7 +37,7 @@ one_more old mid new e es allowed rest =
     subst
     (λ (F : List Entry). IsRow F s (all_of s (entries_of old)) (request_of (users_of old) e.message) e.moment a.answer (all_of s (entries_of mid)))
     (sym grown)
-    (row-append (entries_of mid) rest.more s _ _ _ _ _ (omega arith) a.row)
+    (row-longer (entries_of mid) rest.more s _ _ _ _ _ (omega arith) a.row)
     in
     let later : AreAnswered (users_of old) (session_of mid) (entries_of new) (all_of (session_of mid) (entries_of mid)) es (all_of (session_of mid) (entries_of new)) =
     subst

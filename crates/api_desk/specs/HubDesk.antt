@@ -1,5 +1,5 @@
 -- A desk for a session of a hub, and what it answers against the session's own front.
-use Rattle.std.specs.Prelude.{◌≡◌, ℕ, ◌≤◌, false, List, length}
+use Rattle.std.specs.Prelude.{◌≡◌, ℕ, ◌≤◌, false, Some, List, take, length}
 use mathlib.Core.List.{IsPrefix}
 use Rattle.osm_model.specs.Answered.{Place}
 use Rattle.osm_model.specs.Journal.{calls_of}
@@ -9,7 +9,9 @@ use Rattle.http_link.specs.declared.desk.Reply.{Reply}
 use Rattle.http_link.specs.Exchange.{Exchange}
 use Rattle.user_table.specs.Users.{Users}
 use Rattle.snapshot_hub.specs.Known.{Known, caught_up}
-use Rattle.api_desk.specs.Answers.{Answers, AreAnswered}
+use Rattle.api_desk.specs.declared.feed.FeedCall.{FeedCall}
+use Rattle.api_desk.specs.Answers.{Answers, AreAnswered, reply_of}
+use Rattle.api_desk.specs.Feed.{fed}
 
 -- how far a session has come that was last answered at this point of its front
 abbrev pub stands_at : Known Entry → ℕ → Place
@@ -56,3 +58,18 @@ pub record IsSettled (old new : Known Entry) : Type 0 where
   pub calls : new.calls ≡ old.calls
   pub debts : new.debts ≡ old.debts
   pub owes : new.owes ≡ false
+
+-- The session has used no call number, and owes no more: its front may be longer.
+pub record GoesOn (old new : Known Entry) : Type 0 where
+  pub begins : IsPrefix old.front new.front
+  pub number : new.number ≡ old.number
+  pub calls : new.calls ≡ old.calls
+  pub debts : new.debts ≡ old.debts
+
+-- A call of the feed was answered by the new front, up to a point that has all of the old one.
+pub record ShowsFeed (old : Known Entry) (call : FeedCall) (reply : Reply) (new : Known Entry) : Type 0 where
+  pub goes_on : GoesOn old new
+  pub point : ℕ
+  pub later : length old.front ≤ point
+  pub within : point ≤ length new.front
+  pub told : reply ≡ reply_of (Some (fed (take point new.front) call))

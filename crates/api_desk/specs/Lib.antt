@@ -3,11 +3,13 @@ pub mod Tasks
 pub mod Media
 pub mod Bodies
 pub mod Request
-pub mod Gives
+pub mod Feed
+pub mod Answered
 pub mod Judging
 pub mod Machine
 pub mod Laws
 pub mod Answers
+pub mod Gives
 pub mod MachineRows
 pub mod Desk
 pub mod HubDesk

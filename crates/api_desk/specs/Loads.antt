@@ -1,6 +1,6 @@
 -- The events that a generated load comes to.
 use Rattle.std.specs.Prelude.{◌≡◌, ℕ, ◌⊎◌, ⊤, List, [], ◌∷◌, ◌++◌, Result, Ok, Err}
-use Rattle.osm_model.specs.Answered.{Request, refused, does, reads}
+use Rattle.osm_model.specs.Answered.{refused, does, reads}
 use Rattle.osm_model.specs.declared.queries.Query.{Query}
 use Rattle.hub_core.specs.declared.events.Event.{Event}
 use Rattle.hub_core.specs.declared.events.Event.TheVariants.{Plan, Commit, Publish}
@@ -11,7 +11,7 @@ use Rattle.whole_messages.specs.Messages.{HasNoMessage}
 use Rattle.workload.specs.declared.sent.Sent.{Sent}
 use Rattle.workload.specs.Request.{requests}
 use Rattle.workload.specs.Users.{AreUsersOf}
-use Rattle.api_desk.specs.Request.{request_of}
+use Rattle.api_desk.specs.Request.{Ask, of_map, of_feed, request_of}
 use Rattle.api_desk.specs.declared.load_faults.LoadFault.{LoadFault}
 use Rattle.api_desk.specs.declared.load_faults.LoadFault.TheVariants.{Memory, NoCommand}
 use Rattle.api_desk.specs.declared.requests.Asked.{Asked}
@@ -23,13 +23,14 @@ pub record IsAsked (users : Users) (bytes : List ℕ) (asked : Asked) : Type 0 w
   pub message : Message
   pub rest : List ℕ
   pub begins : BeginsWith bytes message rest
-  pub does_it : request_of users message ≡ does asked.user asked.command
+  pub does_it : request_of users message ≡ of_map (does asked.user asked.command)
 
--- It is a refusal or a query.
-abbrev pub IsNoWork : Request → Type 0
-IsNoWork (refused r) = ⊤
-IsNoWork (does user c) = ⊥
-IsNoWork (reads q) = ⊤
+-- It is a refusal, a query or a call of the feed.
+abbrev pub IsNoWork : Ask → Type 0
+IsNoWork (of_map (refused r)) = ⊤
+IsNoWork (of_map (does user c)) = ⊥
+IsNoWork (of_map (reads q)) = ⊤
+IsNoWork (of_feed call) = ⊤
 
 -- The bytes begin with a message that asks for no command.
 pub record AsksNoWork (users : Users) (bytes : List ℕ) : Type 0 where
@@ -93,8 +94,8 @@ GivesCommand users bytes (Err Memory) = ⊤
 GivesCommand users bytes (Err NoCommand) = HasNoCommand users bytes
 
 -- the command of a request
-abbrev pub GivesWork : Request → Result Asked LoadFault → Type 0
-GivesWork request (Ok asked) = request ≡ does asked.user asked.command
+abbrev pub GivesWork : Ask → Result Asked LoadFault → Type 0
+GivesWork request (Ok asked) = request ≡ of_map (does asked.user asked.command)
 GivesWork request (Err Memory) = ⊤
 GivesWork request (Err NoCommand) = IsNoWork request
 

@@ -1,5 +1,5 @@
 -- Rows of the map's machine, as rows of the map.
-use Rattle.std.specs.Prelude.{◌≡◌, ℕ, List, Option, Some, None}
+use Rattle.std.specs.Prelude.{◌≡◌, ℕ, List, Option, Some, None, option_map}
 use Rattle.osm_change.specs.declared.answers.Answer.{Answer}
 use Rattle.osm_change.specs.declared.answers.Answer.TheVariants as answers
 use Rattle.osm_model.specs.Answered.{Request, refused, does, reads, Place, IsRow}
@@ -9,6 +9,7 @@ use Rattle.hub_answers.specs.Answered.{Request as Call, Place as Step}
 use Rattle.hub_answers.specs.Answered.Request.{Refused, Does, Reads}
 use Rattle.http_link.specs.declared.desk.Reply.{Reply}
 use Rattle.api_desk.specs.Answers.{reply_of}
+use Rattle.api_desk.specs.Feed.{says}
 use Rattle.api_desk.specs.Machine.{bytes_of}
 use Rattle.api_desk.specs.declared.requests.Asked.{Asked}
 
@@ -35,4 +36,4 @@ pub record HasRow (F : List Entry) (session : ℕ) (before : Place) (request : R
 
 -- The reply tells these bytes, whatever answer they are of.
 abbrev pub TellsBytes : Option (List ℕ) → Reply → Type 0
-TellsBytes bytes reply = (answer : Option Answer) → bytes ≡ bytes_told answer → reply ≡ reply_of answer
+TellsBytes bytes reply = (answer : Option Answer) → bytes ≡ bytes_told answer → reply ≡ reply_of (option_map says answer)

@@ -14,9 +14,11 @@ use Rattle.user_table.specs.declared.tables.Who.TheVariants.{Anonymous, Known, U
 use Rattle.user_table.specs.Rows.{Row}
 use Rattle.user_table.specs.Users.{Users}
 use Rattle.user_table.specs.Who.{who_of}
+use Rattle.api_desk.specs.declared.feed.FeedCall.{FeedCall}
+use Rattle.api_desk.specs.declared.feed.FeedCall.TheVariants as feed
 use Rattle.api_desk.specs.declared.tasks.Edit.{Edit}
 use Rattle.api_desk.specs.declared.tasks.Task.{Task}
-use Rattle.api_desk.specs.declared.tasks.Task.TheVariants.{Read, Change, Moderate}
+use Rattle.api_desk.specs.declared.tasks.Task.TheVariants.{Read, Change, Moderate, Follow}
 use Rattle.api_desk.specs.Bodies.{or_refused, command_of}
 use Rattle.api_desk.specs.Faults.{of_route}
 use Rattle.api_desk.specs.Media.{is_xml}
@@ -49,30 +51,41 @@ known_moderator caller = known_user caller >>= λ user. refuse_if (not user.mode
 
 -- ---- the request
 
--- the work that a user asks for, by its body
-abbrev pub work_of : Edit → List ℕ → User → Result Request Refusal
-work_of e body user = command_of e body >>= λ c. Ok (does user c)
+-- what a message comes to by itself: a request of the map, a refusal among them, or a call of the feed
+pub data Ask : Type 0 where
+  of_map : Request → Ask
+  of_feed : FeedCall → Ask
 
--- anybody may read, a user may change the map, a moderator may redact
-abbrev pub asked_by : Option User → List ℕ → Task → Result Request Refusal
-asked_by caller body (Read q) = Ok (reads q)
+-- the work that a user asks for, by its body
+abbrev pub work_of : Edit → List ℕ → User → Result Ask Refusal
+work_of e body user = command_of e body >>= λ c. Ok (of_map (does user c))
+
+-- a piece is for moderators, since its entry may have contents that are redacted
+abbrev pub piece_asked : Option User → ℕ → Result Ask Refusal
+piece_asked caller number = known_moderator caller >>= λ user. Ok (of_feed (feed.Piece number))
+
+-- anybody may read and ask how far the feed goes, a user may change the map, a moderator may redact and get a piece
+abbrev pub asked_by : Option User → List ℕ → Task → Result Ask Refusal
+asked_by caller body (Read q) = Ok (of_map (reads q))
 asked_by caller body (Change e) = known_user caller >>= work_of e body
 asked_by caller body (Moderate e) = known_moderator caller >>= work_of e body
+asked_by caller body (Follow feed.State) = Ok (of_feed feed.State)
+asked_by caller body (Follow (feed.Piece number)) = piece_asked caller number
 
 abbrev pub call_in : Message → Result Call Refusal
 call_in m = or_refused of_route (call_of m.method m.target)
 
 -- the request line is looked at first, then whether the body is XML, then the caller, and the body at last
-unfoldable pub asked : Users → Message → Result Request Refusal
+unfoldable pub asked : Users → Message → Result Ask Refusal
 asked users m = do
   call ← call_in m
   no_xml ← refuse_if (is_xml m) Xml
   caller ← caller_of users m
   asked_by caller m.body (task_of (is_moderator caller) users.large_from call)
 
-abbrev pub told : Result Request Refusal → Request
+abbrev pub told : Result Ask Refusal → Ask
 told (Ok request) = request
-told (Err r) = refused r
+told (Err r) = of_map (refused r)
 
-abbrev pub request_of : Users → Message → Request
+abbrev pub request_of : Users → Message → Ask
 request_of users m = told (asked users m)

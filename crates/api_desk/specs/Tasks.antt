@@ -5,10 +5,11 @@ use Rattle.osm_model.specs.declared.queries.Query.TheVariants as query
 use Rattle.route_table.specs.Calls.{IsPathNumber}
 use Rattle.route_table.specs.declared.calls.Call.{Call}
 use Rattle.route_table.specs.declared.calls.Call.TheVariants as call
+use Rattle.api_desk.specs.declared.feed.FeedCall.TheVariants as feed
 use Rattle.api_desk.specs.declared.tasks.Edit.{Edit}
 use Rattle.api_desk.specs.declared.tasks.Edit.TheVariants as edit
 use Rattle.api_desk.specs.declared.tasks.Task.{Task}
-use Rattle.api_desk.specs.declared.tasks.Task.TheVariants.{Read, Change, Moderate}
+use Rattle.api_desk.specs.declared.tasks.Task.TheVariants.{Read, Change, Moderate, Follow}
 
 -- without a redaction the mark is taken off
 abbrev pub mark : Key → ℕ → Option ℕ → Task
@@ -38,6 +39,8 @@ task_of sees large_from (call.Many kind ids) = Read (query.Many kind ids)
 task_of sees large_from (call.Full key) = Read (query.Full key)
 task_of sees large_from (call.WaysOf id) = Read (query.WaysOf id)
 task_of sees large_from (call.RelationsOf key) = Read (query.RelationsOf key)
+task_of sees large_from call.FeedState = Follow feed.State
+task_of sees large_from (call.FeedPiece number) = Follow (feed.Piece number)
 
 -- ---- for private clauses
 
@@ -51,3 +54,4 @@ abbrev pub HasTaskNumbers : Task → Type 0
 HasTaskNumbers (Read q) = ⊤
 HasTaskNumbers (Change e) = HasPathNumber e
 HasTaskNumbers (Moderate e) = HasPathNumber e
+HasTaskNumbers (Follow c) = ⊤

@@ -8,7 +8,8 @@ ghost use Rattle.http_link.specs.Desk.{counted_reply};
 ghost use Rattle.http_wire.specs.declared.message.Message.{Message};
 ghost use Rattle.user_table.specs.Users.{Users};
 ghost use Rattle.api_desk.specs.Answers.{reply_of, Answers};
-ghost use Rattle.api_desk.specs.Gives.{GivesRequest, HasShownFault};
+ghost use Rattle.api_desk.specs.Feed.{says};
+ghost use Rattle.api_desk.specs.Gives.{GivesRequest, HasShownFault, TellsFault};
 ghost use Rattle.api_desk.specs.Machine.{bytes_of};
 ghost use Rattle.api_desk.specs.Request.{request_of};
 
@@ -39,7 +40,7 @@ fn with_status(status: u16, body: Bytes) -> Result<Bytes, Memory>
 }
 
 /// The reply that the bytes of an answer tell. It takes no memory.
-pub(crate) fn reply_from(answer: Bytes) -> Reply
+pub fn reply_from(answer: Bytes) -> Reply
     requires { 2 ≤ length answer }
     ensures status { result.status ≡ slice_index answer 0 * 256 + slice_index answer 1 }
     ensures body { result.body ≡ drop 2 answer }
@@ -56,7 +57,7 @@ pub(crate) fn reply_from(answer: Bytes) -> Reply
 /// The reply that tells an answer.
 pub(crate) fn reply_to(alloc: Global, answer: &Answer<'_>) -> Result<Reply, Memory>
     requires { HasShownMoments answer.now }
-    ensures reply { IfOk result (λ reply. reply ≡ reply_of (Some answer.now)) }
+    ensures reply { IfOk result (λ reply. reply ≡ reply_of (Some (says answer.now))) }
     ensures status { IfOk result (λ reply. IsStatus reply.status) }
 {
     Ok(Reply {
@@ -66,8 +67,9 @@ pub(crate) fn reply_to(alloc: Global, answer: &Answer<'_>) -> Result<Reply, Memo
 }
 
 /// Tells why a message is no request. Whatever the session stands at, it stays there.
-pub(crate) fn refuse(alloc: Global, fault: RequestFault) -> Result<Reply, Memory>
+pub fn refuse(alloc: Global, fault: RequestFault) -> Result<Reply, Memory>
     requires { HasShownFault fault }
+    ensures told { TellsFault fault result }
     ensures answers { (users : Users) (session : ℕ) (F : List Entry) (place : Place) (message : Message) (moment : ℕ)
         → GivesRequest (request_of users message) (Err fault)
         → Answers users session F place message moment (counted_reply result) place }

@@ -10,10 +10,12 @@ ghost use Rattle.http_wire.specs.declared.message.Message.{Message};
 ghost use Rattle.osm_model.specs.declared.commands.Entry.{Entry};
 ghost use Rattle.user_table.specs.Users.{Users};
 ghost use Rattle.api_desk.specs.Answers.{reply_of, AnswersAlone};
+ghost use Rattle.api_desk.specs.Feed.{says};
 ghost use Rattle.api_desk.specs.Gives.{shown_request};
 ghost use Rattle.api_desk.specs.Request.{request_of};
 
 use crate::answers::{refuse, reply_from};
+use crate::feed::feed_reply;
 use crate::machine::MapMachine;
 use crate::requests::{Asked, Request, request_of};
 use http_link::{Desk, Reply};
@@ -40,7 +42,7 @@ fn change<L: Ledger>(
     steps: &mut Steps<L>,
 ) -> Result<Reply, Memory>
     ensures reply { IfOk result (λ reply. reply
-        ≡ reply_of (Some (act (replay book.old) asked.user moment asked.command).1)) }
+        ≡ reply_of (Some (says (act (replay book.old) asked.user moment asked.command).1))) }
     ensures journal { OnOk result (book.new
         ≡ journal_after book.old session asked.user moment asked.command) }
     ensures memory { OnErr result (book.new ≡ book.old) }
@@ -71,8 +73,8 @@ fn one_more(calls: u64, entries: &[Entry]) -> u64
     calls + 1
 }
 
-/// Answers a query by all of the journal.
-fn read<L: Ledger>(
+/// The reply to a query by all of the journal.
+pub fn query_reply<L: Ledger>(
     book: &Book<MapMachine>,
     alloc: Global,
     query: Query,
@@ -80,7 +82,7 @@ fn read<L: Ledger>(
     steps: &mut Steps<L>,
 ) -> Result<Reply, Memory>
     ensures reply { IfOk result (λ reply. reply
-        ≡ reply_of (Some (ask (replay book.now) moment query))) }
+        ≡ reply_of (Some (says (ask (replay book.now) moment query)))) }
     ensures status { IfOk result (λ reply. IsStatus reply.status) }
 {
     let answer = MapMachine::ask(alloc, book.world(), &query, moment, steps)?;
@@ -134,7 +136,11 @@ fn answer_request<L: Ledger>(
 {
     match request {
         Request::Change(asked) => change(book, alloc, session, asked, moment, steps),
-        Request::Read(query) => read(book, alloc, query, moment, steps),
+        Request::Read(query) => query_reply(book, alloc, query, moment, steps),
+        Request::Feed(call) => {
+            laws(book);
+            feed_reply(alloc, book.journal(), call)
+        }
     }
 }
 

@@ -1,8 +1,8 @@
 //! A desk of the map for one session of a hub.
-ghost use Rattle.std.specs.Prelude.{◌≡◌, ◌<◌, ℕ, false, true, List, IfOk, OnOk, OnErr};
+ghost use Rattle.std.specs.Prelude.{◌≡◌, ◌<◌, ◌≤◌, ◌+◌, ◌*◌, ℕ, false, true, List, length, slice_index, IfOk, OnOk, OnErr};
 ghost use Rattle.osm_base.specs.Status.{IsStatus};
 ghost use Rattle.osm_element.specs.Elements.{IsConsistent};
-ghost use Rattle.osm_model.specs.Answered.{map_at};
+ghost use Rattle.osm_model.specs.Answered.{map_at, does, reads};
 ghost use Rattle.osm_model.specs.Journal.{is_legal_from};
 ghost use Rattle.osm_model.specs.State.{empty};
 ghost use Rattle.http_wire.specs.declared.message.Message.{Message};
@@ -11,17 +11,19 @@ ghost use Rattle.user_table.specs.Users.{Users};
 ghost use Rattle.hub_answers.specs.Steps.{told, Answers};
 ghost use Rattle.api_desk.specs.Gives.{shown_request};
 ghost use Rattle.api_desk.specs.Machine.{map_rules};
-ghost use Rattle.api_desk.specs.MachineRows.{asked_of};
+ghost use Rattle.api_desk.specs.MachineRows.{asked_of, TellsBytes};
 ghost use Rattle.api_desk.specs.Request.{request_of};
 ghost use Rattle.api_desk.specs.HubDesk.{Replies, IsSettled, IsFresh};
 
 use crate::answers::{refuse, reply_from};
+use crate::hub_feed::answer_feed;
 use crate::machine::MapMachine;
-use crate::requests::{Request, request_of};
+use crate::requests::{Asked, Request, request_of};
 use http_link::{Desk, Reply};
 use http_wire::Message;
 use hub_answers::{answer_command, answer_query};
 use osm_base::{Bytes, Memory, Steps};
+use osm_model::Query;
 use osm_outside::{Gate, Point};
 use route_table::Routes;
 use shared_front::HubName;
@@ -55,47 +57,59 @@ fn settle_first<N: HubName, G: Gate + Drop, R: Wait + Drop, W: Wait>(
     }
 }
 
-/// Does what is asked, by a session that owes nothing.
-fn answer_settled<N: HubName, G: Gate + Drop, R: Wait + Drop, W: Wait, L: Ledger>(
+/// Does a command, once the session owes nothing.
+fn answer_change<N: HubName, G: Gate + Drop, R: Wait + Drop, W: Wait, L: Ledger>(
     rt: &W,
     hub: &MapHub<N, G, R>,
     session: &mut MapSession<N>,
-    request: Request,
+    asked: Asked,
     moment: u64,
     steps: &mut Steps<L>,
 ) -> Result<Bytes, Memory>
-    requires { session.old.owes ≡ false }
-    ensures { Answers map_rules session.old (asked_of (shown_request request)) moment (told result) session.new }
-{
-    match request {
-        Request::Change(asked) => answer_command(rt, hub, session, asked, moment, steps),
-        Request::Read(query) => answer_query(session, &query, moment, steps),
-    }
-}
-
-/// Does what is asked, once the session owes nothing.
-fn answer_bytes<N: HubName, G: Gate + Drop, R: Wait + Drop, W: Wait, L: Ledger>(
-    rt: &W,
-    hub: &MapHub<N, G, R>,
-    session: &mut MapSession<N>,
-    request: Request,
-    moment: u64,
-    steps: &mut Steps<L>,
-) -> Result<Bytes, Memory>
-    ensures { Answers map_rules session.old (asked_of (shown_request request)) moment (told result) session.new }
+    ensures { Answers map_rules session.old (asked_of (does asked.user asked.command)) moment (told result) session.new }
 {
     match settle_first(rt, hub, session) {
-        Ok(()) => answer_settled(rt, hub, session, request, moment, steps),
+        Ok(()) => answer_command(rt, hub, session, asked, moment, steps),
         Err(memory) => Err(memory),
     }
 }
 
-/// The reply to a request. What tells the answer takes no memory, so a command that stands and is
-/// published isn't told as want of memory.
+/// Answers a query, once the session owes nothing.
+fn answer_read<N: HubName, G: Gate + Drop, R: Wait + Drop, W: Wait, L: Ledger>(
+    rt: &W,
+    hub: &MapHub<N, G, R>,
+    session: &mut MapSession<N>,
+    query: Query,
+    moment: u64,
+    steps: &mut Steps<L>,
+) -> Result<Bytes, Memory>
+    ensures { Answers map_rules session.old (asked_of (reads query)) moment (told result) session.new }
+{
+    match settle_first(rt, hub, session) {
+        Ok(()) => answer_query(session, &query, moment, steps),
+        Err(memory) => Err(memory),
+    }
+}
+
+/// The reply that tells the bytes of an answer. It takes no memory, so a command that stands and is
+/// published has its own reply.
+fn reply_told(answer: Result<Bytes, Memory>) -> Result<Reply, Memory>
+    requires { IfOk answer (λ bytes. 2 ≤ length bytes) }
+    ensures tells { TellsBytes (told answer) (counted_reply result) }
+    ensures status { IfOk answer (λ bytes. IsStatus (slice_index bytes 0 * 256 + slice_index bytes 1)) → IfOk result (λ reply. IsStatus reply.status) }
+{
+    match answer {
+        Ok(bytes) => Ok(reply_from(bytes)),
+        Err(memory) => Err(memory),
+    }
+}
+
+/// The reply to a request.
 fn answer_request<N: HubName, G: Gate + Drop, R: Wait + Drop, W: Wait, L: Ledger>(
     rt: &W,
     hub: &MapHub<N, G, R>,
     session: &mut MapSession<N>,
+    alloc: Global,
     request: Request,
     moment: u64,
     steps: &mut Steps<L>,
@@ -104,13 +118,21 @@ fn answer_request<N: HubName, G: Gate + Drop, R: Wait + Drop, W: Wait, L: Ledger
         → Replies users session.old message moment (counted_reply result) session.new }
     ensures status { IfOk result (λ reply. IsStatus reply.status) }
 {
-    match answer_bytes(rt, hub, session, request, moment, steps) {
-        Ok(bytes) => Ok(reply_from(bytes)),
-        Err(memory) => Err(memory),
+    match request {
+        Request::Change(asked) => {
+            let answer = answer_change(rt, hub, session, asked, moment, steps);
+            reply_told(answer)
+        }
+        Request::Read(query) => {
+            let answer = answer_read(rt, hub, session, query, moment, steps);
+            reply_told(answer)
+        }
+        Request::Feed(call) => answer_feed(rt, hub, session, alloc, call),
     }
 }
 
-/// Answers one message, on a ledger of its own. The gate is told of the reply to a command or a query.
+/// Answers one message, on a ledger of its own. The gate is told of the reply to each that is no
+/// refusal by itself.
 fn answer_on<N: HubName, G: Gate + Drop, R: Wait + Drop, W: Wait, L: Ledger>(
     rt: &W,
     hub: &MapHub<N, G, R>,
@@ -132,7 +154,7 @@ fn answer_on<N: HubName, G: Gate + Drop, R: Wait + Drop, W: Wait, L: Ledger>(
     let mut steps = Steps::of(ledger, share);
     match request_of(alloc, message, routes, users) {
         Ok(request) => {
-            let reply = answer_request(rt, hub, session, request, moment, &mut steps);
+            let reply = answer_request(rt, hub, session, alloc, request, moment, &mut steps);
             hub.gate().at(Point::Answered {
                 session: session.number(),
             });
@@ -156,7 +178,7 @@ fn freshen<N: HubName, G: Gate + Drop, R: Wait + Drop, W: Wait>(
 }
 
 /// A law: the front of a session is legal, and every beginning of it leaves a consistent map.
-fn map_law<N: HubName, S: Snapshot<N, MapMachine>>(session: &Session<N, MapMachine, S>)
+pub(crate) fn map_law<N: HubName, S: Snapshot<N, MapMachine>>(session: &Session<N, MapMachine, S>)
     ensures legal { is_legal_from empty session.now.front ≡ true }
     ensures consistent { (point : ℕ) → IsConsistent (map_at session.now.front point).elements }
 {

@@ -1,7 +1,7 @@
 //! Laws on what a session of a hub is answered.
 ghost use Rattle.std.specs.Prelude.{◌≡◌, ◌≤◌, ◌++◌, ℕ, List, Option, length};
 ghost use mathlib.Core.List.{IsPrefix};
-ghost use Rattle.osm_model.specs.Answered.{SessionRow, Place, Request, IsAnswered};
+ghost use Rattle.osm_model.specs.Answered.{Place, Request};
 ghost use Rattle.osm_model.specs.Journal.{IsLegal};
 ghost use Rattle.osm_model.specs.declared.commands.Entry.{Entry};
 ghost use Rattle.hub_core.specs.Journal.{IsJournal};
@@ -12,10 +12,11 @@ ghost use Rattle.user_table.specs.Users.{Users};
 ghost use Rattle.snapshot_hub.specs.Known.{Known};
 ghost use Rattle.hub_answers.specs.Answered.{Place as Step, IsRow};
 ghost use Rattle.hub_answers.specs.Steps.{Answers};
+ghost use Rattle.api_desk.specs.Answered.{SessionRow, IsAnswered};
 ghost use Rattle.api_desk.specs.Answers.{AreAnswered};
 ghost use Rattle.api_desk.specs.Machine.{map_rules};
 ghost use Rattle.api_desk.specs.MachineRows.{asked_of, place_of, HasRow, TellsBytes};
-ghost use Rattle.api_desk.specs.Request.{request_of};
+ghost use Rattle.api_desk.specs.Request.{request_of, of_map};
 ghost use Rattle.api_desk.specs.HubDesk.{AtDesk, Allows, HasServed, Replies, stands_at};
 
 /// A law: a row of the map's machine is a row of the map, with an answer whose bytes it tells.
@@ -25,11 +26,11 @@ pub fn rows_are_the_maps()
         → HasRow F session (place_of before) request moment bytes (place_of after) }
 {}
 
-/// A law: what the map's machine answers to the request of a message is what the map answers to the
-/// message, where the reply tells these bytes.
+/// A law: what the map's machine answers to a request of the map is what is answered to a message
+/// that comes to it, where the reply tells these bytes.
 pub fn replies_are_the_maps()
-    ensures { (users : Users) (old new : Known Entry) (message : Message) (moment : ℕ) (bytes : Option (List ℕ)) (reply : Reply)
-        → Answers map_rules old (asked_of (request_of users message)) moment bytes new → TellsBytes bytes reply
+    ensures { (users : Users) (old new : Known Entry) (message : Message) (request : Request) (moment : ℕ) (bytes : Option (List ℕ)) (reply : Reply)
+        → request_of users message ≡ of_map request → Answers map_rules old (asked_of request) moment bytes new → TellsBytes bytes reply
         → Replies users old message moment reply new }
 {}
 
@@ -46,8 +47,8 @@ pub fn rows_stay()
 {}
 
 /// A law: whatever exchanges a desk goes through, from any point of the front that its session had,
-/// they are answered by the rules of the map at points of the front that it has then, which never
-/// go back.
+/// they are answered by the rules of the map and of the feed at points of the front that it has
+/// then, which never go back.
 pub fn exchanges_chain()
     ensures { (old new : AtDesk) (exchanges : List Exchange) (point : ℕ) → point ≤ length old.known.front
         → Chain Allows old exchanges new → (new.users ≡ old.users) × HasServed old.users old.known point exchanges new.known }

@@ -1,4 +1,4 @@
-//! A message as a request of the map, the map as a machine, desks that answer requests over the
+//! A message as a request of the map or of its feed, the map as a machine, desks that answer requests over the
 //! machine's book or over a hub, and a generated load as events of the machine.
 #![tactic(auto)]
 
@@ -8,7 +8,9 @@ mod bodies;
 mod bytes;
 mod desk;
 mod faults;
+mod feed;
 mod hub_desk;
+mod hub_feed;
 mod hub_law;
 mod judging;
 mod law;
@@ -23,8 +25,11 @@ mod tasks;
 mod world_asks;
 mod world_rows;
 
-pub use desk::{OneDesk, next_call};
+pub use answers::{refuse, reply_from};
+pub use bytes::value_of;
+pub use desk::{OneDesk, next_call, query_reply};
 pub use faults::RequestFault;
+pub use feed::{FeedCall, feed_reply};
 pub use hub_desk::{HubDesk, MapHub, MapSession};
 pub use hub_law::{
     answers_append, exchanges_chain, journals_are_the_maps, links_chain, replies_are_the_maps,
@@ -34,5 +39,10 @@ pub use law::desk_answers;
 pub use load_events::events;
 pub use load_faults::LoadFault;
 pub use machine::{MapMachine, MapWorld};
+pub use media::is_xml;
 pub use plans::MapPlan;
-pub use requests::{Asked, Request, request_of};
+pub use requests::{
+    Asked, Request, caller_of, is_moderator, known_moderator, known_user, request_of,
+};
+pub use tasks::{Edit, Task, task_of};
+pub use world_asks::world_ask;

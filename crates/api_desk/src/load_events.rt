@@ -35,6 +35,7 @@ fn work_in(
     match request_of(alloc, message, routes, users) {
         Ok(Request::Change(asked)) => Ok(asked),
         Ok(Request::Read(_)) => Err(LoadFault::NoCommand),
+        Ok(Request::Feed(_)) => Err(LoadFault::NoCommand),
         Err(RequestFault::Refused(_)) => Err(LoadFault::NoCommand),
         Err(RequestFault::Memory) => Err(LoadFault::Memory),
     }

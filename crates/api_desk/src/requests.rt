@@ -1,13 +1,14 @@
 //! What a message asks.
 ghost use Rattle.std.specs.Prelude.{◌≡◌, option_copied, option_map, MatchResult, Ok, Err, IfErr};
 ghost use Rattle.api_desk.specs.declared.tasks.Task.TheVariants as task;
-ghost use Rattle.api_desk.specs.Request.{caller_of, is_moderator, known_user, known_moderator, work_of, asked_by, request_of};
+ghost use Rattle.api_desk.specs.Request.{caller_of, is_moderator, known_user, known_moderator, work_of, piece_asked, asked_by, request_of};
 ghost use Rattle.api_desk.specs.Tasks.{HasPathNumber, HasTaskNumbers};
 ghost use Rattle.api_desk.specs.Gives.{Gives, GivesRequest, GivesAsked, HasShownFault};
 
 use crate::bodies::command_of;
 use crate::bytes::value_of;
 use crate::faults::RequestFault;
+use crate::feed::FeedCall;
 use crate::media::is_xml;
 use crate::tasks::{Edit, Task, task_of};
 use http_wire::Message;
@@ -25,15 +26,16 @@ pub struct Asked {
     pub command: Command,
 }
 
-/// What a message asks of the map.
+/// What a message asks of the map, or of the feed.
 #[derive(Drop)]
 pub enum Request {
     Change(Asked),
     Read(Query),
+    Feed(FeedCall),
 }
 
 /// The caller: nobody who says who it is, or a user. Another is refused.
-fn caller_of<'a>(message: &Message, users: &'a UserTable) -> Result<Option<&'a User>, Refusal>
+pub fn caller_of<'a>(message: &Message, users: &'a UserTable) -> Result<Option<&'a User>, Refusal>
     ensures { MatchResult result (λ caller. caller_of users.now message.now ≡ Ok (option_copied caller))
         (λ r. caller_of users.now message.now ≡ Err r) }
 {
@@ -44,7 +46,8 @@ fn caller_of<'a>(message: &Message, users: &'a UserTable) -> Result<Option<&'a U
     }
 }
 
-fn is_moderator(caller: Option<&User>) -> bool
+/// Whether the caller is a moderator.
+pub fn is_moderator(caller: Option<&User>) -> bool
     ensures { result ≡ is_moderator (option_copied caller.entry) }
 {
     match caller {
@@ -53,14 +56,16 @@ fn is_moderator(caller: Option<&User>) -> bool
     }
 }
 
-fn known_user(caller: Option<&User>) -> Result<&User, Refusal>
+/// A caller who says who it is.
+pub fn known_user(caller: Option<&User>) -> Result<&User, Refusal>
     ensures { MatchResult result (λ user. known_user (option_copied caller.entry) ≡ Ok user.now)
         (λ r. known_user (option_copied caller.entry) ≡ Err r) }
 {
     caller.ok_or(Refusal::NoUser)
 }
 
-fn known_moderator(caller: Option<&User>) -> Result<&User, Refusal>
+/// A caller who says who it is, and is a moderator.
+pub fn known_moderator(caller: Option<&User>) -> Result<&User, Refusal>
     ensures { MatchResult result (λ user. known_moderator (option_copied caller.entry) ≡ Ok user.now)
         (λ r. known_moderator (option_copied caller.entry) ≡ Err r) }
 {
@@ -113,6 +118,15 @@ fn work_by_moderator(
     work_of(alloc, edit, body, user)
 }
 
+/// The call for a piece, where the caller is a moderator.
+fn piece_by_moderator(caller: Option<&User>, number: u64) -> Result<Request, RequestFault>
+    ensures gives { GivesAsked (piece_asked (option_copied caller.entry) number) result }
+    ensures shown { IfErr result HasShownFault }
+{
+    let _moderator = known_moderator(caller)?;
+    Ok(Request::Feed(FeedCall::Piece { number }))
+}
+
 /// What a task asks, where the caller may.
 fn asked_by(
     alloc: Global,
@@ -128,6 +142,8 @@ fn asked_by(
         Task::Read(query) => Ok(Request::Read(query)),
         Task::Change(edit) => work_by_user(alloc, caller, body, edit),
         Task::Moderate(edit) => work_by_moderator(alloc, caller, body, edit),
+        Task::Follow(FeedCall::State) => Ok(Request::Feed(FeedCall::State)),
+        Task::Follow(FeedCall::Piece { number }) => piece_by_moderator(caller, number),
     }
 }
 

@@ -1,8 +1,9 @@
-//! What a call comes to: a query, or work on the map, by who may ask for it.
+//! What a call comes to: a query, work on the map or a call of the feed, by who may ask for it.
 ghost use Rattle.std.specs.Prelude.{◌≡◌};
 ghost use Rattle.api_desk.specs.Tasks.{mark, task_of, HasTaskNumbers};
 ghost use Rattle.route_table.specs.Calls.{HasPathNumbers};
 
+use crate::feed::FeedCall;
 use osm_base::{Key, Kind};
 use osm_model::Query;
 use route_table::Call;
@@ -53,6 +54,8 @@ pub enum Task {
     Change(Edit),
     /// Only a moderator may redact.
     Moderate(Edit),
+    /// Anybody may ask how far the feed goes, and only a moderator for a piece of it.
+    Follow(FeedCall),
 }
 
 /// Without a redaction the mark is taken off.
@@ -118,5 +121,7 @@ pub fn task_of(call: Call, sees: bool, large_from: Option<u64>) -> Task
         Call::Full { key } => Task::Read(Query::Full { key }),
         Call::WaysOf { id } => Task::Read(Query::WaysOf { id }),
         Call::RelationsOf { key } => Task::Read(Query::RelationsOf { key }),
+        Call::FeedState => Task::Follow(FeedCall::State),
+        Call::FeedPiece { number } => Task::Follow(FeedCall::Piece { number }),
     }
 }

@@ -1,3 +1,6 @@
+use Rattle.std.proofs.Common.{sym, subst}
+use Rattle.osm_model.specs.Journal.{IsLegal}
+use Rattle.api_desk.proofs.FeedAlone.{feed_answers}
 use Rattle.api_desk.proofs.Replies.{change_answers, query_answers}
 use Rattle.api_desk.proofs.desk.answer_request.Goals as goal
 
@@ -20,4 +23,22 @@ returns-in-Change-clause-answers g c users message asks =
 
 pub returns-in-Read-clause-answers : goal.returns-in-Read-clause-answers
 returns-in-Read-clause-answers g c users message asks =
-    query_answers users c.args.session c.args.book.now message c.args.moment c.in-Read.query c.read.result (rw c.in-Read.is at asks) c.read.ensures.reply
+    query_answers users c.args.session c.args.book.now message c.args.moment c.in-Read.query c.query_reply.result (rw c.in-Read.is at asks) c.query_reply.ensures.reply
+
+pub feed_reply-requires : goal.feed_reply-requires
+feed_reply-requires g c = subst IsLegal (sym c.journal.ensures.journal) c.laws.ensures
+
+pub returns-in-Feed-clause-answers : goal.returns-in-Feed-clause-answers
+returns-in-Feed-clause-answers g c users message asks =
+    feed_answers
+    users
+    c.args.session
+    c.args.book.now
+    _
+    message
+    c.args.moment
+    c.in-Feed.call
+    c.feed_reply.result
+    (rw c.in-Feed.is at asks)
+    c.journal.ensures.journal
+    c.feed_reply.ensures.reply

@@ -1,20 +1,64 @@
-use Rattle.std.proofs.Common.{Some, None}
-use Rattle.api_desk.specs.Gives.{shown_request}
-use Rattle.api_desk.proofs.HubReplies.{long_enough, has_status, request_replied, tells_read, tells_nothing}
+use Rattle.osm_model.specs.Answered.{does, reads}
+use Rattle.http_link.specs.Desk.{counted_reply}
+use Rattle.hub_answers.specs.Steps.{told}
+use Rattle.api_desk.proofs.HubReplies.{all_long, all_statuses, replied}
 use Rattle.api_desk.proofs.hub_desk.answer_request.Goals as goal
 
-pub reply_from-requires : goal.reply_from-requires
-reply_from-requires g c = long_enough c.args.session.now c.answer_bytes.new.session (shown_request c.args.request) c.args.moment c.in-Ok.bytes c.in-Ok.ensures
+pub reply_told-requires : goal.reply_told-requires
+reply_told-requires g c =
+    all_long
+    c.args.session.now
+    c.answer_change-answer.new.session
+    (does c.in-Change.asked.user c.in-Change.asked.command)
+    c.args.moment
+    c.answer_change-answer.result
+    c.answer_change-answer.ensures
 
-pub returns-in-Ok-clause-answers : goal.returns-in-Ok-clause-answers
-returns-in-Ok-clause-answers g c users message asks =
-    request_replied users c.args.session.now c.answer_bytes.new.session message (shown_request c.args.request) c.args.moment (Some c.in-Ok.bytes) c.reply_from.result asks c.in-Ok.ensures
-    (tells_read c.in-Ok.bytes c.reply_from.result c.reply_from.ensures.status c.reply_from.ensures.body)
+pub returns-in-Change-clause-answers : goal.returns-in-Change-clause-answers
+returns-in-Change-clause-answers g c users message asks =
+    replied
+    users
+    c.args.session.now
+    c.answer_change-answer.new.session
+    message
+    (does c.in-Change.asked.user c.in-Change.asked.command)
+    c.args.moment
+    (told c.answer_change-answer.result)
+    (counted_reply c.reply_told.result)
+    (rw c.in-Change.is at asks)
+    c.answer_change-answer.ensures
+    c.reply_told.ensures.tells
 
-pub returns-in-Ok-clause-status : goal.returns-in-Ok-clause-status
-returns-in-Ok-clause-status g c =
-    has_status c.args.session.now c.answer_bytes.new.session (shown_request c.args.request) c.args.moment c.in-Ok.bytes c.reply_from.result c.in-Ok.ensures c.reply_from.ensures.status
+pub returns-in-Change-clause-status : goal.returns-in-Change-clause-status
+returns-in-Change-clause-status g c =
+    c.reply_told.ensures.status
+    (all_statuses
+    c.args.session.now
+    c.answer_change-answer.new.session
+    (does c.in-Change.asked.user c.in-Change.asked.command)
+    c.args.moment
+    c.answer_change-answer.result
+    c.answer_change-answer.ensures)
 
-pub returns-in-Err-clause-answers : goal.returns-in-Err-clause-answers
-returns-in-Err-clause-answers g c users message asks =
-    request_replied users c.args.session.now c.answer_bytes.new.session message (shown_request c.args.request) c.args.moment None _ asks c.in-Err.ensures tells_nothing
+pub returns-in-Read-clause-answers : goal.returns-in-Read-clause-answers
+returns-in-Read-clause-answers g c users message asks =
+    replied
+    users
+    c.args.session.now
+    c.answer_read-answer.new.session
+    message
+    (reads c.in-Read.query)
+    c.args.moment
+    (told c.answer_read-answer.result)
+    (counted_reply c.reply_told-in-Read.result)
+    (rw c.in-Read.is at asks)
+    c.answer_read-answer.ensures
+    c.reply_told-in-Read.ensures.tells
+
+pub returns-in-Read-clause-status : goal.returns-in-Read-clause-status
+returns-in-Read-clause-status g c =
+    c.reply_told-in-Read.ensures.status
+    (all_statuses c.args.session.now c.answer_read-answer.new.session (reads c.in-Read.query) c.args.moment c.answer_read-answer.result c.answer_read-answer.ensures)
+
+pub returns-in-Feed-clause-answers : goal.returns-in-Feed-clause-answers
+returns-in-Feed-clause-answers g c users message asks = c.answer_feed.ensures.answers users message c.args.moment (rw c.in-Feed.is at asks)

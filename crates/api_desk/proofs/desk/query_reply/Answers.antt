@@ -4,7 +4,7 @@ use Rattle.osm_model.specs.Journal.{replay}
 use Rattle.osm_model.specs.declared.states.State.{State}
 use Rattle.api_desk.specs.Machine.{bytes_of}
 use Rattle.api_desk.proofs.ReplyBytes.{bytes_long, read_back, read_status}
-use Rattle.api_desk.proofs.desk.read.Goals as goal
+use Rattle.api_desk.proofs.desk.query_reply.Goals as goal
 
 pub reply_from-requires : goal.reply_from-requires
 reply_from-requires g c =
