@@ -2,7 +2,7 @@
 use Rattle.std.proofs.Common.{◌≡◌, ℕ, [], ◌∷◌, Some, None, codes, refl}
 use Rattle.clap.proofs.OnLiterals.{clap_on_literals}
 use Rattle.osm_words.specs.declared.words.LoadOptions.{LoadOptions}
-use Rattle.osm_words.specs.Words.{reading_of, pipe, serve, measure, export, replay}
+use Rattle.osm_words.specs.Words.{reading_of, pipe, serve, measure, export, replay, mirror_reading_of, standard, listens}
 
 abbrev load : ℕ → ℕ → ℕ → LoadOptions
 load seed sessions uploads = record { seed = seed; sessions = sessions; uploads = uploads }
@@ -120,3 +120,50 @@ unnamed = refl
 
 unknown : reading_of (codes "osm" ∷ codes "help" ∷ []) ≡ None
 unknown = refl
+
+-- ---- of a mirror
+
+mirrored : mirror_reading_of (codes "osm_mirror" ∷ codes "--users" ∷ codes "u.txt" ∷ codes "--at" ∷ codes "7" ∷ []) ≡ Some (standard (codes "u.txt") (Some 7))
+unfolding clap_on_literals
+mirrored = refl
+
+mirrored_by_the_clock : mirror_reading_of (codes "m" ∷ codes "--users=u" ∷ []) ≡ Some (standard (codes "u") None)
+unfolding clap_on_literals
+mirrored_by_the_clock = refl
+
+mirrored_at_ports : mirror_reading_of (codes "osm_mirror" ∷ codes "--workers" ∷ codes "8" ∷ codes "--users=u" ∷ codes "--listen=[::1]:0" ∷ [])
+    ≡ Some (listens (codes "u") (codes "[::1]:0") 8)
+unfolding clap_on_literals
+mirrored_at_ports = refl
+
+mirror_without_users : mirror_reading_of (codes "osm_mirror" ∷ codes "--at=7" ∷ []) ≡ None
+unfolding clap_on_literals
+mirror_without_users = refl
+
+mirror_at_ports_and_a_moment : mirror_reading_of (codes "osm_mirror" ∷ codes "--users=u" ∷ codes "--listen=l" ∷ codes "--workers=1" ∷ codes "--at=1" ∷ []) ≡ None
+unfolding clap_on_literals
+mirror_at_ports_and_a_moment = refl
+
+mirror_workers_untold : mirror_reading_of (codes "osm_mirror" ∷ codes "--users=u" ∷ codes "--listen=l" ∷ []) ≡ None
+unfolding clap_on_literals
+mirror_workers_untold = refl
+
+mirror_address_untold : mirror_reading_of (codes "osm_mirror" ∷ codes "--users=u" ∷ codes "--workers=1" ∷ []) ≡ None
+unfolding clap_on_literals
+mirror_address_untold = refl
+
+mirror_of_too_many_workers : mirror_reading_of (codes "osm_mirror" ∷ codes "--users=u" ∷ codes "--listen=l" ∷ codes "--workers=65" ∷ []) ≡ None
+unfolding clap_on_literals
+mirror_of_too_many_workers = refl
+
+mirror_with_a_command : mirror_reading_of (codes "osm_mirror" ∷ codes "pipe" ∷ codes "--users=u" ∷ []) ≡ None
+unfolding clap_on_literals
+mirror_with_a_command = refl
+
+mirror_with_an_end_mark : mirror_reading_of (codes "osm_mirror" ∷ codes "--users=u" ∷ codes "--" ∷ []) ≡ None
+unfolding clap_on_literals
+mirror_with_an_end_mark = refl
+
+mirror_of_no_words : mirror_reading_of [] ≡ None
+unfolding clap_on_literals
+mirror_of_no_words = refl

@@ -9,11 +9,13 @@ use Rattle.osm_words.specs.declared.words.TheConstants.{UPLOAD_LIMIT}
 use Rattle.osm_words.specs.declared.words.LoadOptions.{LoadOptions}
 use Rattle.osm_words.specs.declared.words.Words.{Words}
 use Rattle.osm_words.specs.declared.words.Words.TheVariants.{Pipe, Serve, Measure, Export, Replay}
+use Rattle.osm_words.specs.declared.words.MirrorWords.{MirrorWords}
+use Rattle.osm_words.specs.declared.words.MirrorWords.TheVariants.{Standard, Listen}
 use Rattle.osm_words.specs.declared.words.WordsFault.{WordsFault}
 use Rattle.osm_words.specs.declared.words.WordsFault.TheVariants.{NoReading, Memory}
 use Rattle.osm_words.specs.Values.{text_of, number_in, fitting}
 use Rattle.osm_base.specs.Number.{whole_of}
-use Rattle.osm_words.specs.Commands.{pipe_app, serve_app, load_app, plain, found}
+use Rattle.osm_words.specs.Commands.{pipe_app, serve_app, load_app, mirror_app, plain, found}
 
 -- a command of the program, with its options
 pub data Reading : Type 0 where
@@ -97,6 +99,38 @@ has_end_mark words = list_any (λ word. bytes_eq word (codes "--")) words
 abbrev pub reading_of : List Text → Option Reading
 reading_of words = if has_end_mark words then None else named_reading words
 
+-- ---- the words of a mirror
+
+-- what a mirror is to do, with its options
+pub data MirrorReading : Type 0 where
+  -- the path of the users text, and the moment at which the clock is fixed
+  standard : Text → Option ℕ → MirrorReading
+  -- the path of the users text, the address where links come, and the number of workers
+  listens : Text → Text → ℕ → MirrorReading
+
+-- what was read, without where it lies in memory
+abbrev pub shown_mirror : MirrorWords → MirrorReading
+shown_mirror (Standard users at) = standard users.now at
+shown_mirror (Listen users listen workers) = listens users.now listen.now workers
+
+-- The moment, the address and the workers: without the last two it is the standard link, with both of them and without a moment it
+-- listens.
+abbrev pub mirror_by : Text → Option Text → Option Text → Option Text → Option MirrorReading
+mirror_by users None None None = Some (standard users None)
+mirror_by users (Some text) None None = option_map (λ at. standard users (Some at)) (whole_of text)
+mirror_by users None (Some address) (Some count) =
+    option_and_then (λ listen. option_map (λ workers. listens users listen workers) (number_in 1 SESSION_LIMIT count)) (text_of address)
+mirror_by users _ _ _ = None
+
+abbrev pub mirror_of : List Row → Option MirrorReading
+mirror_of rows =
+    option_and_then (λ users. mirror_by users (first_of (codes "at") rows) (first_of (codes "listen") rows) (first_of (codes "workers") rows))
+    (option_and_then text_of (first_of (codes "users") rows))
+
+-- the reading of a mirror's words, the program's name first, whatever it is
+abbrev pub mirror_reading_of : List Text → Option MirrorReading
+mirror_reading_of words = if has_end_mark words then None else option_and_then mirror_of (found mirror_app words)
+
 -- ---- what reading answers
 
 -- the reading, and no reading only where there is none; want of memory is told apart, and may come at any time
@@ -109,6 +143,11 @@ abbrev pub GivesLoad : Option LoadOptions → Result LoadOptions WordsFault → 
 GivesLoad expected (Ok load) = expected ≡ Some load
 GivesLoad expected (Err NoReading) = expected ≡ None
 GivesLoad expected (Err Memory) = ⊤
+
+abbrev pub GivesMirror : Option MirrorReading → Result MirrorWords WordsFault → Type 0
+GivesMirror expected (Ok words) = expected ≡ Some (shown_mirror words)
+GivesMirror expected (Err NoReading) = expected ≡ None
+GivesMirror expected (Err Memory) = ⊤
 
 -- A load has a session at least, and no more than there may be.
 pub record HasSessions (load : LoadOptions) : Type 0 where
@@ -126,3 +165,8 @@ HaveSessions (Serve users listen workers) = HasWorkers workers
 HaveSessions (Measure load) = HasSessions load
 HaveSessions (Export load) = HasSessions load
 HaveSessions other = ⊤
+
+-- the same of a mirror's workers, where there are any
+abbrev pub HaveWorkers : MirrorWords → Type 0
+HaveWorkers (Standard users at) = ⊤
+HaveWorkers (Listen users listen workers) = HasWorkers workers

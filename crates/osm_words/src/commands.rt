@@ -1,7 +1,7 @@
 //! What `clap` is told of each command, and what it finds in words.
 ghost use Rattle.std.specs.Prelude.{◌≡◌, IfOk, map, string_bytes, true, false};
 ghost use Rattle.clap.specs.Words.{app_of, rule_of, with_rule, is_simple_and_free, kind_of};
-ghost use Rattle.osm_words.specs.Commands.{option, plain, pipe_app, serve_app, load_app, found};
+ghost use Rattle.osm_words.specs.Commands.{option, plain, pipe_app, serve_app, load_app, mirror_app, found};
 ghost use Rattle.osm_words.specs.Found.{Finds, Tells};
 
 use crate::words::WordsFault;
@@ -62,6 +62,17 @@ pub fn load<'a>(alloc: Global, name: &'a str) -> Result<Command<'a>, AllocError>
     let seeded = with_option(alloc, plain(alloc, name), "seed", true)?;
     let shared = with_option(alloc, seeded, "sessions", true)?;
     with_option(alloc, shared, "uploads", true)
+}
+
+/// `osm_mirror --users FILE`, and what a mirror may be told besides: `--at SECONDS`, or
+/// `--listen ADDRESS --workers N`.
+pub fn mirror<'a>(alloc: Global) -> Result<Command<'a>, AllocError>
+    ensures { IfOk result (λ command. app_of command ≡ mirror_app) }
+{
+    let needed = with_option(alloc, plain(alloc, "osm_mirror"), "users", true)?;
+    let timed = with_option(alloc, needed, "at", false)?;
+    let placed = with_option(alloc, timed, "listen", false)?;
+    with_option(alloc, placed, "workers", false)
 }
 
 /// Words that are refused have no reading, but for want of memory.

@@ -1,5 +1,5 @@
-//! The words of the program's command line, read with `clap`: which command they give, and with
-//! which options.
+//! The words of a program's command line, read with `clap`: which command of the server they give, or
+//! how a mirror is to serve, and with which options.
 #![tactic(auto)]
 
 mod commands;
@@ -8,5 +8,5 @@ mod reading;
 mod values;
 mod words;
 
-pub use reading::read_words;
-pub use words::{LoadOptions, UPLOAD_LIMIT, UPLOADS_A_SESSION, Words, WordsFault};
+pub use reading::{read_mirror_words, read_words};
+pub use words::{LoadOptions, MirrorWords, UPLOAD_LIMIT, UPLOADS_A_SESSION, Words, WordsFault};

@@ -1,12 +1,12 @@
 //! The options in what `clap` found.
-ghost use Rattle.std.specs.Prelude.{◌≡◌, ◌≤◌, IfSome, option_map, option_and_then};
+ghost use Rattle.std.specs.Prelude.{◌≡◌, ◌≤◌, IfSome, Some, None, option_map, option_and_then};
 ghost use Rattle.clap.specs.Words.{first_of, found_of, rows_of};
 ghost use Rattle.osm_words.specs.Values.{text_of, number_in};
 ghost use Rattle.osm_base.specs.Number.{whole_of};
-ghost use Rattle.osm_words.specs.Words.{HasSessions, HaveSessions, shown, pipe_of, serve_of, load_of};
+ghost use Rattle.osm_words.specs.Words.{HasSessions, HaveSessions, HaveWorkers, shown, shown_mirror, pipe_of, serve_of, load_of, mirror_by, mirror_of};
 
 use crate::values::{checked, fitting, is_text};
-use crate::words::{LoadOptions, UPLOAD_LIMIT, Words};
+use crate::words::{LoadOptions, MirrorWords, UPLOAD_LIMIT, Words};
 use clap::ArgMatches;
 use osm_base::{SESSION_LIMIT, whole_number};
 
@@ -75,4 +75,44 @@ pub fn load_of(matches: &ArgMatches<'_>) -> Option<LoadOptions>
     let sessions = number_in(matches, "sessions", 1, SESSION_LIMIT)?;
     let uploads = number_in(matches, "uploads", 0, UPLOAD_LIMIT)?;
     fitting(seed, sessions, uploads)
+}
+
+fn standard_at<'a>(users: &'a str, at: &str) -> Option<MirrorWords<'a>>
+    ensures value { option_map shown_mirror result ≡ mirror_by users.entry.now (Some at.now) None None }
+    ensures workers { IfSome result HaveWorkers }
+{
+    let at = Some(whole_number(at)?);
+    Some(MirrorWords::Standard { users, at })
+}
+
+fn listen_at<'a>(users: &'a str, listen: &'a str, count: &str) -> Option<MirrorWords<'a>>
+    ensures value { option_map shown_mirror result ≡ mirror_by users.entry.now None (Some listen.entry.now) (Some count.now) }
+    ensures workers { IfSome result HaveWorkers }
+{
+    if !is_text(listen) {
+        return None;
+    }
+    let workers = checked(whole_number(count)?, 1, SESSION_LIMIT)?;
+    Some(MirrorWords::Listen {
+        users,
+        listen,
+        workers,
+    })
+}
+
+/// What a mirror is to do.
+pub fn mirror_of<'a>(matches: &ArgMatches<'a>) -> Option<MirrorWords<'a>>
+    ensures value { option_map shown_mirror result ≡ mirror_of (rows_of (found_of matches.now)) }
+    ensures workers { IfSome result HaveWorkers }
+{
+    let users = text_at(matches, "users")?;
+    let at = value_of(matches, "at");
+    let listen = value_of(matches, "listen");
+    let workers = value_of(matches, "workers");
+    match (at, listen, workers) {
+        (None, None, None) => Some(MirrorWords::Standard { users, at: None }),
+        (Some(at), None, None) => standard_at(users, at),
+        (None, Some(listen), Some(count)) => listen_at(users, listen, count),
+        _ => None,
+    }
 }

@@ -1,10 +1,10 @@
 //! Reading the words.
 ghost use Rattle.std.specs.Prelude.{◌≡◌, IfOk, map, string_bytes};
-ghost use Rattle.osm_words.specs.Words.{Gives, GivesLoad, HasSessions, HaveSessions, reading_of, command_reading, pipe_reading, serve_reading, load_reading, replay_reading, has_end_mark};
+ghost use Rattle.osm_words.specs.Words.{Gives, GivesLoad, GivesMirror, HasSessions, HaveSessions, HaveWorkers, reading_of, mirror_reading_of, command_reading, pipe_reading, serve_reading, load_reading, replay_reading, has_end_mark};
 
-use crate::commands::{find, load, pipe, plain, serve};
-use crate::matches::{load_of, pipe_of, serve_of};
-use crate::words::{LoadOptions, Words, WordsFault};
+use crate::commands::{find, load, mirror, pipe, plain, serve};
+use crate::matches::{load_of, mirror_of, pipe_of, serve_of};
+use crate::words::{LoadOptions, MirrorWords, Words, WordsFault};
 use std::alloc::Global;
 
 fn read_pipe<'a>(alloc: Global, words: &'a [String]) -> Result<Words<'a>, WordsFault>
@@ -89,4 +89,23 @@ pub fn read_words<'a>(alloc: Global, words: &'a [String]) -> Result<Words<'a>, W
         [_, name, ..] => read_command(alloc, name.as_str(), &words[1..]),
         _ => Err(WordsFault::NoReading),
     }
+}
+
+/// Reads the words of a mirror's command line: the program's name and then its options, written as
+/// those of `read_words`.
+///
+/// `users` is needed, a path. With `listen`, an address, and `workers`, from 1 to 64, it listens;
+/// without both it serves the standard link, and there may be `at`. All other words have no reading.
+pub fn read_mirror_words<'a>(
+    alloc: Global,
+    words: &'a [String],
+) -> Result<MirrorWords<'a>, WordsFault>
+    ensures gives { GivesMirror (mirror_reading_of (map string_bytes words.entry.now)) result }
+    ensures workers { IfOk result HaveWorkers }
+{
+    if has_end_mark(words) {
+        return Err(WordsFault::NoReading);
+    }
+    let matches = find(mirror(alloc)?, words)?;
+    mirror_of(&matches).ok_or(WordsFault::NoReading)
 }

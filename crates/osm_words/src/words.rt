@@ -47,6 +47,22 @@ pub enum Words<'a> {
     Replay,
 }
 
+/// What a mirror is to do.
+#[derive(Clone, Copy)]
+pub enum MirrorWords<'a> {
+    /// To serve the standard link, as `Words::Pipe`.
+    Standard {
+        users: &'a str,
+        at: Option<u64>,
+    },
+    /// To serve the links that come to an address, as `Words::Serve`.
+    Listen {
+        users: &'a str,
+        listen: &'a str,
+        workers: u32,
+    },
+}
+
 /// Why words give no command.
 #[derive(Clone, Copy)]
 pub enum WordsFault {
