@@ -1,37 +1,22 @@
 //! The program over what the system gave.
-ghost use Rattle.std.specs.Prelude.{◌≡◌, IfOk, MatchResult, map, string_bytes};
+ghost use Rattle.std.specs.Prelude.{MatchResult, map, string_bytes};
 ghost use Rattle.std.specs.IoError.{error_kind};
 ghost use Rattle.std.specs.Process.{exit_status};
 ghost use Rattle.std.specs.Vec.Iter.{into_iter_items};
 ghost use Rattle.osm_words.specs.Words.{reading_of};
-ghost use Rattle.osm_serve.specs.Run.{Runs, IsUnserved};
-ghost use Rattle.osm.specs.Program.{lacking_status};
+ghost use Rattle.server_frame.specs.Standard.{IsUnserved};
+ghost use Rattle.server_frame.specs.Words.{lacking_status};
+ghost use Rattle.osm_serve.specs.Run.{Runs};
 
 use osm_outside::{Host, Link};
 use osm_serve::run;
-use std::alloc::{AllocError, Global};
+use server_frame::{lacking_status, words_of};
+use std::alloc::Global;
 use std::env::Args;
 use std::io;
 use std::process::ExitCode;
 use std::sync::Wait;
 use std::thread::Threads;
-
-/// The words, in their order.
-fn words_of(alloc: Global, args: Args) -> Result<Vec<String>, AllocError>
-    ensures { IfOk result (λ words. words.items ≡ into_iter_items args) }
-{
-    args.collect(alloc)
-}
-
-/// The status where the system gave no words: 5 for want of memory, 1 for words that are no text.
-fn lacking_status(why: &io::Error) -> u8
-    ensures { result ≡ lacking_status (error_kind why.now) }
-{
-    match why.kind() {
-        io::ErrorKind::OutOfMemory => 5,
-        _ => 1,
-    }
-}
 
 /// The status of `run` on the words, or 5 where there is no memory for their list.
 fn status_on<H: Host, R: Threads + Wait + Sync, L: Link>(

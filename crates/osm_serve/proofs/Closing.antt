@@ -20,8 +20,7 @@ use Rattle.snapshot_hub.specs.declared.ends.End.TheVariants.{Matched, Unmatched}
 use Rattle.api_desk.specs.HubDesk.{HasServed}
 use Rattle.osm_serve.specs.Serve.{IsSound, ServesLink, ServesPipe}
 use Rattle.osm_serve.specs.ServeAll.{at_desk, EndsAs, EndEach, HaveEnded, HasClosed}
-use Rattle.osm_serve.proofs.OnLink.{HaveReadings, unserved_link}
-use Rattle.osm_serve.proofs.Serving.{nothing_served}
+use Rattle.osm_serve.proofs.Serving.{LinksLeftAlone, nothing_served}
 use Rattle.osm_serve.proofs.Joined.{ServedStay, seen_at_last, link_served}
 
 -- after every entry of a legal journal the map is consistent
@@ -153,10 +152,10 @@ pub nothing_legal : IsLegal []
 nothing_legal = record { taken = refl; numbered = refl }
 
 -- there was no memory for the hub or the desk
-pub pipe_unserved : (users : Users) (before : Told) → HaveReadings → PointsConsistent → ServesPipe users before before Memory
-pipe_unserved users before readings consistent = record {
+pub pipe_unserved : (users : Users) (before : Told) → LinksLeftAlone → PointsConsistent → ServesPipe users before before Memory
+pipe_unserved users before alone consistent = record {
   exchanges = [];
-  link = unserved_link before readings;
+  link = alone before;
   journal = [];
   legal = nothing_legal;
   own = refl;
@@ -168,9 +167,9 @@ pipe_unserved users before readings consistent = record {
   served = nothing_served users (newcomer 0) 0 (omega arith);
 }
 
-pub pipe_left_alone : (users : Users) (before after : Told) → HaveReadings → PointsConsistent → after ≡ before → ServesPipe users before after Memory
-pipe_left_alone users before after readings consistent same =
-    subst (λ (t : Told). ServesPipe users before t Memory) (sym same) (pipe_unserved users before readings consistent)
+pub pipe_left_alone : (users : Users) (before after : Told) → LinksLeftAlone → PointsConsistent → after ≡ before → ServesPipe users before after Memory
+pipe_left_alone users before after alone consistent same =
+    subst (λ (t : Told). ServesPipe users before t Memory) (sym same) (pipe_unserved users before alone consistent)
 
 -- the one session of a new hub
 pub first_is : (items : List (Known Entry)) (session : Known Entry) → items ≡ session ∷ []

@@ -1,6 +1,6 @@
 -- A journal whose requests were answered without want of memory is that of the run on one thread.
 use Rattle.std.proofs.Common.{◌≡◌, ℕ, ◌+◌, Bool, true, false, List, [], ◌∷◌, ◌++◌, length, take, Option, Some, None, Result, Ok, Err, ◌⊎◌, inl, inr, refl, sym, ap, ◌∙◌, arith, length-append}
-use Rattle.std.specs.Prelude.{count_by, cond, slice_get, unwrap_or, ◌==◌}
+use Rattle.std.specs.Prelude.{count_by, cond, slice_get, option_map, unwrap_or, ◌==◌}
 use Rattle.std.proofs.Math.Seq.{take-append_seam, take-length}
 use Rattle.std.proofs.lemmas.List.{append-nil, nil_from_length}
 use Rattle.std.proofs.lemmas.List.Sums.{sum_by-append}
@@ -9,12 +9,15 @@ use Rattle.osm_change.specs.declared.answers.Answer.{Answer}
 use Rattle.osm_change.specs.declared.refusals.Refusal.{Refusal}
 use Rattle.osm_model.specs.declared.commands.Entry.{Entry}
 use Rattle.osm_model.specs.Act.{Effect, judge}
-use Rattle.osm_model.specs.Answered.{Request, refused, does, reads, Place, all_of, IsRow, map_at, stamp_on}
+use Rattle.osm_model.specs.Answered.{Request, refused, does, reads, Place, all_of, map_at, stamp_on}
+use Rattle.osm_model.specs.Answered.{IsRow as IsMapsRow}
 use Rattle.osm_model.specs.Journal.{replay, calls_of, next_entry, appended}
 use Rattle.http_link.specs.declared.desk.Reply.{Reply}
 use Rattle.user_table.specs.Users.{Users}
+use Rattle.api_desk.specs.Answered.{IsRow}
 use Rattle.api_desk.specs.Answers.{reply_of}
-use Rattle.api_desk.specs.Request.{request_of}
+use Rattle.api_desk.specs.Feed.{Told, says}
+use Rattle.api_desk.specs.Request.{Ask, of_map, of_feed, request_of}
 use Rattle.workload.specs.declared.sent.Sent.{Sent}
 use Rattle.osm_serve.specs.Sending.{IsUnread, IsSent, AreSent, lacks_memory, moment_of_load}
 use Rattle.osm_serve.specs.OneThread.{IsDone, AreDone, journal_with}
@@ -52,23 +55,23 @@ appended_ok entries e judged done is = ap (appended entries e) is
 appended_err : (entries : List Entry) (e : Entry) (judged : Result Effect Refusal) (r : Refusal) → judged ≡ Err r → appended entries e judged ≡ entries
 appended_err entries e judged r is = ap (appended entries e) is
 
-pub row_done : (session : ℕ) (old new more : List Entry) (request : Request) (answer : Option Answer)
-    → IsRow new session (all_of session old) request moment_of_load answer (all_of session new)
+map_done : (session : ℕ) (old new more : List Entry) (request : Request) (answer : Option Answer)
+    → IsMapsRow new session (all_of session old) request moment_of_load answer (all_of session new)
     → new ≡ old ++ more → calls_of session new ≡ calls_of session old + length more → (answer ≡ None → ⊥)
-    → new ≡ journal_with old session request
-row_done session old new more (refused r) answer (inl row) grown own told = same_point old new more grown (ap (λ (p : Place). p.point) row.stays)
-row_done session old new more (refused r) answer (inr row) grown own told = absurd (told row.told)
-row_done session old new more (reads q) answer (inl row) grown own told =
+    → new ≡ journal_with old session (of_map request)
+map_done session old new more (refused r) answer (inl row) grown own told = same_point old new more grown (ap (λ (p : Place). p.point) row.stays)
+map_done session old new more (refused r) answer (inr row) grown own told = absurd (told row.told)
+map_done session old new more (reads q) answer (inl row) grown own told =
     let calls = row.calls in unmoved old new more grown (omega (arith, own, calls))
-row_done session old new more (reads q) answer (inr row) grown own told = absurd (told row.told)
-row_done session old new more (does user c) answer (inl row) grown own told =
+map_done session old new more (reads q) answer (inr row) grown own told = absurd (told row.told)
+map_done session old new more (does user c) answer (inl row) grown own told =
     let calls = row.calls in
     let stays : new ≡ old = unmoved old new more grown (omega (arith, own, calls)) in
     let whole : map_at new (length new) ≡ replay old = ap replay (take-length new ∙ stays) in
     let judged : judge (replay old) user (stamp_after (replay old).last moment_of_load) c ≡ Err row.refusal =
     sym (ap (λ P. judge P user (stamp_on P moment_of_load) c) whole) ∙ row.judged in
     stays ∙ sym (appended_err old (next_entry old session user moment_of_load c) _ row.refusal judged)
-row_done session old new more (does user c) answer (inr (inl row)) grown own told =
+map_done session old new more (does user c) answer (inr (inl row)) grown own told =
     let point = ap (λ (p : Place). p.point) row.comes_to in
     let calls = ap (λ (p : Place). p.calls) row.comes_to in
     let sum = length-append old more in
@@ -82,12 +85,26 @@ row_done session old new more (does user c) answer (inr (inl row)) grown own tol
     ap (slice_get new) (sym at) ∙ row.entry
     ∙ ap (λ P. Some (record { session = session; call = calls_of session old + 1; user = user; stamp = stamp_on P moment_of_load; command = c })) whole in
     one_entry old new more _ grown one entry ∙ sym (appended_ok old (next_entry old session user moment_of_load c) _ row.done judged)
-row_done session old new more (does user c) answer (inr (inr (inl row))) grown own told = absurd (told row.told)
-row_done session old new more (does user c) answer (inr (inr (inr row))) grown own told = absurd (told row.told)
+map_done session old new more (does user c) answer (inr (inr (inl row))) grown own told = absurd (told row.told)
+map_done session old new more (does user c) answer (inr (inr (inr row))) grown own told = absurd (told row.told)
+
+-- what tells no answer is want of memory
+untold : (answer : Option Answer) (told : Option Told) → told ≡ option_map says answer → (told ≡ None → ⊥) → answer ≡ None → ⊥
+untold answer told is some none = some (is ∙ ap (option_map says) none)
+
+pub row_done : (session : ℕ) (old new more : List Entry) (request : Ask) (told : Option Told)
+    → IsRow new session (all_of session old) request moment_of_load told (all_of session new)
+    → new ≡ old ++ more → calls_of session new ≡ calls_of session old + length more → (told ≡ None → ⊥)
+    → new ≡ journal_with old session request
+row_done session old new more (of_map request) told row grown own some =
+    map_done session old new more request row.answer row.row grown own (untold row.answer told row.told some)
+row_done session old new more (of_feed call) told (inl row) grown own some =
+    let calls = row.calls in unmoved old new more grown (omega (arith, own, calls))
+row_done session old new more (of_feed call) told (inr row) grown own some = absurd (some row.told)
 
 -- ---- a request, and a load
 
-lacking_of : (answer : Option Answer) (reply : Reply) → reply ≡ reply_of answer → answer ≡ None → reply.status ≡ 503
+lacking_of : (answer : Option Told) (reply : Reply) → reply ≡ reply_of answer → answer ≡ None → reply.status ≡ 503
 lacking_of answer reply text none = ap (λ (r : Reply). r.status) (text ∙ ap reply_of none)
 
 tested : (status : ℕ) → status ≡ 503 → (status == 503) ≡ true

@@ -11,7 +11,8 @@ use Rattle.user_table.specs.Users.{Users}
 use Rattle.snapshot_hub.specs.Known.{Known, seeing}
 use Rattle.api_desk.specs.Answers.{AreAnswered}
 use Rattle.api_desk.specs.HubDesk.{AtDesk, IsFresh, HasServed, stands_at}
-use Rattle.osm_serve.specs.Serve.{OnLink, ServesLink}
+use Rattle.server_frame.specs.OnLink.{OnLink}
+use Rattle.osm_serve.specs.Serve.{ServesLink}
 use Rattle.osm_serve.proofs.Serving.{nothing_served}
 
 -- what one link and then another had answered by the same session is answered together

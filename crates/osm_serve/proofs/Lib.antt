@@ -1,4 +1,3 @@
-pub mod OnLink
 pub mod Serving
 pub mod Joined
 pub mod Closing
@@ -7,5 +6,4 @@ pub mod Measuring
 pub mod SentLemmas
 pub mod DoneLemmas
 pub mod PlayLemmas
-pub mod KeepLemmas
 pub mod Replaying

@@ -1,6 +1,5 @@
 pub mod Serve
 pub mod ServeAll
-pub mod Users
 pub mod Tell
 pub mod Sending
 pub mod OneThread

@@ -1,20 +1,21 @@
 -- The run of a load on one thread: each request is done where it stands.
 use Rattle.std.specs.Prelude.{◌≡◌, ℕ, ◌⊎◌, List, [], ◌∷◌}
 use Rattle.osm_model.specs.declared.commands.Entry.{Entry}
-use Rattle.osm_model.specs.Answered.{Request, refused, does, reads}
+use Rattle.osm_model.specs.Answered.{refused, does, reads}
 use Rattle.osm_model.specs.Journal.{journal_after}
 use Rattle.http_wire.specs.declared.message.Message.{Message}
 use Rattle.http_wire.specs.Message.{BeginsWith}
 use Rattle.user_table.specs.Users.{Users}
-use Rattle.api_desk.specs.Request.{request_of}
+use Rattle.api_desk.specs.Request.{Ask, of_map, of_feed, request_of}
 use Rattle.workload.specs.declared.sent.Sent.{Sent}
 use Rattle.osm_serve.specs.Sending.{IsUnread, moment_of_load}
 
 -- the journal after a request of a session: a command that the map accepts is appended
-abbrev pub journal_with : List Entry → ℕ → Request → List Entry
-journal_with journal session (refused r) = journal
-journal_with journal session (does user c) = journal_after journal session user moment_of_load c
-journal_with journal session (reads q) = journal
+abbrev pub journal_with : List Entry → ℕ → Ask → List Entry
+journal_with journal session (of_map (refused r)) = journal
+journal_with journal session (of_map (does user c)) = journal_after journal session user moment_of_load c
+journal_with journal session (of_map (reads q)) = journal
+journal_with journal session (of_feed call) = journal
 
 -- The message that a request begins with was done.
 pub record IsDone (users : Users) (sent : Sent) (old new : List Entry) : Type 0 where

@@ -15,9 +15,10 @@ use Rattle.snapshot_hub.specs.Known.{Known, newcomer, seeing}
 use Rattle.snapshot_hub.specs.Ends.{MatchEnd}
 use Rattle.snapshot_hub.specs.declared.ends.End.{End}
 use Rattle.api_desk.specs.HubDesk.{AtDesk, HasServed}
-use Rattle.osm_serve.specs.Serve.{OnLink, IsSound, ServesLink, HasEnded}
-use Rattle.osm_serve.specs.declared.workers.Outcome.{Outcome}
-use Rattle.osm_serve.specs.declared.workers.Outcome.TheVariants.{Served, Failed, LacksMemory}
+use Rattle.server_frame.specs.OnLink.{OnLink}
+use Rattle.server_frame.specs.declared.listening.Outcome.{Outcome}
+use Rattle.server_frame.specs.declared.listening.Outcome.TheVariants.{Served, Failed, LacksMemory}
+use Rattle.osm_serve.specs.Serve.{IsSound, ServesLink, HasEnded}
 
 abbrev pub at_desk : Users → Known Entry → AtDesk
 at_desk users known = record { users = users; known = known }

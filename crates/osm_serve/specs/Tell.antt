@@ -2,6 +2,7 @@
 use Rattle.std.specs.Prelude.{◌≡◌, ℕ, ◌⊎◌, List}
 use Rattle.osm_outside.specs.Told.{Told, Rose}
 use Rattle.http_wire.specs.Written.{WrittenWhole, WrittenInPart}
+use Rattle.server_frame.specs.Standard.{LacksRoom}
 
 -- The text was written whole, and nothing else happened on the link.
 pub record WritesText (text : List ℕ) (before after : Told) (status : ℕ) : Type 0 where
@@ -23,11 +24,6 @@ pub record WritesOne (fits : List ℕ → Type 0) (before after : Told) (status 
   pub text : List ℕ
   pub fitting : fits text
   pub writes : Writes text before after status
-
--- There was no memory, and the link was left alone.
-pub record LacksRoom (before after : Told) (status : ℕ) : Type 0 where
-  pub unserved : after ≡ before
-  pub status_is : status ≡ 5
 
 -- what a command that writes a text of that kind comes to
 abbrev pub Tells : (List ℕ → Type 0) → Told → Told → ℕ → Type 0

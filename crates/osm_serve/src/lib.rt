@@ -5,7 +5,6 @@
 
 mod close;
 mod export;
-mod keeper;
 mod link;
 mod measure;
 mod pipe;
@@ -15,9 +14,8 @@ mod sending;
 mod serve;
 mod tell;
 mod top;
-mod users;
 mod workers;
 
 pub use link::serve_link;
 pub use top::run;
-pub use workers::{Outcome, serve_ports};
+pub use workers::serve_ports;

@@ -2,9 +2,9 @@
 ghost use Rattle.osm_serve.specs.Serve.{ServesLink};
 
 use api_desk::{HubDesk, exchanges_chain};
-use http_link::{LinkEnd, serve_desk};
-use http_wire::some_reading;
+use http_link::LinkEnd;
 use osm_outside::{Gate, Link, Outside};
+use server_frame::{answer_link, link_left_alone};
 use shared_front::HubName;
 use std::alloc::Global;
 use std::sync::Wait;
@@ -21,10 +21,10 @@ pub fn serve_link<N: HubName, G: Gate + Drop, R: Wait + Drop, W: Wait, L: Link>(
 {
     // What the desk's relation over a whole link comes to, and what a link that is left alone is.
     exchanges_chain();
-    some_reading();
+    link_left_alone();
     match desk.freshen() {
         Ok(()) => {
-            let end = serve_desk(alloc, desk, link);
+            let end = answer_link(alloc, desk, link);
             desk.law();
             end
         }

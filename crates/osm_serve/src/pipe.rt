@@ -9,10 +9,10 @@ use crate::close::close_hub;
 use crate::link::serve_link;
 use api_desk::{HubDesk, MapHub, MapSession, served_stay};
 use http_link::LinkEnd;
-use http_wire::some_reading;
 use osm_base::Memory;
 use osm_model::{Entry, points_are_consistent};
 use osm_outside::{Link, NoGate, Outside};
+use server_frame::link_left_alone;
 use shared_front::HubName;
 use snapshot_hub::Seats;
 use std::alloc::Global;
@@ -61,7 +61,7 @@ pub fn serve_pipe<N: HubName, R: Wait, L: Link>(
     // What journals come to, what of a session stands on the closing one, and what a link that is left alone is.
     points_are_consistent();
     served_stay();
-    some_reading();
+    link_left_alone();
     let Ok((mut hub, sessions)) = MapHub::<N, NoGate, &R>::new(alloc, rt, seats, NoGate) else {
         return LinkEnd::Memory;
     };

@@ -3,9 +3,9 @@ ghost use Rattle.std.specs.Prelude.{◌≡◌, IfOk, []};
 ghost use Rattle.osm_serve.specs.Replay.{AreReplayLines, Replays, status_of_input, status_of_text};
 ghost use Rattle.osm_serve.specs.Tell.{Tells};
 
-use crate::keeper::BookKeeper;
 use crate::tell::tell;
 use api_desk::MapMachine;
+use book_keeper::BookKeeper;
 use hub_core::Book;
 use journal_input::{InputFault, read_entries};
 use journal_text::JournalFault;

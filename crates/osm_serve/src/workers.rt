@@ -13,23 +13,13 @@ use link_workers::{Service, Worker, any_failed, seat_all, serve_all, unseat_all}
 use osm_base::Memory;
 use osm_model::{Entry, points_are_consistent};
 use osm_outside::{Gate, Link, NoGate, Outside, Port, PortOutside};
+use server_frame::Outcome;
 use shared_front::HubName;
 use snapshot_hub::Seats;
 use std::alloc::Global;
 use std::sync::Wait;
 use std::thread::Threads;
 use user_table::UserTable;
-
-/// How serving ports ended.
-#[derive(Clone, Copy)]
-pub enum Outcome {
-    /// No port has a link to come.
-    Served,
-    /// Accepting failed at a port.
-    Failed,
-    /// There was no memory before the first link.
-    LacksMemory,
-}
 
 /// The service of all workers: each has a desk of its own, with its session of the hub.
 #[derive(Drop)]

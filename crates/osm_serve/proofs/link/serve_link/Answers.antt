@@ -6,14 +6,14 @@ returns-in-Ok g c =
     serves_link
     c.args.desk.now
     c.freshen.new.self
-    c.serve_desk-end.new.desk
+    c.answer_link-end.new.desk
     (g.L.Outside.told c.args.link.now)
-    (g.L.Outside.told c.serve_desk-end.new.link)
-    c.serve_desk-end.result
+    (g.L.Outside.told c.answer_link-end.new.link)
+    c.answer_link-end.result
     c.exchanges_chain.ensures
     c.in-Ok.ensures.users
     c.in-Ok.ensures.ok
-    c.serve_desk-end.ensures
+    c.answer_link-end.ensures
     (record { legal = c.law.ensures.legal; consistent = c.law.ensures.consistent })
 
 pub returns-in-Err : goal.returns-in-Err
@@ -22,6 +22,6 @@ returns-in-Err g c =
     c.args.desk.now
     c.freshen.new.self
     (g.L.Outside.told c.args.link.now)
-    c.some_reading.ensures
+    c.link_left_alone.ensures
     c.in-Err.ensures.err
     (record { legal = c.law-in-Err.ensures.legal; consistent = c.law-in-Err.ensures.consistent })

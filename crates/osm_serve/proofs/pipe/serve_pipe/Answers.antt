@@ -7,7 +7,7 @@ use Rattle.osm_serve.proofs.Closing.{pipe_served, pipe_unserved, pipe_left_alone
 use Rattle.osm_serve.proofs.pipe.serve_pipe.Goals as goal
 
 pub returns-in_default : goal.returns-in_default
-returns-in_default g c = pipe_unserved c.args.users.now (g.L.Outside.told c.args.link.now) c.some_reading.ensures c.points_are_consistent.ensures
+returns-in_default g c = pipe_unserved c.args.users.now (g.L.Outside.told c.args.link.now) c.link_left_alone.ensures c.points_are_consistent.ensures
 
 pub returns-in-Ok-serve_by_one : goal.returns-in-Ok-serve_by_one
 returns-in-Ok-serve_by_one g c =
@@ -20,4 +20,4 @@ returns-in-Ok-serve_by_one g c =
 
 pub returns : goal.returns
 returns g c =
-    pipe_left_alone c.args.users.now (g.L.Outside.told c.args.link.now) (g.L.Outside.told c.serve_by_one.new.link) c.some_reading.ensures c.points_are_consistent.ensures c.in-Err.ensures.err
+    pipe_left_alone c.args.users.now (g.L.Outside.told c.args.link.now) (g.L.Outside.told c.serve_by_one.new.link) c.link_left_alone.ensures c.points_are_consistent.ensures c.in-Err.ensures.err

@@ -1,43 +1,21 @@
-use Rattle.std.proofs.Common.{refl, inl, inr}
+use Rattle.std.proofs.Common.{map, refl, inl, inr}
 use Rattle.osm_serve.proofs.serve.run_serve.Goals as goal
 
 pub returns-in-Ok : goal.returns-in-Ok
-returns-in-Ok g c =
-    let found = c.in-Ok.ensures.found in
-    record {
-      unserved = refl;
-      comes_to = inl (record {
-        text = found.0;
-        told = found.1;
-        users = c.in-Ok.users;
-        table = found.2;
-        asked = g.H.Host.told c.read_users.new.host;
-        keeps = c.read_users.ensures.keeps;
-        listens = c.listen.ensures;
-      });
-    }
-
-pub returns-in-Err-Failed : goal.returns-in-Err-Failed
-returns-in-Err-Failed g c =
-    let found = rw c.in-Err-Failed.field-0-is at c.in-Err-Failed.ensures.found in
-    record {
-      unserved = refl;
-      comes_to = inr (record { keeps = c.read_users.ensures.keeps; comes_to = inr (inl (record { failed = found; unserved = refl; status_is = refl })) });
-    }
-
-pub returns-in-Err-Refused : goal.returns-in-Err-Refused
-returns-in-Err-Refused g c =
-    let found = rw c.in-Err-Refused.field-0-is at c.in-Err-Refused.ensures.found in
-    record {
-      unserved = refl;
-      comes_to = inr (record {
-        keeps = c.read_users.ensures.keeps;
-        comes_to = inl (record { text = found.0; told = found.1; refused = found.2; unserved = refl; status_is = refl });
-      });
-    }
-
-pub returns-in-Err-Memory : goal.returns-in-Err-Memory
-returns-in-Err-Memory g c = record {
+returns-in-Ok g c = record {
   unserved = refl;
-  comes_to = inr (record { keeps = c.read_users.ensures.keeps; comes_to = inr (inr (record { unserved = refl; status_is = refl })) });
+  comes_to = inl (record {
+    opened = g.H.Host.told c.open_ports.new.host;
+    users = c.in-Ok.users;
+    ports = map g.H.Port.PortOutside.told c.in-Ok.ports.items;
+    opens = c.in-Ok.ensures.opens;
+    returned = map g.H.Port.PortOutside.told c.serve_handed-outcome.new.ports.items;
+    back = c.close_ports.ensures.back;
+    outcome = c.serve_handed-outcome.result;
+    served = c.serve_handed-outcome.ensures.serves;
+    status_is = c.close_ports.ensures.status;
+  });
 }
+
+pub returns-in-Err : goal.returns-in-Err
+returns-in-Err g c = record { unserved = refl; comes_to = inr (c.in-Err.ensures.opens (g.L.Outside.told c.args.standard.now)) }

@@ -3,7 +3,7 @@ use Rattle.osm_words.specs.Words.{HasSessions}
 use Rattle.osm_serve.proofs.top.run_words_over.Goals as goal
 
 pub returns-in-Pipe : goal.returns-in-Pipe
-returns-in-Pipe g c = rw c.in-Pipe.is c.run_pipe.ensures
+returns-in-Pipe g c = rw c.in-Pipe.is c.run_standard.ensures
 
 pub measure-requires : goal.measure-requires
 measure-requires g c =

@@ -1,0 +1,10 @@
+use Rattle.server_frame.proofs.standard.serve_from.Goals as goal
+
+pub returns : goal.returns
+returns g c = record {
+  start = g.L.Outside.told c.start.new.link;
+  started = c.start.ensures;
+  end = c.serve.result;
+  served = c.serve.ensures;
+  status_is = c.status_of.ensures;
+}

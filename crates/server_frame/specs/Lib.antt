@@ -1,0 +1,5 @@
+pub mod OnLink
+pub mod Users
+pub mod Standard
+pub mod Listening
+pub mod Words

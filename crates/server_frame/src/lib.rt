@@ -1,0 +1,16 @@
+//! What a server program does around its answers: it takes the words that the system gave, reads the
+//! users, serves its standard link or opens ports and gives them back, and tells by its status how
+//! that ended.
+#![tactic(auto)]
+
+mod link;
+mod listening;
+mod standard;
+mod users;
+mod words;
+
+pub use link::{answer_link, link_left_alone};
+pub use listening::{Listening, Outcome, close_ports, open_ports};
+pub use standard::{LinkServer, run_standard};
+pub use users::{NoUsers, read_users};
+pub use words::{lacking_status, words_of};
