@@ -1,0 +1,10 @@
+use Rattle.std.proofs.Common.{take}
+use Rattle.std.specs.List.{AllByRecursion}
+use mathlib.Core.List.{IsPrefix}
+use Rattle.step_hub.proofs.ports.longest.Given as goal
+
+abbrev pub invariant-loop-desk : goal.invariant-loop-desk
+invariant-loop-desk g l = record {
+  legal : g.S.Stepped.legal l.front;
+  begin : AllByRecursion (λ d. IsPrefix d.front l.front) (take l.desk-index l.desks);
+}

@@ -1,0 +1,77 @@
+-- What serving the links of ports over one list does.
+use Rattle.std.specs.Prelude.{◌≡◌, ℕ, ◌+◌, ◌≤◌, Bool, true, false, List, [], ◌∷◌, map, length, take}
+use Rattle.std.specs.List.{AllByRecursion, AllZip, list_any}
+use mathlib.Core.List.{IsPrefix}
+use Rattle.osm_outside.specs.Port.{PortTold}
+use Rattle.http_wire.specs.declared.message.Message.{Message}
+use Rattle.http_link.specs.declared.desk.Reply.{Reply}
+use Rattle.http_link.specs.Exchange.{Exchange}
+use Rattle.http_link.specs.Turns.{exchanges_of}
+use Rattle.http_link.specs.Link.{Serves}
+use Rattle.link_workers.specs.Port.{Visit, ServesPort}
+use Rattle.link_workers.specs.Joined.{all_of}
+use Rattle.step_hub.specs.Steps.{at_front, Allows}
+use Rattle.step_hub.specs.declared.ports.Outcome.{Outcome}
+use Rattle.step_hub.specs.declared.ports.Outcome.TheVariants.{Served, Failed, LacksMemory}
+
+-- The message was answered on a beginning of the list that is no shorter than this, and left that beginning, or one with the next entry.
+pub record IsStepOf {E : Type 0} (steps : List E → Message → ℕ → Reply → List E → Type 0)
+    (list : List E) (point : ℕ) (exchange : Exchange) (next : ℕ) : Type 0 where
+  pub found : ℕ
+  pub later : point ≤ found
+  pub stays : found ≤ next
+  pub one : next ≤ found + 1
+  pub within : next ≤ length list
+  pub step : steps (take found list) exchange.message exchange.moment exchange.answer (take next list)
+
+-- All of these were, one after another, from the one point of the list to the other. The points never go back.
+abbrev pub AreStepsOf : {E : Type 0} → (List E → Message → ℕ → Reply → List E → Type 0) → List E → ℕ → List Exchange → ℕ → Type 0
+AreStepsOf steps list point [] last = last ≡ point
+AreStepsOf steps list point (exchange ∷ exchanges) last =
+    (next : ℕ) × IsStepOf steps list point exchange next × AreStepsOf steps list next exchanges last
+
+-- The link was served to its end by the desk, and these are its messages with their moments and replies.
+pub record IsServed {D : Type 0} (allows : D → Message → ℕ → Reply → D → Type 0) (visit : Visit) (exchanges : List Exchange) : Type 0 where
+  pub old : D
+  pub new : D
+  pub serves : Serves allows old new visit.came visit.went visit.end
+  pub exchanges_are : exchanges ≡ exchanges_of serves.turns
+
+-- What a worker did: what it had seen of the list behind its last link, its port as it was handed out and as it came back, and whether
+-- accepting failed.
+pub record Work (E : Type 0) : Type 0 where
+  pub front : List E
+  pub before : PortTold
+  pub after : PortTold
+  pub failed : Bool
+
+-- A worker that had seen nothing of the list served the links of its port.
+pub record HasWorked {C E : Type 0} (steps : C → List E → Message → ℕ → Reply → List E → Type 0)
+    (setting : C) (list : List E) (work : Work E) : Type 0 where
+  -- each link that the port handed out was served once, to an end, and given back; where accepting didn't fail, no known link is to come
+  pub links : ServesPort (Serves (Allows steps)) (at_front setting []) (at_front setting work.front) work.before work.after work.failed
+  pub front : IsPrefix work.front list
+  -- The messages of all these links, one link after another: each reply is a step on a beginning of the list. The points never go back,
+  -- from one link to the next neither.
+  pub exchanges : List (List Exchange)
+  pub each : AllZip (IsServed (Allows steps)) links.links.visits exchanges
+  pub answered : AreStepsOf (steps setting) list 0 (all_of exchanges) (length work.front)
+
+-- The links of these ports were served over one list that was empty.
+pub record ServesAll {C E : Type 0} (steps : C → List E → Message → ℕ → Reply → List E → Type 0) (legal : List E → Type 0)
+    (setting : C) (before after : List PortTold) (failed : Bool) : Type 0 where
+  pub list : List E
+  pub legal_is : legal list
+  -- one worker for each port
+  pub works : List (Work E)
+  pub worked : AllByRecursion (HasWorked steps setting list) works
+  pub handed : map (λ work. work.before) works ≡ before
+  pub back : map (λ work. work.after) works ≡ after
+  pub some_failed : failed ≡ list_any (λ work. work.failed) works
+
+-- what serving ports comes to: want of memory leaves them as they were
+abbrev pub ServesPorts : {C E : Type 0} → (C → List E → Message → ℕ → Reply → List E → Type 0) → (List E → Type 0)
+    → C → List PortTold → List PortTold → Outcome → Type 0
+ServesPorts steps legal setting before after Served = ServesAll steps legal setting before after false
+ServesPorts steps legal setting before after Failed = ServesAll steps legal setting before after true
+ServesPorts steps legal setting before after LacksMemory = after ≡ before

@@ -1,0 +1,72 @@
+//! A desk of one worker.
+ghost use Rattle.std.specs.Prelude.{◌≡◌};
+ghost use Rattle.step_hub.specs.Steps.{at_front};
+
+use crate::hub::StepHub;
+use crate::stepped::Stepped;
+use http_link::{Desk, Reply};
+use http_wire::Message;
+use osm_base::Memory;
+use shared_front::{Front, HubName};
+use std::alloc::Global;
+use std::marker::Model;
+use std::sync::Wait;
+
+/// Answers the messages of one worker's links, each in one step under the hub's lock. Contracts see it as the setting and what it
+/// has seen of the list.
+#[derive(Drop)]
+pub struct StepDesk<'a, N: HubName, S: Stepped + Drop, R: Wait> {
+    rt: &'a R,
+    hub: &'a StepHub<N, S>,
+    setting: &'a S::Setting,
+    front: Front<N, S::Entry>,
+}
+
+impl<'a, N: HubName, S: Stepped + Drop, R: Wait> Model for StepDesk<'a, N, S, R> {
+    ghost use Rattle.step_hub.specs.Steps.{AtFront, at_front};
+
+    ghost Value = { AtFront S.Setting S.Entry };
+
+    ghost view = { λ d. at_front d.setting.now d.front };
+
+    ghost invariant = { λ d. S.legal d.front };
+}
+
+impl<'a, N: HubName, S: Stepped + Drop, R: Wait> StepDesk<'a, N, S, R> {
+    /// A desk that has seen this of the hub's list. It takes no memory.
+    pub fn new(
+        rt: &'a R,
+        hub: &'a StepHub<N, S>,
+        setting: &'a S::Setting,
+        front: Front<N, S::Entry>,
+    ) -> StepDesk<'a, N, S, R>
+        requires { S.legal front }
+        ensures { result ≡ at_front setting.now front }
+    {
+        StepDesk {
+            rt,
+            hub,
+            setting,
+            front,
+        }
+    }
+
+    /// What it has seen of the list.
+    pub fn front(&self) -> &Front<N, S::Entry>
+        ensures front { result.now ≡ self.now.front }
+        ensures legal { S.legal self.now.front }
+    {
+        &self.front
+    }
+}
+
+impl<'a, N: HubName, S: Stepped + Drop, R: Wait> Desk for StepDesk<'a, N, S, R> {
+    ghost use Rattle.step_hub.specs.Steps.{Allows};
+
+    ghost allows = { λ old message moment reply new. Allows S.steps old message moment reply new };
+
+    fn answer(&mut self, alloc: Global, message: Message, moment: u64) -> Result<Reply, Memory> {
+        let mut held = self.hub.held.lock(self.rt);
+        held.answer(alloc, self.setting, &mut self.front, &message, moment)
+    }
+}

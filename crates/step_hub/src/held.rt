@@ -1,0 +1,90 @@
+//! What lies under the lock.
+ghost use Rattle.std.specs.Prelude.{◌≡◌, ◌<◌, ◌^◌, length, IsTrue, IfOk};
+ghost use Rattle.osm_base.specs.Status.{IsStatus};
+ghost use Rattle.http_link.specs.Desk.{counted_reply};
+ghost use Rattle.step_hub.specs.Steps.{GrowsByOne, StepsOn};
+
+use crate::stepped::Stepped;
+use http_link::Reply;
+use http_wire::Message;
+use osm_base::Memory;
+use shared_front::{Front, HubName, Tail};
+use std::alloc::Global;
+use std::marker::Model;
+
+/// The most entries that a list takes.
+const MOST: u64 = 1 << 62;
+
+/// The value, with the end and the front of the list that it stands for. Contracts see it as the front.
+#[derive(Drop)]
+pub struct Held<N: HubName, S: Stepped + Drop> {
+    value: S,
+    tail: Tail<N, S::Entry>,
+    front: Front<N, S::Entry>,
+    /// Whether the value has an entry that couldn't be added to the list, which no run has shown. It isn't asked any more then.
+    ahead: bool,
+}
+
+impl<N: HubName, S: Stepped + Drop> Model for Held<N, S> {
+    ghost use Rattle.std.specs.Prelude.{◌≡◌, false, List};
+
+    ghost Value = { List S.Entry };
+
+    ghost view = { λ h. h.front };
+
+    ghost invariant = { λ h. h.ahead ≡ false → S.list h.value ≡ h.front };
+}
+
+impl<N: HubName, S: Stepped + Drop> Held<N, S> {
+    /// An empty list.
+    pub fn new(value: S, tail: Tail<N, S::Entry>, front: Front<N, S::Entry>) -> Held<N, S>
+        requires { S.list value ≡ front }
+        ensures { result ≡ front }
+    {
+        Held {
+            value,
+            tail,
+            front,
+            ahead: false,
+        }
+    }
+
+    /// Answers a message at the list that is found here, and lets that front see what the list is then.
+    pub fn answer(
+        &mut self,
+        alloc: Global,
+        setting: &S::Setting,
+        front: &mut Front<N, S::Entry>,
+        message: &Message,
+        moment: u64,
+    ) -> Result<Reply, Memory>
+        requires legal { S.legal front.old }
+        ensures answered { StepsOn (S.steps setting.now) front.old message.now moment (counted_reply result) front.new }
+        ensures legal { S.legal front.new }
+        ensures status { IfOk result (λ reply. IsStatus reply.status) }
+    {
+        // The list is longer than what was seen of it, and what was seen is not.
+        if self.ahead || self.front.len() >= MOST || !front.begins(&self.front) {
+            return Err(Memory);
+        }
+        let reply = self.value.answer(alloc, setting, message, moment);
+        if !catch_up(self.value.entries(), &self.tail, &mut self.front) {
+            self.ahead = true;
+            return Err(Memory);
+        }
+        *front = self.front.again();
+        reply
+    }
+}
+
+/// Adds the entry that the front lacks of these, if it lacks one, and says whether it has them all then.
+fn catch_up<N: HubName, E>(entries: &[E], tail: &Tail<N, E>, front: &mut Front<N, E>) -> bool
+    requires { length front.old < 2 ^ 62 }
+    ensures { IsTrue result → GrowsByOne front.old entries.now → front.new ≡ entries.now }
+{
+    let seen = front.len() as usize;
+    if seen >= entries.len() {
+        return true;
+    }
+    front.add(tail, &entries[seen])
+}

@@ -1,0 +1,156 @@
+//! Many workers over one list.
+ghost use Rattle.std.specs.Prelude.{◌≡◌, ◌⊎◌, [], map, vec_len, replicate, IfOk, OnErr};
+ghost use Rattle.std.specs.List.{AllByRecursion};
+ghost use mathlib.Core.List.{IsPrefix};
+ghost use Rattle.http_link.specs.Link.{Serves};
+ghost use Rattle.link_workers.specs.Workers.{AllWork};
+ghost use Rattle.step_hub.specs.Steps.{at_front};
+ghost use Rattle.step_hub.specs.ServePorts.{ServesAll, ServesPorts};
+
+use crate::desk::StepDesk;
+use crate::hub::StepHub;
+use crate::stepped::Stepped;
+use http_link::Desk;
+use link_workers::{DeskService, Worker, any_failed, seat_all, serve_all, unseat_all};
+use osm_base::Memory;
+use osm_outside::{Port, PortOutside};
+use shared_front::{Front, HubName, Opened};
+use std::alloc::Global;
+use std::sync::Wait;
+use std::thread::Threads;
+
+/// How serving ports ended.
+#[derive(Clone, Copy)]
+pub enum Outcome {
+    /// No port has a link to come.
+    Served,
+    /// Accepting failed at a port.
+    Failed,
+    /// There was no memory before the first link.
+    LacksMemory,
+}
+
+/// So many desks that have seen this of the hub's list.
+fn desks_of<'a, N: HubName, S: Stepped + Drop, R: Wait>(
+    alloc: Global,
+    rt: &'a R,
+    hub: &'a StepHub<N, S>,
+    setting: &'a S::Setting,
+    first: &Front<N, S::Entry>,
+    count: usize,
+) -> Result<Vec<StepDesk<'a, N, S, R>>, Memory>
+    requires { S.legal first.now }
+    ensures { IfOk result (λ desks. desks.items ≡ replicate count (at_front setting.now first.now)) }
+{
+    let mut desks = Vec::with_capacity(alloc, count)?;
+    for _ in 0..count {
+        desks.push(StepDesk::new(rt, hub, setting, first.again()))?;
+    }
+    Ok(desks)
+}
+
+/// The longer of two fronts, which the other begins.
+fn longer<N: HubName, E>(one: &Front<N, E>, other: &Front<N, E>) -> Front<N, E>
+    ensures is_one { (result ≡ one.now) ⊎ (result ≡ other.now) }
+    ensures this { IsPrefix one.now result }
+    ensures that { IsPrefix other.now result }
+{
+    if one.begins(other) {
+        return other.again();
+    }
+    let _begins = other.begins(one);
+    one.again()
+}
+
+/// The longest front of the desks and of this one, which all of them begin.
+fn longest<N: HubName, S: Stepped + Drop, R: Wait>(
+    first: &Front<N, S::Entry>,
+    desks: &[StepDesk<'_, N, S, R>],
+) -> Front<N, S::Entry>
+    requires { S.legal first.now }
+    ensures legal { S.legal result }
+    ensures begin { AllByRecursion (λ desk. IsPrefix desk.front result) desks.now }
+{
+    let mut front = first.again();
+    for desk in desks {
+        front = longer(&front, desk.front());
+    }
+    front
+}
+
+/// Serves the links of each worker's port by its desk, in a thread of its own.
+fn serve_desks<D: Desk + Send + Sync, R: Threads + Wait + Sync, P: Port + Send>(
+    rt: &R,
+    alloc: Global,
+    workers: &mut [Worker<D, P>],
+)
+    ensures { AllWork (Serves D.allows) P.told workers.old workers.new }
+{
+    serve_all(rt, alloc, &DeskService::<D>::new(), workers);
+}
+
+/// Serves the links of each port by a desk of the hub, and says whether accepting failed at one. The ports come back in their
+/// order. Want of memory leaves them as they were.
+fn serve_by<
+    'a,
+    N: HubName + Send + Sync,
+    S: Stepped + Drop + Send,
+    R: Threads + Wait + Sync,
+    P: Port + Drop + Send,
+>(
+    rt: &'a R,
+    alloc: Global,
+    hub: &'a StepHub<N, S>,
+    setting: &'a S::Setting,
+    first: &Front<N, S::Entry>,
+    ports: &mut Vec<P>,
+) -> Result<bool, Memory>
+where
+    S::Entry: Send + Sync,
+    S::Setting: Sync,
+    requires fresh { first.now ≡ [] }
+    requires legal { S.legal first.now }
+    ensures served { IfOk result (λ failed. ServesAll S.steps S.legal setting.now (map P.told ports.old.items) (map P.told ports.new.items) failed) }
+    ensures count { IfOk result (λ failed. vec_len ports.new ≡ vec_len ports.old) }
+    ensures err { OnErr result (ports.new.items ≡ ports.old.items) }
+{
+    let mut desks = desks_of(alloc, rt, hub, setting, first, ports.len())?;
+    let mut workers = seat_all(alloc, &mut desks, ports)?;
+    serve_desks(rt, alloc, workers.as_mut_slice());
+    let failed = any_failed(workers.as_slice());
+    unseat_all(workers, &mut desks, ports);
+    // All desks have seen beginnings of one list.
+    let _list = longest(first, desks.as_slice());
+    Ok(failed)
+}
+
+/// Serves the links of the ports by a new hub of this value under that name, one worker a port, each in a thread of its own, until
+/// no port has a link to come or accepting fails. The ports come back in their order.
+pub fn serve_ports<
+    N: HubName + Send + Sync,
+    S: Stepped + Drop + Send,
+    R: Threads + Wait + Sync,
+    P: Port + Drop + Send,
+>(
+    rt: &R,
+    alloc: Global,
+    value: S,
+    opened: Opened<S::Entry>,
+    setting: &S::Setting,
+    ports: &mut Vec<P>,
+) -> Outcome
+where
+    S::Entry: Send + Sync,
+    S::Setting: Sync,
+    requires named { opened ≡ N.book }
+    requires empty { S.list value ≡ [] }
+    ensures serves { ServesPorts S.steps S.legal setting.now (map P.told ports.old.items) (map P.told ports.new.items) result }
+    ensures count { vec_len ports.new ≡ vec_len ports.old }
+{
+    let (hub, first) = StepHub::<N, S>::new(value, opened);
+    match serve_by(rt, alloc, &hub, setting, &first, ports) {
+        Ok(true) => Outcome::Failed,
+        Ok(false) => Outcome::Served,
+        Err(Memory) => Outcome::LacksMemory,
+    }
+}
