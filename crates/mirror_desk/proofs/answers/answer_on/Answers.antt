@@ -1,0 +1,15 @@
+use Rattle.http_link.specs.Desk.{counted_reply}
+use Rattle.mirror_desk.proofs.Rows.{message_answered}
+use Rattle.mirror_desk.proofs.answers.answer_on.Goals as goal
+
+pub returns-clause-answers : goal.returns-clause-answers
+returns-clause-answers g c =
+    message_answered
+    c.args.users.now
+    c.args.follower.now
+    c.args.message.now
+    c.args.moment
+    (counted_reply c.answer_message-reply.result)
+    c.answer_message-reply.new.follower
+    c.answer_message-reply.ensures.answers
+    c.laws.ensures

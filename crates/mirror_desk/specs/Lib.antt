@@ -1,0 +1,4 @@
+pub mod Request
+pub mod Gives
+pub mod Answers
+pub mod Desk

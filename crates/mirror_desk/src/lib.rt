@@ -1,0 +1,15 @@
+//! A read-only mirror: what a message asks of it, what it answers, and a desk over one follower of
+//! the server's journal.
+#![tactic(auto)]
+
+mod answers;
+mod desk;
+mod law;
+mod lines;
+mod pieces;
+mod replies;
+mod requests;
+
+pub use answers::answer_mirrored;
+pub use desk::MirrorDesk;
+pub use law::mirror_serves;

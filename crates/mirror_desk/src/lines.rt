@@ -1,0 +1,59 @@
+//! What a request line calls.
+ghost use Rattle.std.specs.Prelude.{◌≡◌, IfErr};
+ghost use Rattle.api_desk.specs.Gives.{Gives, HasShownFault};
+ghost use Rattle.mirror_desk.specs.Request.{before_query, posted, line_of};
+
+use api_desk::RequestFault;
+use http_wire::Message;
+use osm_base::split_once;
+use osm_change::Refusal;
+use route_table::{Call, Routes};
+use std::alloc::Global;
+
+/// The path of the call that takes a piece.
+const PIECE_PATH: &[u8] = b"/api/0.6/replication";
+
+/// What a request line calls.
+#[derive(Drop)]
+pub enum Line {
+    /// The mirror's own call, which takes a piece.
+    Piece,
+    /// A call that the server has.
+    Served(Call),
+}
+
+/// The target up to its first question mark.
+fn before_query(target: &[u8]) -> &[u8]
+    ensures { result.now ≡ before_query target.now }
+{
+    match split_once(target, b'?') {
+        Some((path, _)) => path,
+        None => target,
+    }
+}
+
+/// The call that takes a piece has one method. Methods are compared exactly.
+fn posted(method: &[u8]) -> Result<Line, RequestFault>
+    ensures gives { Gives (posted method.now) result }
+    ensures shown { IfErr result HasShownFault }
+{
+    if method == b"POST".as_slice() {
+        Ok(Line::Piece)
+    } else {
+        Err(RequestFault::Refused(Refusal::WrongMethod))
+    }
+}
+
+/// What the request line of a message calls, or the first cause for which it calls nothing.
+pub fn line_of(alloc: Global, message: &Message, routes: &Routes) -> Result<Line, RequestFault>
+    ensures gives { Gives (line_of message.now) result }
+    ensures shown { IfErr result HasShownFault }
+{
+    let method = message.method.as_slice();
+    let target = message.target.as_slice();
+    if before_query(target) == PIECE_PATH {
+        return posted(method);
+    }
+    let call = routes.route(alloc, method, target)?;
+    Ok(Line::Served(call))
+}

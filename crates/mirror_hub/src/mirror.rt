@@ -1,0 +1,73 @@
+//! What answers for a mirror, one message after another.
+ghost use Rattle.std.specs.Prelude.{◌≡◌, [], IfOk};
+
+use http_link::Reply;
+use http_wire::Message;
+use journal_follower::Follower;
+use mirror_desk::answer_mirrored;
+use osm_base::Memory;
+use osm_model::Entry;
+use route_table::Routes;
+use std::alloc::Global;
+use step_hub::Stepped;
+use user_table::UserTable;
+
+/// A follower of the journal, with the table of the routes.
+#[derive(Drop)]
+pub struct Mirror {
+    follower: Follower,
+    routes: Routes,
+}
+
+impl Mirror {
+    /// A mirror that has no entry yet.
+    pub fn new(alloc: Global) -> Result<Mirror, Memory>
+        ensures { IfOk result (λ mirror. mirror.follower ≡ []) }
+    {
+        let routes = Routes::new(alloc)?;
+        Ok(Mirror {
+            follower: Follower::new(alloc),
+            routes,
+        })
+    }
+}
+
+impl Stepped for Mirror {
+    ghost use Rattle.std.specs.Prelude.{None, refl};
+    ghost use Rattle.std.proofs.Common.{inl};
+    ghost use Rattle.osm_model.specs.Journal.{IsLegal};
+    ghost use Rattle.mirror_desk.specs.Answers.{MirrorAnswers};
+
+    type Entry = Entry;
+
+    type Setting = UserTable;
+
+    ghost list = { λ mirror. mirror.follower };
+
+    ghost legal = { λ entries. IsLegal entries };
+
+    ghost steps = { λ users old message moment reply new. MirrorAnswers users old message moment reply new };
+
+    fn entries(&self) -> &[Entry] {
+        self.follower.book().journal()
+    }
+
+    fn answer(
+        &mut self,
+        alloc: Global,
+        users: &UserTable,
+        message: &Message,
+        moment: u64,
+    ) -> Result<Reply, Memory> {
+        answer_mirrored(
+            alloc,
+            &self.routes,
+            users,
+            &mut self.follower,
+            message,
+            moment,
+        )
+    }
+
+    ghost memory_leaves = { λ users entries message moment legal. record { told = None; row = refl; text = refl; grown = inl refl; legal = λ still. still } };
+}

@@ -1,0 +1,10 @@
+//! A read-only mirror's top call: a run of it on a host and its standard link, which serves the link
+//! or the links of many ports by the pieces of the server's feed that are posted to it.
+#![tactic(auto)]
+
+mod link;
+mod serve;
+mod top;
+
+pub use link::serve_mirror;
+pub use top::mirror;

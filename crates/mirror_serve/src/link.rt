@@ -1,0 +1,25 @@
+//! Serving one link by a new mirror.
+ghost use Rattle.mirror_serve.specs.Serve.{ServesMirror};
+
+use http_link::LinkEnd;
+use journal_follower::Follower;
+use mirror_desk::{MirrorDesk, mirror_serves};
+use osm_outside::{Link, Outside};
+use server_frame::{answer_link, link_left_alone};
+use std::alloc::Global;
+use user_table::UserTable;
+
+/// Answers the requests of the link by a follower that has no entries at first, until the link ends.
+/// Want of memory for its desk leaves the link alone.
+pub fn serve_mirror<L: Link>(alloc: Global, users: &UserTable, link: &mut L) -> LinkEnd
+    ensures { ServesMirror users.now (L.told link.old) (L.told link.new) result }
+{
+    // What the desk's relation over a whole link comes to, and what a link that is left alone is.
+    mirror_serves();
+    link_left_alone();
+    let mut follower = Follower::new(alloc);
+    let Ok(mut desk) = MirrorDesk::new(alloc, &mut follower, users) else {
+        return LinkEnd::Memory;
+    };
+    answer_link(alloc, &mut desk, link)
+}
