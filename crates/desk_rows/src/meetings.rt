@@ -104,7 +104,7 @@ fn command_in(plain: &PlainDesk<'_>, bytes: &[u8]) -> Result<Asked, Fault> {
     let message = message_of(plain.alloc, bytes)?;
     match request_of(plain.alloc, &message, plain.routes, plain.users) {
         Ok(Request::Change(asked)) => Ok(asked),
-        Ok(Request::Read(_)) => Err(Fault::Line),
+        Ok(Request::Read(_) | Request::Feed(_)) => Err(Fault::Line),
         Err(RequestFault::Refused(_)) => Err(Fault::Line),
         Err(RequestFault::Memory) => Err(Fault::Memory),
     }

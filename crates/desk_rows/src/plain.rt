@@ -7,9 +7,10 @@ ghost use Rattle.osm_model.specs.Ask.{ask};
 ghost use Rattle.osm_model.specs.Journal.{replay, journal_after};
 ghost use Rattle.plain_model.specs.Judgement.{IsJudgedOn, answer_of, kept_after};
 ghost use Rattle.api_desk.specs.Answers.{reply_of};
+ghost use Rattle.api_desk.specs.Feed.{says, fed};
 
 use crate::desks::Sender;
-use api_desk::{Asked, Request, RequestFault, request_of};
+use api_desk::{Asked, FeedCall, Request, RequestFault, feed_reply, request_of};
 use http_link::Reply;
 use http_wire::Message;
 use osm_base::Memory;
@@ -24,7 +25,7 @@ use user_table::UserTable;
 
 fn reply_to(alloc: Global, answer: &Answer<'_>) -> Result<Reply, Memory>
     requires { HasShownMoments answer.now }
-    ensures { IfOk result (λ reply. reply ≡ reply_of (Some answer.now)) }
+    ensures { IfOk result (λ reply. reply ≡ reply_of (Some (says answer.now))) }
 {
     Ok(Reply {
         status: answer_status(answer),
@@ -58,7 +59,7 @@ fn keep_replied(journal: &mut Journal, judged: Judgement, reply: Reply) -> Resul
 fn keep(journal: &mut Journal, alloc: Global, judged: Judgement) -> Result<Reply, Memory>
     requires shown { HasShownMoments (answer_of judged) }
     requires judged { IsJudgedOn journal.old judged }
-    ensures reply { IfOk result (λ reply. reply ≡ reply_of (Some (answer_of judged))) }
+    ensures reply { IfOk result (λ reply. reply ≡ reply_of (Some (says (answer_of judged)))) }
     ensures kept { OnOk result (journal.new ≡ kept_after journal.old judged) }
     ensures memory { OnErr result (journal.new ≡ journal.old) }
 {
@@ -75,7 +76,7 @@ fn change(
     moment: u64,
 ) -> Result<Reply, Memory>
     ensures reply { IfOk result (λ reply. reply
-        ≡ reply_of (Some (act (replay journal.old) asked.user moment asked.command).1)) }
+        ≡ reply_of (Some (says (act (replay journal.old) asked.user moment asked.command).1))) }
     ensures journal { OnOk result (journal.new
         ≡ journal_after journal.old session asked.user moment asked.command) }
     ensures memory { OnErr result (journal.new ≡ journal.old) }
@@ -87,10 +88,17 @@ fn change(
 
 fn read(journal: &Journal, alloc: Global, query: &Query, moment: u64) -> Result<Reply, Memory>
     ensures { IfOk result (λ reply. reply
-        ≡ reply_of (Some (ask (replay journal.now) moment query.now))) }
+        ≡ reply_of (Some (says (ask (replay journal.now) moment query.now)))) }
 {
     let answer = plain_ask(alloc, journal.state(), moment, query)?;
     reply_to(alloc, &answer)
+}
+
+/// Shows the entries of the journal as the feed does.
+fn follow(journal: &Journal, alloc: Global, call: FeedCall) -> Result<Reply, Memory>
+    ensures { IfOk result (λ reply. reply ≡ reply_of (Some (fed journal.now call))) }
+{
+    feed_reply(alloc, journal.entries(), call)
 }
 
 /// A desk that answers from a journal.
@@ -114,6 +122,7 @@ impl PlainDesk<'_> {
         match request_of(alloc, message, self.routes, self.users) {
             Ok(Request::Change(asked)) => change(journal, alloc, session, asked, moment),
             Ok(Request::Read(query)) => read(journal, alloc, &query, moment),
+            Ok(Request::Feed(call)) => follow(journal, alloc, call),
             Err(RequestFault::Refused(refusal)) => reply_to(alloc, &Answer::Refused(refusal)),
             Err(RequestFault::Memory) => Err(Memory),
         }

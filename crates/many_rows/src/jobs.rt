@@ -1,6 +1,6 @@
 //! What a thread does: the lines of a phase that are of its sessions, each by a desk.
 use crate::gates::RowGate;
-use crate::notes::{Notes, Told, is_wanted};
+use crate::notes::{Notes, Told, is_wanted, point_of};
 use crate::rows::{Phase, Step};
 use api_desk::{HubDesk, MapHub, MapSession};
 use http_link::Desk;
@@ -38,6 +38,7 @@ fn send<N: HubName, R: Wait + Drop, W: Wait>(
     wanted: Option<&str>,
 ) -> Result<Told, RowFault> {
     let calls = desk.session().calls();
+    let seen = desk.session().seen();
     let kept = Bytes::of(alloc, bytes.as_slice())?;
     let message = whole_message(alloc, bytes)?.ok_or(RowFault::Unread)?;
     let reply = desk.answer(alloc, message, MOMENT)?;
@@ -46,7 +47,8 @@ fn send<N: HubName, R: Wait + Drop, W: Wait>(
         notes.owed = notes.owed.saturating_add(1);
     }
     let accepted = u64::from(session.calls() > calls);
-    let place = session.seen().saturating_mul(2).saturating_sub(accepted);
+    let point = point_of(&reply, seen, session.seen());
+    let place = point.saturating_mul(2).saturating_sub(accepted);
     Ok(Told {
         session: session.number(),
         place,

@@ -9,8 +9,8 @@ use std::alloc::Global;
 #[derive(Drop)]
 pub struct Told {
     pub session: u32,
-    /// Twice the number of entries that were seen then, and one less for a command that was
-    /// accepted as the last of them.
+    /// Twice the number of entries that there were then, and one less for a command that was accepted
+    /// as the last of them.
     pub place: u64,
     pub bytes: Bytes,
     pub reply: Reply,
@@ -41,6 +41,23 @@ pub fn is_wanted(reply: &Reply, wanted: Option<&str>) -> bool {
         .parse::<u16>()
         .is_ok_and(|status| status == reply.status);
     is_status && (body.is_empty() || body.as_bytes() == reply.body.as_slice())
+}
+
+/// How many entries the feed has, by the reply to a call for its state.
+fn feed_length(reply: &Reply) -> Option<u64> {
+    let text = str::from_utf8(reply.body.as_slice()).unwrap_or("");
+    let rest = text.strip_prefix("{\"sequenceNumber\":")?;
+    let (length, _) = rest.split_once(',')?;
+    length.parse::<u64>().ok()
+}
+
+/// How many entries there were where a session was answered that saw so many before, and sees so many
+/// now. It may see more by now than the state of the feed that it was told.
+pub fn point_of(reply: &Reply, before: u64, after: u64) -> u64 {
+    match feed_length(reply) {
+        Some(length) if before <= length => length.min(after),
+        _ => after,
+    }
 }
 
 /// The notes of a thread.

@@ -1,10 +1,11 @@
-//! Rows of `serve`: whole runs of the server with workers on ports in memory, links that break off,
+//! Rows of `serve` and of a mirror that listens: whole runs with workers on ports in memory, links that break off,
 //! and workers on a listener of the system.
 #![tactic(auto)]
 
 mod crossing;
 mod gates;
 mod links;
+mod mirrors;
 mod ports;
 mod replies;
 mod runs;
@@ -18,6 +19,7 @@ use std::process::ExitCode;
 fn main(rt: HostRuntime) -> io::Result<ExitCode> {
     let mut tally = Tally::none();
     runs::play(&rt, rt.alloc(), &mut tally);
+    mirrors::play(&rt, rt.alloc(), &mut tally);
     links::play(&rt, rt.alloc(), &mut tally);
     crossing::play(&rt, rt.alloc(), &mut tally);
     sockets::play(&rt, rt, &mut tally);

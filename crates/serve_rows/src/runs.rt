@@ -1,7 +1,8 @@
-//! Runs of the server with ports in memory.
+//! Runs of the server and of a mirror with ports in memory.
 use crate::ports::port;
 use crate::replies::{Numbers, reply};
 use crate::texts::{CREATION, FIRST, READ, USERS};
+use mirror_serve::mirror;
 use osm_base::{Bytes, Memory};
 use osm_outside::{MemHost, MemLink, MemPort};
 use osm_serve::run;
@@ -10,19 +11,29 @@ use std::alloc::Global;
 use std::sync::Wait;
 use std::thread::Threads;
 
-/// The words of `serve` with so many workers.
-fn words(alloc: Global, workers: &str) -> Result<Vec<String>, Memory> {
+/// Which program is run.
+#[derive(Clone, Copy)]
+pub enum Program {
+    Server,
+    Mirror,
+}
+
+/// The words with which a program listens by so many workers.
+fn words(alloc: Global, program: Program, workers: &str) -> Result<Vec<String>, Memory> {
     let mut all = Vec::new(alloc);
-    for word in [
-        "osm",
-        "serve",
+    let first: &[&str] = match program {
+        Program::Server => &["osm", "serve"],
+        Program::Mirror => &["osm_mirror"],
+    };
+    let options = [
         "--users",
         "users.txt",
         "--listen",
         "127.0.0.1:8080",
         "--workers",
         workers,
-    ] {
+    ];
+    for word in first.iter().chain(options.iter()) {
         all.push(String::from_str(alloc, word)?)?;
     }
     Ok(all)
@@ -30,24 +41,26 @@ fn words(alloc: Global, workers: &str) -> Result<Vec<String>, Memory> {
 
 /// What came of a run.
 #[derive(Drop)]
-struct Outcome {
-    status: u8,
-    host: MemHost,
+pub struct Outcome {
+    pub status: u8,
+    pub host: MemHost,
     /// Whether nothing was read from the standard link or written to it.
-    is_unused: bool,
+    pub is_unused: bool,
 }
 
-/// Runs the server with this users text and these ports, and so many workers. The calls of the host
+/// Runs a program with this users text and these ports, and so many workers. The calls of the host
 /// with these numbers fail: that for the users is 0, that for the ports 1.
-fn serve<R: Threads + Wait + Sync>(
+pub fn listen<R: Threads + Wait + Sync>(
     rt: &R,
     alloc: Global,
+    program: Program,
     users: &str,
     ports: Vec<MemPort>,
     workers: &str,
     bad_calls: &[u64],
 ) -> Result<Outcome, Memory> {
-    let words = words(alloc, workers)?;
+    let words = words(alloc, program, workers)?;
+    let words = words.as_slice();
     let users = Bytes::of(alloc, users.as_bytes())?;
     let mut host = MemHost::new(alloc, users, ports, bad_calls.to_vec(alloc)?)?;
     let input = Bytes::of(alloc, READ.as_bytes())?;
@@ -61,13 +74,28 @@ fn serve<R: Threads + Wait + Sync>(
         Vec::new(alloc),
         1_000,
     )?;
-    let status = run(rt, alloc, words.as_slice(), &mut host, &mut standard);
+    let status = match program {
+        Program::Server => run(rt, alloc, words, &mut host, &mut standard),
+        Program::Mirror => mirror(rt, alloc, words, &mut host, &mut standard),
+    };
     let is_unused = standard.left().len() == length && standard.written().is_empty();
     Ok(Outcome {
         status,
         host,
         is_unused,
     })
+}
+
+/// Runs the server so.
+fn serve<R: Threads + Wait + Sync>(
+    rt: &R,
+    alloc: Global,
+    users: &str,
+    ports: Vec<MemPort>,
+    workers: &str,
+    bad_calls: &[u64],
+) -> Result<Outcome, Memory> {
+    listen(rt, alloc, Program::Server, users, ports, workers, bad_calls)
 }
 
 /// Two ports with so many links, each of one creation, and the second's accepts that fail.

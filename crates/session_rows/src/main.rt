@@ -1,5 +1,5 @@
-//! Plays the rows of a text through the server's top call: sessions of requests on a link in memory,
-//! and what must come of them. docs/ROWS.md has the format.
+//! Plays the rows of a text through the top calls of the server and of a mirror: sessions of requests
+//! on a link in memory, and what must come of them. docs/ROWS.md has the format.
 #![tactic(auto)]
 
 mod pieces;

@@ -1,5 +1,6 @@
-//! One run of the server for a row, and whether what came is what must come.
+//! One run of the server or of a mirror for a row, and whether what came is what must come.
 use crate::rows::Row;
+use mirror_serve::mirror;
 use osm_base::Bytes;
 use osm_outside::{MemHost, MemLink};
 use osm_serve::run;
@@ -53,7 +54,7 @@ impl<'a> Play<'a> {
         }
     }
 
-    /// Runs the server, and answers whether what came is what must come. Tells what was wrong.
+    /// Runs the program, and answers whether what came is what must come. Tells what was wrong.
     pub fn run<R: Print + Threads + Wait + Sync>(
         &self,
         rt: &R,
@@ -134,7 +135,7 @@ fn link_of(alloc: Global, row: &Row, play: &Play<'_>) -> Result<MemLink, RowFaul
     )?)
 }
 
-/// Runs the server on the link, with the row's words and host, and gives the program's status.
+/// Runs the program that the row's words name on the link, with the row's host, and gives its status.
 fn served<R: Threads + Wait + Sync>(
     rt: &R,
     alloc: Global,
@@ -144,7 +145,12 @@ fn served<R: Threads + Wait + Sync>(
     let users = Bytes::of(alloc, row.users.as_slice())?;
     let bad_calls = row.bad_calls.as_slice().to_vec(alloc)?;
     let mut host = MemHost::new(alloc, users, Vec::new(alloc), bad_calls)?;
-    Ok(run(rt, alloc, row.words.as_slice(), &mut host, link))
+    let words = row.words.as_slice();
+    if row.is_of_mirror() {
+        Ok(mirror(rt, alloc, words, &mut host, link))
+    } else {
+        Ok(run(rt, alloc, words, &mut host, link))
+    }
 }
 
 /// How many bytes are the same at the front of both.

@@ -9,6 +9,9 @@ use std::alloc::Global;
 const USUAL: &str =
     "@words osm pipe --users users.txt --at 1700000000\n@users 1 alicetoken user alice\\n2 bobtoken moderator bob\\n";
 
+/// The first word of a row that is played by a mirror.
+const MIRROR: &str = "osm_mirror";
+
 /// The words of a row by the link's own clock.
 const WORDS_BY_THE_CLOCK: &str = "osm pipe --users users.txt";
 
@@ -157,6 +160,14 @@ impl Row {
     pub fn read<'t>(&mut self, alloc: Global, text: &'t str) -> Result<(), Unread<'t>> {
         self.read_lines(alloc, USUAL)?;
         self.read_lines(alloc, text)
+    }
+
+    /// Whether its words are those of a mirror.
+    pub fn is_of_mirror(&self) -> bool {
+        match self.words.first() {
+            Some(name) => name.as_str() == MIRROR,
+            None => false,
+        }
     }
 
     fn read_lines<'t>(&mut self, alloc: Global, text: &'t str) -> Result<(), Unread<'t>> {
