@@ -110,18 +110,20 @@ def family(pid: int) -> list[int]:
 
 
 class Server:
-    """`PROGRAM serve` on a free port, with these users, one line each, until the end of a `with`.
+    """`PROGRAM serve` on a free port or that one, with these users, one line each, until the end of a `with`.
 
-    `pid` is that of the program itself, where PROGRAM is a script that starts it.
+    `pid` is that of the program itself, where PROGRAM is a script that starts it. A mirror's program has no command.
     """
 
-    def __init__(self, program: str, workers: int, users: str, wait: float = 60) -> None:
+    def __init__(
+        self, program: str, workers: int, users: str, wait: float = 60, command: tuple[str, ...] = ("serve",), port: int = 0
+    ) -> None:
         self.folder = tempfile.TemporaryDirectory()
         path = os.path.join(self.folder.name, "users.txt")
         with open(path, "w") as file:
             file.write(users)
-        self.port = free_port()
-        words = ["serve", "--users", path, "--listen", f"127.0.0.1:{self.port}", "--workers", str(workers)]
+        self.port = port or free_port()
+        words = [*command, "--users", path, "--listen", f"127.0.0.1:{self.port}", "--workers", str(workers)]
         self.process = subprocess.Popen([program, *words], stdin=subprocess.DEVNULL)
         self.workers = workers
         until = time.monotonic() + wait
