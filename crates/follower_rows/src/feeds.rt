@@ -1,124 +1,101 @@
 //! Pieces of a journal, fed in one order and another.
-use crate::journals::Faulty;
 use journal_follower::{Follower, Taken};
-use journal_text::entry_line;
 use osm_base::Memory;
-use replication_feed::{PieceFault, read_piece};
+use replication_feed::{PieceFault, entry_text, read_piece};
 use std::alloc::Global;
 
-/// The lines of a journal, and the texts of its pieces.
-#[derive(Drop)]
-pub struct Feed {
-    lines: Vec<String>,
-    pieces: Vec<String>,
-}
-
-impl Feed {
-    /// The feed of a journal's text, whose first line is its header.
-    pub fn of(alloc: Global, text: String) -> Result<Feed, Faulty> {
-        let mut lines = Vec::new(alloc);
-        let mut pieces = Vec::new(alloc);
-        for (number, line) in text.as_str().lines().enumerate().skip(1) {
+/// The texts of a journal's pieces, from its text, whose first line is its header.
+pub fn pieces_of(alloc: Global, text: &str) -> Result<Vec<String>, Memory> {
+    let mut pieces = Vec::new(alloc);
+    let mut number = 0_u64;
+    for line in text.lines() {
+        if number > 0 {
             let mut piece = String::new(alloc);
             write!(
                 piece,
                 "{{\"entry\":{line},\"number\":{number},\"version\":2}}"
             )?;
             pieces.push(piece)?;
-            lines.push(String::from_str(alloc, line)?)?;
         }
-        if lines.is_empty() {
-            return Err(Faulty::Wrong);
-        }
-        Ok(Feed { lines, pieces })
+        number = number.saturating_add(1);
     }
-
-    /// How many pieces it has.
-    pub fn len(&self) -> usize {
-        self.pieces.len()
-    }
+    Ok(pieces)
 }
 
-/// What a follower says of a piece's text; nothing where it is no piece.
-fn fed(alloc: Global, follower: &mut Follower, text: &str) -> Result<Option<Taken>, Memory> {
+/// Whether the follower says this of a piece's text.
+fn is(alloc: Global, follower: &mut Follower, text: &str, wanted: Taken) -> Result<bool, Memory> {
     match read_piece(alloc, text.as_bytes()) {
-        Ok(piece) => Ok(Some(follower.take(alloc, piece)?)),
-        Err(PieceFault::NotPiece) => Ok(None),
+        Ok(piece) => Ok(follower.take(alloc, piece)? == wanted),
+        Err(PieceFault::NotPiece) => Ok(false),
         Err(PieceFault::Memory) => Err(Memory),
     }
 }
 
 /// Whether the follower says this of each of these pieces, one after another.
-fn all_are<'a, I: Iterator<Item = &'a String>>(
+fn all_are(
     alloc: Global,
     follower: &mut Follower,
-    texts: I,
+    pieces: &[String],
     wanted: Taken,
 ) -> Result<bool, Memory> {
-    let mut is_right = true;
-    for text in texts {
-        is_right = fed(alloc, follower, text.as_str())? == Some(wanted) && is_right;
+    let mut right = true;
+    for text in pieces {
+        right = is(alloc, follower, text.as_str(), wanted)? && right;
     }
-    Ok(is_right)
+    Ok(right)
 }
 
-/// Whether the follower has the very entries of the feed, told by their lines.
-fn has_all(alloc: Global, follower: &Follower, feed: &Feed) -> Result<bool, Memory> {
-    let journal = follower.book().journal();
-    let mut is_right = journal.len() == feed.lines.len()
-        && follower.length() == feed.lines.len() as u64;
-    for (entry, line) in journal.iter().zip(feed.lines.iter()) {
-        let own = entry_line(alloc, entry)?;
-        is_right = own.as_slice() == line.as_str().as_bytes() && is_right;
+/// The same from the last to the first.
+fn all_are_backwards(
+    alloc: Global,
+    follower: &mut Follower,
+    pieces: &[String],
+    wanted: Taken,
+) -> Result<bool, Memory> {
+    let mut right = true;
+    let mut rest = pieces;
+    while let Some((text, before)) = rest.split_last() {
+        right = is(alloc, follower, text.as_str(), wanted)? && right;
+        rest = before;
     }
-    Ok(is_right)
+    Ok(right)
+}
+
+/// Whether the follower has the very entries of these pieces, told by their texts.
+fn has_all(alloc: Global, follower: &Follower, pieces: &[String]) -> Result<bool, Memory> {
+    let mut right = follower.length() == pieces.len() as u64;
+    let mut number = 0_u64;
+    for entry in follower.book().journal() {
+        let text = pieces.get(number as usize).map_or("", String::as_str);
+        number = number.saturating_add(1);
+        right = entry_text(alloc, number, entry)?.as_slice() == text.as_bytes() && right;
+    }
+    Ok(right)
 }
 
 /// All pieces in order, and once more from the last to the first.
-pub fn twice(alloc: Global, feed: &Feed) -> Result<bool, Memory> {
+pub fn twice(alloc: Global, pieces: &[String]) -> Result<bool, Memory> {
     let mut follower = Follower::new(alloc);
-    let mut right = all_are(alloc, &mut follower, feed.pieces.iter(), Taken::Folded)?;
-    right = has_all(alloc, &follower, feed)? && right;
-    right = all_are(alloc, &mut follower, feed.pieces.iter().rev(), Taken::Old)? && right;
-    Ok(has_all(alloc, &follower, feed)? && right)
+    let mut right = all_are(alloc, &mut follower, pieces, Taken::Folded)?;
+    right = has_all(alloc, &follower, pieces)? && right;
+    right = all_are_backwards(alloc, &mut follower, pieces, Taken::Old)? && right;
+    Ok(has_all(alloc, &follower, pieces)? && right)
 }
 
 /// All pieces but the first from the last on, of which none can be folded, and then all in order.
-pub fn backwards(alloc: Global, feed: &Feed) -> Result<bool, Memory> {
+pub fn backwards(alloc: Global, pieces: &[String]) -> Result<bool, Memory> {
     let mut follower = Follower::new(alloc);
-    let later = feed.pieces.iter().skip(1).rev();
-    let mut right = all_are(alloc, &mut follower, later, Taken::Gap { next: 1 })?;
-    right = follower.length() == 0 && right;
-    right = all_are(alloc, &mut follower, feed.pieces.iter(), Taken::Folded)? && right;
-    Ok(has_all(alloc, &follower, feed)? && right)
-}
-
-/// Every second piece, of which the first alone is folded, and then all in order.
-pub fn halves(alloc: Global, feed: &Feed) -> Result<bool, Memory> {
-    let mut follower = Follower::new(alloc);
-    let mut right = all_are(
-        alloc,
-        &mut follower,
-        feed.pieces.iter().take(1),
-        Taken::Folded,
-    )?;
-    let odd = feed.pieces.iter().step_by(2).skip(1);
-    right = all_are(alloc, &mut follower, odd, Taken::Gap { next: 2 })? && right;
-    right = all_are(alloc, &mut follower, feed.pieces.iter().take(1), Taken::Old)? && right;
-    right = all_are(
-        alloc,
-        &mut follower,
-        feed.pieces.iter().skip(1),
-        Taken::Folded,
-    )? && right;
-    Ok(has_all(alloc, &follower, feed)? && right)
+    let later = pieces.get(1..).unwrap_or(&[]);
+    let mut right = all_are_backwards(alloc, &mut follower, later, Taken::Gap { next: 1 })?;
+    right = all_are(alloc, &mut follower, pieces, Taken::Folded)? && right;
+    Ok(has_all(alloc, &follower, pieces)? && right)
 }
 
 /// All pieces, and then the last one of another journal of the same length: nothing changes.
-pub fn of_another(alloc: Global, feed: &Feed, other: &Feed) -> Result<bool, Memory> {
+pub fn of_another(alloc: Global, pieces: &[String], other: &[String]) -> Result<bool, Memory> {
     let mut follower = Follower::new(alloc);
-    let mut right = all_are(alloc, &mut follower, feed.pieces.iter(), Taken::Folded)?;
-    let strange = other.pieces.iter().rev().take(1);
-    right = all_are(alloc, &mut follower, strange, Taken::Differs)? && right;
-    Ok(has_all(alloc, &follower, feed)? && right)
+    let mut right = all_are(alloc, &mut follower, pieces, Taken::Folded)?;
+    let strange = other.last().map_or("", String::as_str);
+    right = is(alloc, &mut follower, strange, Taken::Differs)? && right;
+    Ok(has_all(alloc, &follower, pieces)? && right)
 }

@@ -4,8 +4,6 @@
 mod feeds;
 mod journals;
 
-use feeds::Feed;
-use journals::Faulty;
 use osm_base::Memory;
 use row_tally::Tally;
 use std::alloc::Global;
@@ -14,45 +12,49 @@ use std::process::ExitCode;
 use std::sync::Wait;
 use std::thread::Threads;
 
-/// The feeds of two journals.
-fn feeds_of<R: Threads + Wait + Sync>(rt: &R, alloc: Global) -> Result<(Feed, Feed), Faulty> {
-    let first = journals::exported(rt, alloc, "1")?;
-    let second = journals::exported(rt, alloc, "2")?;
-    Ok((Feed::of(alloc, first)?, Feed::of(alloc, second)?))
+/// The pieces of the journal of a load with this seed.
+fn pieces<R: Threads + Wait + Sync>(
+    rt: &R,
+    alloc: Global,
+    seed: &str,
+) -> Result<Vec<String>, Memory> {
+    let journal = journals::exported(rt, alloc, seed)?;
+    feeds::pieces_of(alloc, journal.as_str())
 }
 
-/// Plays each row on the feeds, which are of loads with these seeds.
-fn play<R: Print>(rt: &R, alloc: Global, tally: &mut Tally, feed: &Feed, other: &Feed) {
+/// Plays each row on the journals of two loads.
+fn play<R: Print + Threads + Wait + Sync>(
+    rt: &R,
+    alloc: Global,
+    tally: &mut Tally,
+) -> Result<(), Memory> {
+    let first = pieces(rt, alloc, "1")?;
+    let second = pieces(rt, alloc, "2")?;
+    let first = first.as_slice();
     tally.note(
         rt,
         "a load has more entries than uploads",
-        Ok(feed.len() > 100),
+        Ok(first.len() > 100),
     );
     tally.note(
         rt,
         "twice, the second time backwards",
-        feeds::twice(alloc, feed),
+        feeds::twice(alloc, first),
     );
     tally.note(
         rt,
         "backwards, and then in order",
-        feeds::backwards(alloc, feed),
+        feeds::backwards(alloc, first),
     );
-    tally.note(rt, "every second piece first", feeds::halves(alloc, feed));
-    tally.note(
-        rt,
-        "a piece of another journal",
-        feeds::of_another(alloc, feed, other),
-    );
+    let differs = feeds::of_another(alloc, first, second.as_slice());
+    tally.note(rt, "a piece of another journal", differs);
+    Ok(())
 }
 
 fn main(rt: HostRuntime) -> io::Result<ExitCode> {
-    let alloc = rt.alloc();
     let mut tally = Tally::none();
-    match feeds_of(&rt, alloc) {
-        Ok((feed, other)) => play(&rt, alloc, &mut tally, &feed, &other),
-        Err(Faulty::Memory) => tally.note(&rt, "the journals", Err(Memory)),
-        Err(Faulty::Wrong) => tally.note(&rt, "the journals", Ok(false)),
+    if let Err(memory) = play(&rt, rt.alloc(), &mut tally) {
+        tally.note(&rt, "the journals", Err(memory));
     }
     tally.tell(&rt)?;
     if tally.is_right() {
