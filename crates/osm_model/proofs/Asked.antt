@@ -25,7 +25,9 @@ use Rattle.changeset_core.specs.declared.records.ChangesetRecord.{ChangesetRecor
 use Rattle.osm_model.specs.declared.queries.Query.{Query}
 use Rattle.osm_model.specs.declared.queries.Query.TheVariants as query
 use Rattle.osm_model.specs.declared.states.State.{State}
-use Rattle.osm_model.specs.Ask.{element_row, element_rows, map_refusal, one_answer, read_answer, map_answer, changeset_answer, download_answer, ask}
+use Rattle.osm_model.specs.Ask.{element_row, element_rows, map_refusal, one_answer, read_answer, map_answer, past_map_answer, changeset_answer, download_answer, ask}
+use Rattle.osm_model.specs.Past.{one_at, full_at}
+use Rattle.osm_model.specs.PastMap.{map_at}
 use Rattle.osm_model.specs.Changeset.{changeset_row}
 use Rattle.osm_model.specs.ChangesetReads.{read_changeset, row_at, newest, passes, is_unmarked, download}
 use Rattle.osm_model.specs.Reads.{shown, one, numbered, history_of, many, full, ways_of, relations_of}
@@ -96,6 +98,10 @@ map_shown : (P : State) (a : Area) (r : Result Selection MapFault) → IsTimely 
 map_shown P a (Ok S) timely = rows_shown P (selected P.elements S) timely
 map_shown P a (Err f) timely = map_refusal_shown f
 
+past_map_shown : (P : State) (a : Area) (r : Result (List Shown) MapFault) → IsTimely P → HasShownMoments (past_map_answer P a r)
+past_map_shown P a (Ok ss) timely = rows_shown P ss timely
+past_map_shown P a (Err f) timely = map_refusal_shown f
+
 changeset_shown : (P : State) (c t : ℕ) → IsTimely P → HasShownMoments (changeset_answer (read_changeset P t c))
 changeset_shown P c t timely = of_record (changeset P c) refl
   where
@@ -136,5 +142,8 @@ ask_shown P m (query.Numbered k n show) timely = one_shown P (numbered P.element
 ask_shown P m (query.History k show) timely = read_shown P (history_of P.elements k show) timely
 ask_shown P m (query.Many kind ids) timely = read_shown P (many P.elements kind ids) timely
 ask_shown P m (query.Full k) timely = read_shown P (full P.elements k) timely
+ask_shown P m (query.OneAt k at) timely = one_shown P (one_at P k at) timely
+ask_shown P m (query.FullAt k at) timely = read_shown P (full_at P k at) timely
+ask_shown P m (query.MapAt a at) timely = past_map_shown P a (map_at P a at) timely
 ask_shown P m (query.WaysOf id) timely = rows_shown P (ways_of P.elements id) timely
 ask_shown P m (query.RelationsOf k) timely = rows_shown P (relations_of P.elements k) timely

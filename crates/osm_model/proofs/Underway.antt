@@ -1,13 +1,13 @@
 -- How far an upload has come: whatever a visible element lists is visible, ids that were given have
 -- versions, histories only grow, and the versions that it made are there.
 use Rattle.std.proofs.Common.{◌≡◌, ℕ, ◌+◌, ◌<◌, ◌≤◌, Bool, true, false, List, [], ◌∷◌, ◌++◌, length, Some, None, Ok, Err, refl, sym, ap, ◌∙◌, ⊎_elim, subst, length-append, append-nil, arith}
-use Rattle.std.specs.Prelude.{Option, Result, All, slice_get, option_and_then, nat_lt, ◌==◌, if◌then◌else◌}
+use Rattle.std.specs.Prelude.{Option, Result, All, slice_get, option_and_then, ◌==◌, if◌then◌else◌}
 use Rattle.std.specs.Option.{option_map_or}
 use Rattle.std.proofs.lemmas.Bool.Decides.{nat_tests}
 use Rattle.std.proofs.lemmas.Bool.{cases_Bool}
 use Rattle.std.proofs.lemmas.List.Elements.{All-nil, All-push}
 use Rattle.osm_base.specs.Key.{kind_eq, lists_key}
-use Rattle.osm_base.specs.Outcome.{◌>>=◌, refuse_if}
+use Rattle.osm_base.specs.Outcome.{◌>>=◌}
 use Rattle.osm_base.specs.declared.keys.Kind.{Kind}
 use Rattle.osm_base.specs.declared.keys.Key.{Key}
 use Rattle.osm_base.specs.declared.people.User.{User}

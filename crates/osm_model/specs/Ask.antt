@@ -20,6 +20,8 @@ use Rattle.osm_model.specs.declared.queries.Query.{Query}
 use Rattle.osm_model.specs.declared.queries.Query.TheVariants as query
 use Rattle.osm_model.specs.declared.states.State.{State}
 use Rattle.osm_model.specs.ChangesetReads.{read_changeset, query_changesets, download}
+use Rattle.osm_model.specs.Past.{one_at, full_at}
+use Rattle.osm_model.specs.PastMap.{map_at}
 use Rattle.osm_model.specs.Reads.{one, numbered, history_of, many, full, ways_of, relations_of}
 use Rattle.osm_model.specs.Selection.{map_of, selected}
 use Rattle.osm_model.specs.State.{changeset}
@@ -62,6 +64,11 @@ abbrev pub map_answer : State → Area → Result Selection MapFault → Answer
 map_answer P a (Ok S) = answer.Elements (Some a) (element_rows P (selected P.elements S))
 map_answer P a (Err fault) = answer.Refused (map_refusal fault)
 
+-- so is the map of an earlier stamp
+abbrev pub past_map_answer : State → Area → Result (List Shown) MapFault → Answer
+past_map_answer P a (Ok ss) = answer.Elements (Some a) (element_rows P ss)
+past_map_answer P a (Err fault) = answer.Refused (map_refusal fault)
+
 abbrev pub changeset_answer : Result ChangesetRow Refusal → Answer
 changeset_answer (Ok row) = answer.Changeset row
 changeset_answer (Err r) = answer.Refused r
@@ -81,6 +88,9 @@ ask_at P t (query.Numbered k n show) = one_answer P (numbered P.elements k n sho
 ask_at P t (query.History k show) = read_answer P (history_of P.elements k show)
 ask_at P t (query.Many kind ids) = read_answer P (many P.elements kind ids)
 ask_at P t (query.Full k) = read_answer P (full P.elements k)
+ask_at P t (query.OneAt k at) = one_answer P (one_at P k at)
+ask_at P t (query.FullAt k at) = read_answer P (full_at P k at)
+ask_at P t (query.MapAt within at) = past_map_answer P within (map_at P within at)
 ask_at P t (query.WaysOf id) = elements_answer P (ways_of P.elements id)
 ask_at P t (query.RelationsOf k) = elements_answer P (relations_of P.elements k)
 

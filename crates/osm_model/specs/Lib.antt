@@ -14,3 +14,7 @@ pub mod Ask
 pub mod Answered
 pub mod Timely
 pub mod Attributed
+pub mod Past
+pub mod PastMap
+pub mod Stamped
+pub mod WorkedPast

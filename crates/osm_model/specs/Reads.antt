@@ -1,5 +1,5 @@
 -- Reading elements (wiki, API v0.6, "Elements"): which versions a read shows, or why it shows none.
-use Rattle.std.specs.Prelude.{ℕ, Bool, false, not, ◌==◌, ◌&&◌, ◌||◌, if◌then◌else◌, List, map, filter, length, slice_get, Option, None, is_some, Result, Ok, Err}
+use Rattle.std.specs.Prelude.{ℕ, Bool, false, not, ◌==◌, ◌&&◌, ◌||◌, if◌then◌else◌, List, [], map, filter, length, slice_get, Option, None, is_some, Result, Ok, Err}
 use Rattle.std.specs.List.{list_any}
 use Rattle.std.specs.Option.{option_map_or}
 use Rattle.osm_base.specs.Key.{kind_eq, key_eq, lists_key}
@@ -78,6 +78,10 @@ is_way k = kind_eq k.kind kind.Way
 -- one of the ways that an element lists, lists the key
 abbrev pub way_lists : Elements → Key → Key → Bool
 way_lists E k x = list_any (λ w. is_way w && lists_key (refs_of E w) x) (refs_of E k)
+
+-- what a way lists, and nothing for another element
+abbrev pub way_refs : Elements → Key → List Key
+way_refs E k = if is_way k then refs_of E k else []
 
 -- itself, what it lists, and the nodes of the ways that it lists
 abbrev pub in_full : Elements → Key → Key → Bool

@@ -15,8 +15,9 @@ pub use commands::{Command, Entry};
 pub use faults::Fault;
 pub use law::{
     accepted_entries_are_taken, answers_have_moments, entries_keep_maps, later_maps_keep,
-    moments_are_bounded, points_are_consistent, uploads_push_what_they_made,
-    versions_are_attributed,
+    moments_are_bounded, past_boxes_are_as_told, past_maps_are_replayed, past_reads_are_as_told,
+    points_are_consistent, uploads_push_what_they_made, versions_are_attributed,
+    versions_are_stamped_in_order,
 };
 pub use queries::Query;
 pub use states::State;

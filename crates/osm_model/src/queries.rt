@@ -44,6 +44,22 @@ pub enum Query {
     Full {
         key: Key,
     },
+    /// An element as it was at a stamp, in seconds since 1970: the last of the versions with no later
+    /// one. A mark of now hides it from everybody.
+    OneAt {
+        key: Key,
+        at: u64,
+    },
+    /// `Full`, of the elements as they were at a stamp.
+    FullAt {
+        key: Key,
+        at: u64,
+    },
+    /// `Map`, of the elements as they were at a stamp.
+    MapAt {
+        within: Box7,
+        at: u64,
+    },
     /// The ways that list a node.
     WaysOf {
         id: u64,

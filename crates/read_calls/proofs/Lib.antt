@@ -1,5 +1,4 @@
 mod Firsts
-mod Gathered
 mod Known
 mod Steps
 mod Visible

@@ -1,23 +1,19 @@
 -- What is read in full is there: a visible element lists only visible ones.
-use Rattle.std.proofs.Common.{◌≡◌, ◌-◌, Bool, true, false, ◌⊎◌, inl, inr, ⊎_elim, List, [], ◌∷◌, ◌++◌, length, None, refl, sym, ap, ◌∙◌}
-use Rattle.std.specs.Prelude.{◌==◌, ◌&&◌, ◌||◌, not, filter, if◌then◌else◌, slice_get, is_some, option_and_then, Ok}
+use Rattle.std.proofs.Common.{◌≡◌, Bool, true, false, ◌⊎◌, inl, inr, ⊎_elim, List, [], ◌∷◌, refl, sym, ap, ◌∙◌}
+use Rattle.std.specs.Prelude.{◌==◌, ◌&&◌, ◌||◌, not, filter, Ok}
 use Rattle.std.specs.List.{list_any}
-use Rattle.std.proofs.lemmas.Bool.{false≢true, cases_Bool}
+use Rattle.std.proofs.lemmas.Bool.{false≢true}
 use Rattle.osm_base.specs.Key.{key_eq, lists_key, IsRising}
 use Rattle.osm_base.specs.Outcome.{◌>>=◌, refuse_if}
-use Rattle.osm_base.specs.declared.keys.Kind.{Kind}
-use Rattle.osm_base.specs.declared.keys.Kind.TheVariants.{Node, Way, Relation}
 use Rattle.osm_base.specs.declared.keys.Key.{Key}
 use Rattle.osm_base.proofs.KeyOrder.{key_eq-same}
-use Rattle.osm_base.proofs.KeyLists.{lists-append}
 use Rattle.osm_change.specs.declared.reads.ReadFault.TheVariants as fault
 use Rattle.osm_change.specs.declared.reads.Shown.{Shown}
-use Rattle.osm_element.specs.Elements.{keys_to, keys, histories, history, count, is_visible, refs_of, IsConsistent}
+use Rattle.osm_element.specs.Elements.{keys, count, is_visible, refs_of, IsConsistent}
 use Rattle.osm_element.specs.declared.elements.Elements.{Elements}
-use Rattle.osm_element.specs.declared.versions.Version.{Version}
-use Rattle.osm_element.proofs.Later.{given-there}
-use Rattle.osm_element.proofs.Used.{keys_to-has, filter-are}
+use Rattle.osm_element.proofs.Used.{filter-are}
 use Rattle.osm_model.specs.Reads.{current_shown, one, in_full, is_way, way_lists}
+use Rattle.osm_model.proofs.Gathered.{visible-listed}
 
 -- what can be read is visible
 pub one_visible : (E : Elements) (k : Key) (s : Shown) → one E k ≡ Ok s → is_visible E k ≡ true
@@ -35,34 +31,6 @@ or-cases false q h = inr h
 second : (p q : Bool) → p && q ≡ true → q ≡ true
 second true q h = h
 second false q h = absurd (false≢true h)
-
--- a visible element has a version
-visible-counts : (E : Elements) (x : Key) → is_visible E x ≡ true → (count E x == 0) ≡ false
-visible-counts E x seen =
-    ⊎_elim
-    (λ none. absurd (false≢true (sym (ap (λ (b : Bool). is_some (option_and_then (λ (v : Version). v.content) (if b then None else slice_get (history E x) (count E x - 1)))) none) ∙ seen)))
-    (λ some. some)
-    (cases_Bool (count E x == 0))
-
-or-true : (b : Bool) → b || true ≡ true
-or-true true = refl
-or-true false = refl
-
--- a visible element is among the keys
-visible-listed : (E : Elements) (x : Key) → is_visible E x ≡ true → lists_key (keys E) x ≡ true
-visible-listed E x seen =
-    let given = given-there E x (visible-counts E x seen) in
-    lists-append (keys_to Node (length E.nodes)) (keys_to Way (length E.ways) ++ keys_to Relation (length E.relations)) x
-    ∙ ap (λ (b : Bool). lists_key (keys_to Node (length E.nodes)) x || b) (lists-append (keys_to Way (length E.ways)) (keys_to Relation (length E.relations)) x)
-    ∙ among x.kind (keys_to-has x.kind (length (histories E x.kind)) x.id given.0 given.1)
-  where
-    among : (kind : Kind) → lists_key (keys_to kind (length (histories E kind))) x ≡ true → lists_key (keys_to Node (length E.nodes)) x || (lists_key (keys_to Way (length E.ways)) x || lists_key (keys_to Relation (length E.relations)) x) ≡ true
-    among Node there = ap (λ (b : Bool). b || (lists_key (keys_to Way (length E.ways)) x || lists_key (keys_to Relation (length E.relations)) x)) there
-    among Way there = ap (λ (b : Bool). lists_key (keys_to Node (length E.nodes)) x || (b || lists_key (keys_to Relation (length E.relations)) x)) there ∙ or-true (lists_key (keys_to Node (length E.nodes)) x)
-    among Relation there =
-        ap (λ (b : Bool). lists_key (keys_to Node (length E.nodes)) x || (lists_key (keys_to Way (length E.ways)) x || b)) there
-        ∙ ap (λ (b : Bool). lists_key (keys_to Node (length E.nodes)) x || b) (or-true (lists_key (keys_to Way (length E.ways)) x))
-        ∙ or-true (lists_key (keys_to Node (length E.nodes)) x)
 
 -- what ways list is visible
 ways-visible : (E : Elements) (x : Key) → IsConsistent E → (ws : List Key) → list_any (λ w. is_way w && lists_key (refs_of E w) x) ws ≡ true → is_visible E x ≡ true

@@ -3,9 +3,9 @@ ghost use Rattle.std.specs.Prelude.{◌≡◌, ◌++◌, if◌then◌else◌, []
 ghost use Rattle.osm_base.specs.Key.{lists_key};
 ghost use Rattle.osm_base.specs.declared.keys.Key.{Key};
 ghost use Rattle.osm_element.specs.Elements.{key, key_of_member, keys, is_visible, refs, refs_of, IsConsistent};
-ghost use Rattle.osm_model.specs.Reads.{current_shown, full, in_full, is_way};
+ghost use Rattle.osm_model.specs.Reads.{current_shown, full, in_full, is_way, way_refs};
 ghost use Rattle.osm_world.specs.World.{state_of};
-ghost use Rattle.read_calls.specs.Read.{IsRead, way_refs};
+ghost use Rattle.read_calls.specs.Read.{IsRead};
 
 use crate::elements::{content, current, one};
 use history_store::Store;

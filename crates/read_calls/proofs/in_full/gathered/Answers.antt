@@ -4,8 +4,8 @@ use Rattle.std.proofs.lemmas.List.{take_all}
 use Rattle.osm_base.specs.Key.{lists_key}
 use Rattle.osm_base.specs.declared.keys.Key.{Key}
 use Rattle.osm_element.specs.Elements.{refs_of}
-use Rattle.read_calls.specs.Read.{way_refs}
-use Rattle.read_calls.proofs.Gathered.{gathered-full}
+use Rattle.osm_model.specs.Reads.{way_refs}
+use Rattle.osm_model.proofs.Gathered.{gathered-full}
 use Rattle.read_calls.proofs.in_full.gathered.Goals as goal
 
 pub returns : goal.returns

@@ -1,7 +1,7 @@
 use Rattle.std.proofs.Common.{◌≡◌, ◌++◌, ◌∷◌, [], take}
 use Rattle.std.specs.List.{flat_map}
 use Rattle.osm_element.specs.Elements.{refs_of}
-use Rattle.read_calls.specs.Read.{way_refs}
+use Rattle.osm_model.specs.Reads.{way_refs}
 use Rattle.read_calls.proofs.in_full.gathered.Given as goal
 
 abbrev pub invariant-loop-place : goal.invariant-loop-place

@@ -1,0 +1,14 @@
+use Rattle.std.proofs.Common.{refl}
+use Rattle.osm_model.proofs.law.past_boxes_are_as_told.Goals as goal
+
+pub returns-clause-before : goal.returns-clause-before
+returns-clause-before c = refl
+
+pub returns-clause-made : goal.returns-clause-made
+returns-clause-made c = refl
+
+pub returns-clause-moved : goal.returns-clause-moved
+returns-clause-moved c = refl
+
+pub returns-clause-redacted : goal.returns-clause-redacted
+returns-clause-redacted c = refl

@@ -1,0 +1,82 @@
+-- The map as it was at a stamp: what had been made by then, with the marks that versions bear now.
+use Rattle.std.specs.Prelude.{ℕ, Bool, false, nat_le, ◌&&◌, List, [], ◌∷◌, map, filter, None, Result, Ok}
+use Rattle.osm_base.specs.Outcome.{◌>>=◌}
+use Rattle.osm_base.specs.declared.keys.Key.{Key}
+use Rattle.osm_element.specs.Elements.{count, is_visible, keys}
+use Rattle.osm_element.specs.declared.elements.Elements.{Elements}
+use Rattle.osm_element.specs.declared.versions.Version.{Version}
+use Rattle.osm_change.specs.declared.reads.ReadFault.{ReadFault}
+use Rattle.osm_change.specs.declared.reads.Shown.{Shown}
+use Rattle.osm_model.specs.declared.commands.Entry.{Entry}
+use Rattle.osm_model.specs.declared.states.State.{State}
+use Rattle.osm_model.specs.Reads.{current_shown, one, numbered, is_shown, in_full}
+
+-- ---- what there was
+
+abbrev pub was_made : ℕ → Version → Bool
+was_made t v = nat_le v.stamp t
+
+-- the versions of a history with a stamp of t at most
+abbrev pub made_by : ℕ → List Version → List Version
+made_by t vs = filter (was_made t) vs
+
+-- A history before the later ones of its kind. Ids go by place, so a history without versions is
+-- left out where no other follows.
+abbrev pub before_others : List Version → List (List Version) → List (List Version)
+before_others [] [] = []
+before_others [] (h ∷ hs) = [] ∷ h ∷ hs
+before_others (v ∷ vs) hs = (v ∷ vs) ∷ hs
+
+abbrev pub histories_by : ℕ → List (List Version) → List (List Version)
+histories_by t [] = []
+histories_by t (h ∷ hs) = before_others (made_by t h) (histories_by t hs)
+
+abbrev pub elements_by : ℕ → Elements → Elements
+elements_by t E = record {
+  nodes = histories_by t E.nodes;
+  ways = histories_by t E.ways;
+  relations = histories_by t E.relations;
+}
+
+-- the map with its elements as they were: changesets, redactions and marks are those of now
+abbrev pub past : State → ℕ → State
+past P t = record P { elements = elements_by t P.elements }
+
+-- the entries with a stamp of t at most
+abbrev pub entries_by : ℕ → List Entry → List Entry
+entries_by t es = filter (λ e. nat_le e.stamp t) es
+
+-- ---- marks aside
+
+abbrev pub unmarked : Version → Version
+unmarked v = record v { redaction = None }
+
+abbrev pub without_marks_in : List (List Version) → List (List Version)
+without_marks_in hs = map (map unmarked) hs
+
+abbrev pub without_marks : Elements → Elements
+without_marks E = record {
+  nodes = without_marks_in E.nodes;
+  ways = without_marks_in E.ways;
+  relations = without_marks_in E.relations;
+}
+
+-- ---- what is shown of it
+
+-- its last version is visible and not marked
+abbrev pub is_last_shown : Elements → Key → Bool
+is_last_shown E k = is_visible E k && is_shown E k false (count E k)
+
+-- as a read of an element, but the last version is hidden where it is marked
+abbrev pub one_unmarked : Elements → Key → Result Shown ReadFault
+one_unmarked E k = one E k >>= λ itself. numbered E k (count E k) false
+
+-- with what it lists and the nodes of the ways that it lists: those of them that are shown
+abbrev pub full_unmarked : Elements → Key → Result (List Shown) ReadFault
+full_unmarked E k = one_unmarked E k >>= λ itself. Ok (map (current_shown E) (filter (λ x. in_full E k x && is_last_shown E x) (keys E)))
+
+abbrev pub one_at : State → Key → ℕ → Result Shown ReadFault
+one_at P k t = one_unmarked (past P t).elements k
+
+abbrev pub full_at : State → Key → ℕ → Result (List Shown) ReadFault
+full_at P k t = full_unmarked (past P t).elements k
