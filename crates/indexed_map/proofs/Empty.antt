@@ -1,5 +1,6 @@
 -- A map without elements.
-use Rattle.std.proofs.Common.{◌≡◌, ℕ, ◌<◌, ◌≤◌, ◌-◌, Bool, true, false, ◌&&◌, ⊎_elim, List, [], length, refl, sym, ap, ◌∙◌, subst, arith}
+use Rattle.std.proofs.Common.{◌≡◌, ℕ, ◌<◌, ◌≤◌, ◌-◌, Bool, true, false, ◌&&◌, ⊎_elim, List, [], length, map, refl, sym, ap, ◌∙◌, subst, arith}
+use Rattle.std.specs.List.{list_any}
 use Rattle.std.specs.Prelude.{not, option_and_then, slice_index, ◌==◌, if◌then◌else◌}
 use Rattle.osm_base.specs.Key.{key_eq, lists_key}
 use Rattle.osm_base.specs.Place.{Position}
@@ -10,6 +11,7 @@ use Rattle.osm_element.specs.declared.versions.Version.{Version}
 use Rattle.osm_element.specs.Elements.{no_elements, key, histories, history, position_in, refs_in}
 use Rattle.osm_element.proofs.Pushed.{last_content}
 use Rattle.osm_element.proofs.Used.{known}
+use Rattle.changeset_core.specs.Changeset.{new_position}
 use Rattle.history_store.specs.Store.{Stored, empty, free, free_list}
 use Rattle.reverse_refs.specs.Users.{UserRows, users_in, free_in}
 use Rattle.tile_grid.specs.declared.cells.Cell.{Cell}
@@ -40,15 +42,22 @@ no_room k = along (k.id == 0) k.kind
     along false Relation = refl
 
 pub empty_map :
-    (s : Stored) (u : UserRows) (g : List (List Held)) (notes : Notes)
+    (s : Stored) (u v : UserRows) (g h : List (List Held)) (notes : Notes)
     → s ≡ empty
     → ((k : Key) → users_in u k ≡ [])
     → ((k : Key) → free_in u k ≡ 0)
     → ((c : Cell) (n : ℕ) → times g c n ≡ 0)
     → ((p : Position) → free_at g p ≡ 0)
-    → IsMap (stand s u g) notes
-empty_map s u g notes is no_users no_uses no_nodes no_cells = subst (λ (x : Stored). IsMap (stand x u g) notes) (sym is) (record {
+    → ((k : Key) → users_in v k ≡ [])
+    → ((k : Key) → free_in v k ≡ 0)
+    → ((c : Cell) (n : ℕ) → times h c n ≡ 0)
+    → ((p : Position) → free_at h p ≡ 0)
+    → IsMap (stand s u g v h) notes
+empty_map s u v g h notes is no_users no_uses no_nodes no_cells none_ever no_uses_ever no_nodes_ever no_cells_ever = subst (λ (x : Stored). IsMap (stand x u g v h) notes) (sym is) (record {
   indexed = record { holds = λ a b. ap (λ (ks : List Key). lists_key ks a) (no_users b) ∙ sym (ap (λ (vs : List Version). lists_key (refs_in (last_content vs)) b && not (key_eq a b)) (no_history a)) };
   placed = record { holds = λ c n. no_nodes c n ∙ sym (ap (λ (vs : List Version). if lies c (option_and_then position_in (last_content vs)) then 1 else 0) (no_history (key Node n))) };
-  noted = record { versions = λ k out. no_room k; users = λ b out. no_uses b; cells = λ p out. no_cells p };
+  indexed_ever = record { holds = λ a b. ap (λ (ks : List Key). lists_key ks a) (none_ever b) ∙ sym (ap (λ (vs : List Version). list_any (λ held. lists_key (refs_in held) b) (map (λ (v : Version). v.content) vs) && not (key_eq a b)) (no_history a)) };
+  placed_ever = record { holds = λ c n. no_nodes_ever c n ∙ sym (ap (λ (vs : List Version). if list_any (λ held. lies c (new_position held)) (map (λ (v : Version). v.content) vs) then 1 else 0) (no_history (key Node n))) };
+  spared = record { users = λ b. omega (arith, no_uses b); cells = λ p. omega (arith, no_cells p) };
+  noted = record { versions = λ k out. no_room k; users = λ b out. no_uses b; cells = λ p out. no_cells p; users_ever = λ b out. no_uses_ever b; cells_ever = λ p out. no_cells_ever p };
 })

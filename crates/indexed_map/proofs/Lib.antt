@@ -2,3 +2,4 @@ mod Indexing
 mod UseSteps
 mod Moved
 mod Empty
+mod EverHeld

@@ -1,5 +1,5 @@
 -- The uses of one element end and begin.
-use Rattle.std.proofs.Common.{◌≡◌, ℕ, ◌+◌, ◌<◌, ◌≤◌, Bool, true, false, cond, ◌&&◌, ◌||◌, ⊎_elim, List, [], ◌∷◌, length, take, get_or, refl, sym, ap, ◌∙◌, arith}
+use Rattle.std.proofs.Common.{◌≡◌, ℕ, ◌+◌, ◌-◌, ◌<◌, ◌≤◌, Bool, true, false, cond, ◌&&◌, ◌||◌, ⊎_elim, List, length, take, get_or, refl, sym, ap, ◌∙◌, subst, arith}
 use Rattle.std.specs.Prelude.{not, if◌then◌else◌}
 use Rattle.std.specs.List.{list_any}
 use Rattle.std.proofs.lemmas.Bool.{cases_Bool}
@@ -9,7 +9,7 @@ use Rattle.osm_base.specs.Key.{key_eq, lists_key, insert_key, without_key}
 use Rattle.osm_base.specs.declared.keys.Key.{Key}
 use Rattle.osm_base.proofs.KeyOrder.{key_eq-same, key_eq-refl, key_eq-sym}
 use Rattle.osm_base.proofs.KeyLists.{lists-insert, lists-without}
-use Rattle.reverse_refs.specs.Users.{UserRows, users_in}
+use Rattle.reverse_refs.specs.Users.{UserRows, users_in, free_in}
 use Rattle.indexed_map.specs.Indexed.{times_listed}
 
 -- -- uses end
@@ -181,6 +181,96 @@ begins_next listed i d old now next user within so_far begins a b =
     both o true true false = refl
     both o true false y = refl
     both o false t y = refl
+
+-- -- the room that uses take
+
+abbrev ones : Bool → ℕ
+ones b = if b then 1 else 0
+
+pub spent_added :
+    (old new : UserRows) (user used b : Key)
+    → 0 < free_in old used
+    → key_eq user used ≡ false
+    → lists_key (users_in old used) user ≡ false
+    → free_in new b ≡ (if key_eq b used then free_in old b - 1 else free_in old b)
+    → free_in new b + ones (key_eq used b && (not (key_eq user b) && not (lists_key (users_in old b) user))) ≡ free_in old b
+spent_added old new user used b some other absent took =
+    ⊎_elim
+    (λ t. let here : used ≡ b = key_eq-same used b t in
+    let less : free_in new b ≡ free_in old b - 1 = took ∙ ap (λ (p : Bool). if p then free_in old b - 1 else free_in old b) (key_eq-sym b used ∙ t) in
+    let some_here : 0 < free_in old b = subst (λ (k : Key). 0 < free_in old k) here some in
+    let one : ones (key_eq used b && (not (key_eq user b) && not (lists_key (users_in old b) user))) ≡ 1
+    = ap (λ (p : Bool). ones (p && (not (key_eq user b) && not (lists_key (users_in old b) user)))) t
+    ∙ ap (λ (p : Bool). ones (not p && not (lists_key (users_in old b) user))) (ap (key_eq user) (sym here) ∙ other)
+    ∙ ap (λ (p : Bool). ones (not p)) (ap (λ (k : Key). lists_key (users_in old k) user) (sym here) ∙ absent) in
+    omega (arith, less, some_here, one))
+    (λ f. let same : free_in new b ≡ free_in old b = took ∙ ap (λ (p : Bool). if p then free_in old b - 1 else free_in old b) (key_eq-sym b used ∙ f) in
+    let none : ones (key_eq used b && (not (key_eq user b) && not (lists_key (users_in old b) user))) ≡ 0
+    = ap (λ (p : Bool). ones (p && (not (key_eq user b) && not (lists_key (users_in old b) user)))) f in
+    omega (arith, same, none))
+    (cases_Bool (key_eq used b))
+
+-- it doesn't use itself
+pub spent_itself : (old : UserRows) (user used b : Key) → key_eq user used ≡ true → free_in old b + ones (key_eq used b && (not (key_eq user b) && not (lists_key (users_in old b) user))) ≡ free_in old b
+spent_itself old user used b same =
+    let none : ones (key_eq used b && (not (key_eq user b) && not (lists_key (users_in old b) user))) ≡ 0 =
+    ⊎_elim
+    (λ t. ap (λ (p : Bool). ones (p && (not (key_eq user b) && not (lists_key (users_in old b) user)))) t
+    ∙ ap (λ (p : Bool). ones (not p && not (lists_key (users_in old b) user))) (ap (key_eq user) (sym (key_eq-same used b t)) ∙ same))
+    (λ f. ap (λ (p : Bool). ones (p && (not (key_eq user b) && not (lists_key (users_in old b) user)))) f)
+    (cases_Bool (key_eq used b))
+    in
+    omega (arith, none)
+
+-- it was a user already
+pub spent_already : (old : UserRows) (user used b : Key) → lists_key (users_in old used) user ≡ true → free_in old b + ones (key_eq used b && (not (key_eq user b) && not (lists_key (users_in old b) user))) ≡ free_in old b
+spent_already old user used b there =
+    let none : ones (key_eq used b && (not (key_eq user b) && not (lists_key (users_in old b) user))) ≡ 0 =
+    ⊎_elim
+    (λ t. ap (λ (p : Bool). ones (key_eq used b && (not (key_eq user b) && not p))) (ap (λ (k : Key). lists_key (users_in old k) user) (sym (key_eq-same used b t)) ∙ there)
+    ∙ nothing (key_eq used b) (not (key_eq user b)))
+    (λ f. ap (λ (p : Bool). ones (p && (not (key_eq user b) && not (lists_key (users_in old b) user)))) f)
+    (cases_Bool (key_eq used b))
+    in
+    omega (arith, none)
+  where
+    nothing : (p q : Bool) → ones (p && (q && false)) ≡ 0
+    nothing true true = refl
+    nothing true false = refl
+    nothing false q = refl
+
+pub spent_next :
+    (listed : List Key) (i : ℕ) (d b : Key) (old now next : UserRows) (user : Key)
+    → i < length listed
+    → lists_key (users_in now b) user ≡ (lists_key (take i listed) b && (key_eq user user && not (key_eq user b))) || lists_key (users_in old b) user
+    → free_in now b + ones (lists_key (take i listed) b && (not (key_eq user b) && not (lists_key (users_in old b) user))) ≡ free_in old b
+    → free_in next b + ones (key_eq (get_or listed i d) b && (not (key_eq user b) && not (lists_key (users_in now b) user))) ≡ free_in now b
+    → free_in next b + ones (lists_key (take (i + 1) listed) b && (not (key_eq user b) && not (lists_key (users_in old b) user))) ≡ free_in old b
+spent_next listed i d b old now next user within there so_far step =
+    let P = lists_key (take i listed) b in
+    let K = key_eq (get_or listed i d) b in
+    let S = key_eq user b in
+    let O = lists_key (users_in old b) user in
+    let told : ones (K && (not S && not (lists_key (users_in now b) user))) ≡ ones (K && (not S && not ((P && not S) || O)))
+    = ap (λ (p : Bool). ones (K && (not S && not p))) (there ∙ ap (λ (p : Bool). (P && (p && not S)) || O) (key_eq-refl user)) in
+    let more : ones (lists_key (take (i + 1) listed) b && (not S && not O)) ≡ ones ((P || K) && (not S && not O))
+    = ap (λ (p : Bool). ones (p && (not S && not O))) (list_any_more (λ (x : Key). key_eq x b) listed i d within) in
+    omega (arith, table P K S O, told, more, so_far, step)
+  where
+    table : (p k s o : Bool) → ones (k && (not s && not ((p && not s) || o))) + ones (p && (not s && not o)) ≡ ones ((p || k) && (not s && not o))
+    table true true true true = refl
+    table true true true false = refl
+    table true true false true = refl
+    table true true false false = refl
+    table true false true true = refl
+    table true false true false = refl
+    table true false false true = refl
+    table true false false false = refl
+    table false true true true = refl
+    table false true true false = refl
+    table false true false true = refl
+    table false true false false = refl
+    table false false s o = refl
 
 -- -- how often
 

@@ -1,7 +1,9 @@
-//! The elements with their indexes: who uses each of them, and where the visible nodes lie. One
-//! version at a time is added, without memory, on room that was promised before.
+//! The elements with their indexes: who uses each of them, and where the visible nodes lie; and, for
+//! reads of the past, who ever used each of them, and where nodes ever lay. One version at a time is
+//! added, without memory, on room that was promised before.
 #![tactic(auto)]
 
+mod ever;
 mod maps;
 mod moves;
 mod promises;

@@ -1,6 +1,6 @@
 //! The elements with their users and their cells, kept in step.
 ghost use Rattle.std.specs.Prelude.{◌≡◌, ◌^◌, ◌+◌, ◌<◌, ◌≤◌, if◌then◌else◌, OnOk};
-ghost use Rattle.osm_base.specs.Key.{key_eq};
+ghost use Rattle.osm_base.specs.Key.{key_eq, lists_key, IsRising};
 ghost use Rattle.osm_base.specs.Place.{Position};
 ghost use Rattle.osm_base.specs.declared.keys.Key.{Key};
 ghost use Rattle.osm_element.specs.Elements.{no_elements, next_id, count, is_visible, users, push_version, mark};
@@ -8,9 +8,11 @@ ghost use Rattle.changeset_core.specs.Changeset.{new_position, touched_area};
 ghost use Rattle.history_store.specs.Store.{free};
 ghost use Rattle.reverse_refs.specs.Users.{free_in};
 ghost use Rattle.tile_grid.specs.Grid.{free_at};
+ghost use Rattle.indexed_map.specs.Ever.{has_used, IsPlacedEver};
 ghost use Rattle.indexed_map.specs.Indexed.{is_unused, times_listed, IsListOf, HasRoom, IsBare};
 ghost use Rattle.indexed_map.specs.Placed.{enters, IsPlaced};
 
+use crate::ever::place_ever;
 use crate::moves::move_node;
 use crate::promises::{
     forget_places, forget_uses, forget_versions, promise_place, promise_uses, promise_version,
@@ -25,13 +27,16 @@ use std::alloc::Global;
 use std::marker::Model;
 use tile_grid::Grid;
 
-/// The elements, who uses them, and where the visible nodes lie. `promised`, `awaited` and
-/// `entered` list what was promised versions, users and nodes since the last `forget_all`.
+/// The elements, who uses them, and where the visible nodes lie; besides who ever used them, and
+/// where nodes ever lay, from which nothing is taken out. `promised`, `awaited` and `entered` list
+/// what was promised versions, users and nodes since the last `forget_all`.
 #[derive(Drop)]
 pub struct IndexedMap {
     store: Store,
     users: UserIndex,
     grid: Grid,
+    users_ever: UserIndex,
+    grid_ever: Grid,
     promised: Vec<Key>,
     awaited: Vec<Key>,
     entered: Vec<Coord>,
@@ -42,9 +47,9 @@ impl Model for IndexedMap {
 
     ghost Value = { Stand };
 
-    ghost view = { λ m. stand m.store m.users m.grid };
+    ghost view = { λ m. stand m.store m.users m.grid m.users_ever m.grid_ever };
 
-    ghost invariant = { λ m. IsMap (stand m.store m.users m.grid) (record { versions = m.promised.items; users = m.awaited.items; cells = m.entered.items }) };
+    ghost invariant = { λ m. IsMap (stand m.store m.users m.grid m.users_ever m.grid_ever) (record { versions = m.promised.items; users = m.awaited.items; cells = m.entered.items }) };
 }
 
 impl IndexedMap {
@@ -56,10 +61,14 @@ impl IndexedMap {
         let store = Store::new(alloc);
         let users = UserIndex::new(alloc);
         let grid = Grid::new(alloc);
+        let users_ever = UserIndex::new(alloc);
+        let grid_ever = Grid::new(alloc);
         IndexedMap {
             store,
             users,
             grid,
+            users_ever,
+            grid_ever,
             promised: Vec::new(alloc),
             awaited: Vec::new(alloc),
             entered: Vec::new(alloc),
@@ -85,6 +94,21 @@ impl IndexedMap {
         ensures { IsPlaced self.now.elements result.now }
     {
         &self.grid
+    }
+
+    /// The elements of which some version lists this one, in order.
+    pub fn users_ever(&self, key: Key) -> &[Key]
+        ensures rising { IsRising result.now }
+        ensures each { (user : Key) → lists_key result.now user ≡ has_used self.now.elements user key }
+    {
+        self.users_ever.users(key)
+    }
+
+    /// All nodes by the cells in which a version of them lies.
+    pub fn grid_ever(&self) -> &Grid
+        ensures { IsPlacedEver self.now.elements result.now }
+    {
+        &self.grid_ever
     }
 
     /// The id that the next element of the kind gets.
@@ -140,8 +164,20 @@ impl IndexedMap {
         ensures cells { OnOk result ((p : Position) → free_at self.new.cells p ≡ free_at self.old.cells p + (if enters p at then 1 else 0)) }
     {
         promise_version(alloc, &mut self.store, key, &mut self.promised)?;
-        promise_uses(alloc, &mut self.users, listed, &mut self.awaited)?;
-        promise_place(alloc, &mut self.grid, at, &mut self.entered)
+        promise_uses(
+            alloc,
+            &mut self.users,
+            &mut self.users_ever,
+            listed,
+            &mut self.awaited,
+        )?;
+        promise_place(
+            alloc,
+            &mut self.grid,
+            &mut self.grid_ever,
+            at,
+            &mut self.entered,
+        )
     }
 
     /// Takes back all that is promised.
@@ -150,8 +186,12 @@ impl IndexedMap {
         ensures bare { IsBare self.new }
     {
         forget_versions(&mut self.store, self.promised.as_slice());
-        forget_uses(&mut self.users, self.awaited.as_slice());
-        forget_places(&mut self.grid, self.entered.as_slice());
+        let awaited = self.awaited.as_slice();
+        forget_uses(&mut self.users, awaited);
+        forget_uses(&mut self.users_ever, awaited);
+        let entered = self.entered.as_slice();
+        forget_places(&mut self.grid, entered);
+        forget_places(&mut self.grid_ever, entered);
         self.promised.clear();
         self.awaited.clear();
         self.entered.clear();
@@ -167,7 +207,7 @@ impl IndexedMap {
     }
 
     /// Adds a version of an element, which may be the next of its kind, and which lists what is
-    /// `listed`. All three indexes follow it. It takes no memory.
+    /// `listed`. All indexes follow it. It takes no memory.
     pub fn revise(&mut self, key: Key, version: Version, listed: &[Key])
         requires counted { 0 < key.id }
         requires follows { key.id ≤ next_id self.old.elements key.kind }
@@ -180,8 +220,10 @@ impl IndexedMap {
             → free_at self.old.cells p ≤ free_at self.new.cells p + (if enters p (new_position version.content) then 1 else 0) }
     {
         move_node(&self.store, &mut self.grid, key, &version);
+        place_ever(&self.store, &mut self.grid_ever, key, &version);
         end_uses(&self.store, &mut self.users, key, listed);
         begin_uses(&mut self.users, key, listed);
+        begin_uses(&mut self.users_ever, key, listed);
         self.store.push_version(key, version);
     }
 }

@@ -1,6 +1,7 @@
 //! A node that goes from cell to cell.
 ghost use Rattle.std.specs.Prelude.{◌≡◌, ◌==◌, ◌&&◌, ℕ, ◌+◌, ◌<◌, ◌≤◌, if◌then◌else◌};
 ghost use Rattle.std.specs.Option.{ForSome};
+ghost use Rattle.osm_base.specs.Key.{kind_eq};
 ghost use Rattle.osm_base.specs.Place.{Position};
 ghost use Rattle.osm_element.specs.Elements.{next_id, push_version};
 ghost use Rattle.changeset_core.specs.Changeset.{new_position};
@@ -38,7 +39,7 @@ fn enter(grid: &mut Grid, id: u64, to: Option<Coord>)
 }
 
 /// Where a content places its node.
-fn new_position(content: &Option<Content<u64>>) -> Option<Coord>
+pub fn new_position(content: &Option<Content<u64>>) -> Option<Coord>
     ensures { result ≡ new_position content.now }
 {
     match content {
@@ -57,6 +58,8 @@ pub fn move_node(store: &Store, grid: &mut Grid, key: Key, version: &Version)
     ensures placed { IsPlaced (push_version store.now.elements key version.now) grid.new }
     ensures room { (p : Position) → free_at grid.old p ≤ free_at grid.new p + (if enters p (new_position version.now.content) then 1 else 0) }
     ensures no_more { (p : Position) → free_at grid.new p ≤ free_at grid.old p }
+    ensures spent { (p : Position) → free_at grid.new p
+        + (if kind_eq key.kind Kind.Node && enters p (new_position version.now.content) then 1 else 0) ≡ free_at grid.old p }
 {
     if key.kind.is(Kind::Node) {
         leave(grid, key.id, store.place_of(key));

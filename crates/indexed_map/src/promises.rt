@@ -1,5 +1,5 @@
 //! Room that is promised for one entry, and taken back.
-ghost use Rattle.std.specs.Prelude.{◌≡◌, false, ℕ, ◌+◌, ◌<◌, if◌then◌else◌, OnOk};
+ghost use Rattle.std.specs.Prelude.{◌≡◌, false, ℕ, ◌+◌, ◌<◌, ◌≤◌, if◌then◌else◌, OnOk};
 ghost use Rattle.std.specs.List.{list_any};
 ghost use Rattle.osm_base.specs.Key.{key_eq, lists_key};
 ghost use Rattle.osm_base.specs.Place.{Position};
@@ -34,39 +34,69 @@ pub fn promise_version(
     store.promise(alloc, Want { key, versions: 1 })
 }
 
-/// Promises room for one more user of each element that is listed. Each is noted.
+/// Promises room for one more user of each element that is listed, in the index of now and in the
+/// one that never forgets. Each is noted.
 pub fn promise_uses(
     alloc: Global,
     users: &mut UserIndex,
+    ever: &mut UserIndex,
     listed: &[Key],
     noted: &mut Vec<Key>,
 ) -> Result<(), Memory>
     ensures users { (b : Key) → users_in users.new b ≡ users_in users.old b }
+    ensures ever { (b : Key) → users_in ever.new b ≡ users_in ever.old b }
     ensures room { OnOk result ((b : Key) → free_in users.new b ≡ free_in users.old b + times_listed listed.now b) }
+    ensures spared { (b : Key) → free_in users.new b + free_in ever.old b ≤ free_in users.old b + free_in ever.new b }
     ensures noted { (b : Key) → lists_key noted.new.items b ≡ false → (lists_key noted.old.items b ≡ false)
         × (free_in users.new b ≡ free_in users.old b) }
+    ensures noted_ever { (b : Key) → lists_key noted.new.items b ≡ false → free_in ever.new b ≡ free_in ever.old b }
 {
     for used in listed {
-        noted.push(*used)?;
-        users.promise(alloc, *used)?;
+        promise_use(alloc, users, ever, *used, noted)?;
     }
     Ok(())
 }
 
-/// Promises room for one more node in the cell of a position, if there is one. It is noted.
+fn promise_use(
+    alloc: Global,
+    users: &mut UserIndex,
+    ever: &mut UserIndex,
+    used: Key,
+    noted: &mut Vec<Key>,
+) -> Result<(), Memory>
+    ensures users { (b : Key) → users_in users.new b ≡ users_in users.old b }
+    ensures ever { (b : Key) → users_in ever.new b ≡ users_in ever.old b }
+    ensures room { OnOk result ((b : Key) → free_in users.new b ≡ free_in users.old b + (if key_eq b used then 1 else 0)) }
+    ensures spared { (b : Key) → free_in users.new b + free_in ever.old b ≤ free_in users.old b + free_in ever.new b }
+    ensures noted { (b : Key) → lists_key noted.new.items b ≡ false → (lists_key noted.old.items b ≡ false)
+        × (free_in users.new b ≡ free_in users.old b) }
+    ensures noted_ever { (b : Key) → lists_key noted.new.items b ≡ false → free_in ever.new b ≡ free_in ever.old b }
+{
+    noted.push(used)?;
+    ever.promise(alloc, used)?;
+    users.promise(alloc, used)?;
+    Ok(())
+}
+
+/// Promises room for one more node in the cell of a position, if there is one, in the grid of now
+/// and in the one that never forgets. It is noted.
 pub fn promise_place(
     alloc: Global,
     grid: &mut Grid,
+    ever: &mut Grid,
     at: Option<Coord>,
     noted: &mut Vec<Coord>,
 ) -> Result<(), Memory>
     ensures nodes { (c : Cell) (n : ℕ) → times grid.new c n ≡ times grid.old c n }
+    ensures ever { (c : Cell) (n : ℕ) → times ever.new c n ≡ times ever.old c n }
     ensures room { OnOk result ((p : Position) → free_at grid.new p ≡ free_at grid.old p + (if enters p at then 1 else 0)) }
+    ensures spared { (p : Position) → free_at grid.new p + free_at ever.old p ≤ free_at grid.old p + free_at ever.new p }
     ensures noted { (p : Position) → list_any (same_cell p) noted.new.items ≡ false → (list_any (same_cell p) noted.old.items ≡ false)
         × (free_at grid.new p ≡ free_at grid.old p) }
+    ensures noted_ever { (p : Position) → list_any (same_cell p) noted.new.items ≡ false → free_at ever.new p ≡ free_at ever.old p }
 {
     match at {
-        Some(at) => promise_at(alloc, grid, at, noted),
+        Some(at) => promise_at(alloc, grid, ever, at, noted),
         None => Ok(()),
     }
 }
@@ -74,16 +104,22 @@ pub fn promise_place(
 fn promise_at(
     alloc: Global,
     grid: &mut Grid,
+    ever: &mut Grid,
     at: Coord,
     noted: &mut Vec<Coord>,
 ) -> Result<(), Memory>
     ensures nodes { (c : Cell) (n : ℕ) → times grid.new c n ≡ times grid.old c n }
+    ensures ever { (c : Cell) (n : ℕ) → times ever.new c n ≡ times ever.old c n }
     ensures room { OnOk result ((p : Position) → free_at grid.new p ≡ free_at grid.old p + (if same_cell p at then 1 else 0)) }
+    ensures spared { (p : Position) → free_at grid.new p + free_at ever.old p ≤ free_at grid.old p + free_at ever.new p }
     ensures noted { (p : Position) → list_any (same_cell p) noted.new.items ≡ false → (list_any (same_cell p) noted.old.items ≡ false)
         × (free_at grid.new p ≡ free_at grid.old p) }
+    ensures noted_ever { (p : Position) → list_any (same_cell p) noted.new.items ≡ false → free_at ever.new p ≡ free_at ever.old p }
 {
     noted.push(at)?;
-    grid.room(alloc, &[at])
+    ever.room(alloc, &[at])?;
+    grid.room(alloc, &[at])?;
+    Ok(())
 }
 
 /// Takes back what is promised for versions of these elements.

@@ -97,6 +97,8 @@ fn begin_use(users: &mut UserIndex, user: Key, used: Key)
         → lists_key (users_in users.new b) a ≡ (key_eq used b && (key_eq user a && not (key_eq user b))) || lists_key (users_in users.old b) a }
     ensures room { (b : Key) → free_in users.old b ≤ free_in users.new b + (if key_eq b used then 1 else 0) }
     ensures no_more { (b : Key) → free_in users.new b ≤ free_in users.old b }
+    ensures spent { (b : Key) → free_in users.new b + (if key_eq used b && (not (key_eq user b) && not (lists_key (users_in users.old b) user))
+        then 1 else 0) ≡ free_in users.old b }
 {
     if !user.is(used) && !is_listed(users.users(used), user) {
         users.add(Pair { user, used });
@@ -111,6 +113,8 @@ pub fn begin_uses(users: &mut UserIndex, user: Key, listed: &[Key])
         ≡ (lists_key listed.now b && (key_eq user a && not (key_eq user b))) || lists_key (users_in users.old b) a }
     ensures room { (b : Key) → free_in users.old b ≤ free_in users.new b + times_listed listed.now b }
     ensures no_more { (b : Key) → free_in users.new b ≤ free_in users.old b }
+    ensures spent { (b : Key) → free_in users.new b + (if lists_key listed.now b && (not (key_eq user b) && not (lists_key (users_in users.old b) user))
+        then 1 else 0) ≡ free_in users.old b }
 {
     for used in listed {
         begin_use(users, user, *used);

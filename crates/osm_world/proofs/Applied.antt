@@ -17,6 +17,7 @@ use Rattle.osm_model.specs.Act.{Effect, judge, settle}
 use Rattle.osm_model.specs.Answered.{map_at}
 use Rattle.osm_model.specs.Attributed.{IsAttributed}
 use Rattle.osm_model.specs.Journal.{after, replay, takes, IsLegal}
+use Rattle.osm_model.specs.Stamped.{IsStamped}
 use Rattle.osm_model.specs.Timely.{IsTimely}
 use Rattle.osm_model.specs.declared.commands.Entry.{Entry}
 use Rattle.osm_model.specs.declared.states.State.{State}
@@ -53,13 +54,15 @@ pub kept_after :
     → ((map : State) (entry : Entry) → Keeps map.elements (after map entry).elements)
     → ((map : State) (entry : Entry) → IsTimely map → IsTimely (after map entry))
     → ((map : State) (entry : Entry) → IsAttributed map → IsAttributed (after map entry))
+    → ((map : State) (entry : Entry) → IsStamped map → IsStamped (after map entry))
     → IsKept P
     → IsKept Q
-kept_after P e Q is keeps moments attributed was = subst (λ (R : State). IsKept R) (sym is) (record {
+kept_after P e Q is keeps moments attributed stamped was = subst (λ (R : State). IsKept R) (sym is) (record {
   consistent = (keeps P e).consistent was.consistent;
   begun = (keeps P e).begun was.begun;
   timely = moments P e was.timely;
   attributed = attributed P e was.attributed;
+  stamped = stamped P e was.stamped;
 })
 
 -- -- before the first entry
@@ -77,13 +80,15 @@ pub empty_sound :
     → ((entries : List Entry) → IsLegal entries → (point : ℕ) → IsConsistent (map_at entries point).elements)
     → ((entries : List Entry) → IsTimely (replay entries))
     → ((entries : List Entry) → IsAttributed (replay entries))
+    → ((entries : List Entry) → IsStamped (replay entries))
     → IsSound (record { map = m; changesets = cs; redactions = titles; last = 0 }) 0
-empty_sound m cs titles is no_changesets no_titles consistent moments attributed = record {
+empty_sound m cs titles is no_changesets no_titles consistent moments attributed stamped = record {
   kept = subst (λ (P : State). IsKept P) (sym empty_is) (record {
     consistent = consistent [] (record { taken = refl; numbered = refl }) 0;
     begun = record { begun = λ k counted below. absurd (omega (arith, counted, below, none-given k.kind)) };
     timely = moments [];
     attributed = attributed [];
+    stamped = stamped [];
   });
   numbered = subst (λ (row : Row Kept). AreNumbered row.items) (sym no_changesets) (λ i within. absurd (omega (arith, within)));
   work = λ i other. ap (λ (row : Row Kept). slice_index (rooms row.items) i) no_changesets;

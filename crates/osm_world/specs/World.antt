@@ -10,6 +10,7 @@ use Rattle.changeset_core.specs.declared.records.ChangesetRecord.{ChangesetRecor
 use Rattle.osm_model.specs.Attributed.{IsAttributed}
 use Rattle.osm_model.specs.Fold.{start, task, works}
 use Rattle.osm_model.specs.Operation.{operate_all}
+use Rattle.osm_model.specs.Stamped.{IsStamped}
 use Rattle.osm_model.specs.Timely.{IsTimely}
 use Rattle.osm_model.specs.declared.commands.Command.{Command}
 use Rattle.osm_model.specs.declared.commands.Command.TheVariants as command
@@ -49,6 +50,8 @@ pub record IsKept (P : State) : Type 0 where
   pub begun : IsBegun P.elements
   pub timely : IsTimely P
   pub attributed : IsAttributed P
+  -- the stamps of a history never go back
+  pub stamped : IsStamped P
 
 -- besides, only the changeset `busy` is promised room for work
 pub record IsSound (s : Stores) (busy : ℕ) : Type 0 where

@@ -1,9 +1,12 @@
 //! The map with its indexes: room for an entry, and its application.
 ghost use Rattle.std.specs.Prelude.{◌≡◌, true, Some, None, Ok, Err, MatchOption, MatchResult, IfOk, IfErr, OnOk};
+ghost use Rattle.osm_base.specs.Key.{lists_key, IsRising};
+ghost use Rattle.osm_base.specs.declared.keys.Key.{Key};
 ghost use Rattle.osm_element.specs.Elements.{users};
 ghost use Rattle.osm_change.specs.Moments.{RefusalHasShownEnd};
 ghost use Rattle.changeset_core.specs.Changeset.{is_open};
 ghost use Rattle.changeset_core.specs.Timely.{IsTimelyMoment, IsTimelyRecord};
+ghost use Rattle.indexed_map.specs.Ever.{has_used, IsPlacedEver};
 ghost use Rattle.indexed_map.specs.Placed.{IsPlaced};
 ghost use Rattle.osm_model.specs.Journal.{after, takes};
 ghost use Rattle.osm_model.specs.State.{empty, changeset, own_changeset};
@@ -20,7 +23,7 @@ use osm_base::{Key, Memory, Roomy, Stamp, User};
 use osm_change::{Op, Refusal};
 use osm_model::{
     Command, Entry, entries_keep_maps, moments_are_bounded, points_are_consistent,
-    versions_are_attributed,
+    versions_are_attributed, versions_are_stamped_in_order,
 };
 use redaction_core::Redactions;
 use std::alloc::Global;
@@ -55,6 +58,7 @@ impl World {
         moments_are_bounded();
         points_are_consistent();
         versions_are_attributed();
+        versions_are_stamped_in_order();
         let map = IndexedMap::new(alloc);
         let stores = Stores {
             map,
@@ -95,6 +99,21 @@ impl World {
         ensures { IsPlaced (state_of self.now).elements result.now }
     {
         self.stores.map.grid()
+    }
+
+    /// The elements of which some version lists this one, in order.
+    pub fn users_ever(&self, key: Key) -> &[Key]
+        ensures rising { IsRising result.now }
+        ensures each { (user : Key) → lists_key result.now user ≡ has_used (state_of self.now).elements user key }
+    {
+        self.stores.map.users_ever(key)
+    }
+
+    /// All nodes by the cells in which a version of them lies.
+    pub fn grid_ever(&self) -> &Grid
+        ensures { IsPlacedEver (state_of self.now).elements result.now }
+    {
+        self.stores.map.grid_ever()
     }
 
     /// The changesets, the first one first.

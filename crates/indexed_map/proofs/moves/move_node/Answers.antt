@@ -1,6 +1,8 @@
-use Rattle.std.proofs.Common.{◌≡◌, ℕ, Option, ap, sym, arith}
+use Rattle.std.proofs.Common.{◌≡◌, ℕ, Bool, ◌&&◌, Option, ap, sym, ◌∙◌, arith}
 use Rattle.std.specs.Prelude.{if◌then◌else◌}
+use Rattle.osm_base.specs.Key.{kind_eq}
 use Rattle.osm_base.specs.Place.{Position}
+use Rattle.osm_base.specs.declared.keys.Kind.TheVariants.{Node}
 use Rattle.changeset_core.specs.Changeset.{new_position}
 use Rattle.indexed_map.specs.Placed.{enters}
 use Rattle.indexed_map.proofs.Moved.{moved, not_moved}
@@ -23,6 +25,19 @@ returns-then-is-clause-room c p =
     let same : (if enters p c.new_position.result then 1 else 0) ≡ (if enters p (new_position c.args.version.now.content) then 1 else 0)
     = ap {B = ℕ} (λ (at : Option Position). if enters p at then 1 else 0) c.new_position.ensures in
     omega (arith, c.leave.ensures.room p, c.enter.ensures.room p, same)
+
+pub returns-then-is-clause-spent : goal.returns-then-is-clause-spent
+returns-then-is-clause-spent c p =
+    let same : (if kind_eq c.args.key.kind Node && enters p (new_position c.args.version.now.content) then 1 else 0) ≡ (if enters p c.new_position.result then 1 else 0)
+    = ap {B = ℕ} (λ (b : Bool). if b && enters p (new_position c.args.version.now.content) then 1 else 0) (sym c.if-is.ensures)
+    ∙ sym (ap {B = ℕ} (λ (at : Option Position). if enters p at then 1 else 0) c.new_position.ensures) in
+    omega (arith, c.leave.ensures.room p, c.enter.ensures.room p, same)
+
+pub returns-else-is-clause-spent : goal.returns-else-is-clause-spent
+returns-else-is-clause-spent c p =
+    let none : (if kind_eq c.args.key.kind Node && enters p (new_position c.args.version.now.content) then 1 else 0) ≡ 0
+    = ap {B = ℕ} (λ (b : Bool). if b && enters p (new_position c.args.version.now.content) then 1 else 0) (sym c.if-is.ensures) in
+    omega (arith, none)
 
 pub returns-else-is-clause-placed : goal.returns-else-is-clause-placed
 returns-else-is-clause-placed c =

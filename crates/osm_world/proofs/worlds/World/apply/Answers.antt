@@ -28,7 +28,7 @@ invariant_of-self c =
     let ok = accepted (judge P e.user e.stamp e.command) (taken_ok P e taken) in
     record {
       kept = kept_after P e (stored_state c.apply.new.self) (c.apply.ensures.done ok.0 ok.1 ∙ sym (after_is P e ok.0 taken ok.1))
-          c.entries_keep_maps.ensures.elements c.entries_keep_maps.ensures.moments c.entries_keep_maps.ensures.attributed c.self.invariant.kept;
+          c.entries_keep_maps.ensures.elements c.entries_keep_maps.ensures.moments c.entries_keep_maps.ensures.attributed c.entries_keep_maps.ensures.stamped c.self.invariant.kept;
       numbered = c.apply.ensures.numbered;
       work = λ i other. nothing (slice_index (rooms c.self.inside.stores.changesets.items) i) (slice_index (rooms c.apply.new.self.changesets.items) i) (c.self.invariant.work i other) (c.apply.ensures.rooms i);
     }

@@ -1,0 +1,36 @@
+-- What every version of an element held, and not the last one alone.
+use Rattle.std.specs.Prelude.{◌≡◌, ℕ, Bool, ◌&&◌, not, if◌then◌else◌, List, Option}
+use Rattle.std.specs.List.{list_any}
+use Rattle.osm_base.specs.Key.{key_eq, lists_key}
+use Rattle.osm_base.specs.declared.keys.Kind.TheVariants.{Node}
+use Rattle.osm_base.specs.declared.keys.Key.{Key}
+use Rattle.osm_element.specs.Elements.{key, refs_in}
+use Rattle.osm_element.specs.Later.{contents}
+use Rattle.osm_element.specs.declared.contents.Content.{Content}
+use Rattle.osm_element.specs.declared.elements.Elements.{Elements}
+use Rattle.changeset_core.specs.Changeset.{new_position}
+use Rattle.reverse_refs.specs.Users.{UserRows, users_in}
+use Rattle.tile_grid.specs.declared.cells.Cell.{Cell}
+use Rattle.tile_grid.specs.Grid.{times}
+use Rattle.tile_grid.specs.Tile.{Held}
+use Rattle.indexed_map.specs.Placed.{lies}
+
+-- some version of an element passes a test on what it holds
+abbrev pub ever : (Option (Content ℕ) → Bool) → Elements → Key → Bool
+ever test E k = list_any test (contents E k)
+
+-- some version of a lists b, and a isn't b
+abbrev pub has_used : Elements → Key → Key → Bool
+has_used E a b = ever (λ held. lists_key (refs_in held) b) E a && not (key_eq a b)
+
+-- some version of a node lies in the cell
+abbrev pub has_lain : Elements → Cell → ℕ → Bool
+has_lain E c n = ever (λ held. lies c (new_position held)) E (key Node n)
+
+-- the rows hold all elements of which some version lists each of them
+pub record IsIndexedEver (E : Elements) (u : UserRows) : Type 0 where
+  pub holds : (a b : Key) → lists_key (users_in u b) a ≡ has_used E a b
+
+-- each node is placed once in each cell in which a version of it lies, and nothing else is
+pub record IsPlacedEver (E : Elements) (g : List (List Held)) : Type 0 where
+  pub holds : (c : Cell) (n : ℕ) → times g c n ≡ if has_lain E c n then 1 else 0
