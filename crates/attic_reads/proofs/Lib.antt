@@ -1,0 +1,7 @@
+mod Cut
+mod Last
+mod Full
+mod Held
+mod Walked
+mod Near
+mod OnMap

@@ -1,0 +1,10 @@
+use Rattle.osm_world.specs.World.{state_of}
+use Rattle.attic_reads.proofs.Near.{candidates-added}
+use Rattle.attic_reads.proofs.walks.add_users.Goals as goal
+
+pub returns : goal.returns
+returns c =
+    candidates-added (state_of c.args.world.now).elements c.args.kind c.args.used c.users_ever.result.now c.args.found.now.items c.add_key.new.found.items c.add_of_kind.new.found.items
+    c.users_ever.ensures.each
+    c.in_ok-add_key.ensures
+    c.in_ok-add_of_kind.ensures
