@@ -7,4 +7,7 @@ mod Meets
 mod Newest
 mod OfKind
 mod Once
+mod OnMap
+mod Passed
 mod Steps
+mod Swapped

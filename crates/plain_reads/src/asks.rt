@@ -1,11 +1,12 @@
 //! The answer of each query, read off the lists.
-ghost use Rattle.std.specs.Prelude.{◌≡◌, List, Result, IfOk};
+ghost use Rattle.std.specs.Prelude.{◌≡◌, ◌≢◌, List, Result, IfOk};
 ghost use Rattle.osm_change.specs.Moments.{HasShownMoments};
 ghost use Rattle.osm_change.specs.declared.reads.ReadFault.{ReadFault};
 ghost use Rattle.osm_change.specs.declared.reads.Shown.{Shown};
 ghost use Rattle.osm_change.specs.declared.answers.Answer.TheVariants as answers;
-ghost use Rattle.osm_model.specs.Ask.{ask, ask_at, elements_answer, one_answer, read_answer, map_answer, changeset_answer, download_answer};
+ghost use Rattle.osm_model.specs.Ask.{ask, ask_at, elements_answer, one_answer, read_answer, map_answer, map_refusal, past_map_answer, changeset_answer, download_answer};
 ghost use Rattle.osm_model.specs.ChangesetReads.{read_changeset, download};
+ghost use Rattle.osm_model.specs.PastMap.{map_at};
 ghost use Rattle.osm_model.specs.Selection.{map_of};
 ghost use Rattle.osm_model.specs.Timely.{IsTimely};
 ghost use Rattle.plain_reads.specs.Read.{IsRead};
@@ -14,6 +15,8 @@ use crate::changesets::{Filters, download, query_changesets, read_changeset};
 use crate::elements::{history, numbered, one};
 use crate::full::full;
 use crate::many::many;
+use crate::past::{elements_by, full_at, one_unmarked};
+use crate::past_map::map_shown;
 use crate::rows::element_rows;
 use crate::selection::{map_of, selected};
 use crate::users::{relations_of, ways_of};
@@ -77,6 +80,12 @@ fn ask_at<'a>(
             read_answer(alloc, state, many(alloc, elements, *kind, ids.items()))
         }
         Query::Full { key } => read_answer(alloc, state, full(alloc, elements, *key)),
+        Query::OneAt { key, at } => {
+            let past = elements_by(alloc, elements, *at)?;
+            one_answer(alloc, state, one_unmarked(&past, *key))
+        }
+        Query::FullAt { key, at } => read_answer(alloc, state, full_at(alloc, state, *key, *at)),
+        Query::MapAt { within, at } => ask_map_at(alloc, state, within, *at),
         Query::WaysOf { id } => {
             let shown = ways_of(alloc, elements, *id)?;
             elements_answer(alloc, state, &shown)
@@ -146,15 +155,46 @@ fn ask_map<'a>(alloc: Global, state: &'a State, within: &Box7) -> Result<Answer<
                 rows,
             })
         }
-        Err(MapFault::TooLarge { area }) => Ok(Answer::Refused(Refusal::MapArea {
+        Err(fault) => no_map(fault),
+    }
+}
+
+/// The same of the elements as they were at a stamp.
+fn ask_map_at<'a>(
+    alloc: Global,
+    state: &'a State,
+    within: &Box7,
+    at: u64,
+) -> Result<Answer<'a>, Memory>
+    ensures { IfOk result (λ answer. answer ≡ past_map_answer state.now within.now (map_at state.now within.now at)) }
+{
+    let past = elements_by(alloc, &state.elements, at)?;
+    match map_shown(alloc, &past, within) {
+        Ok(shown) => {
+            let rows = element_rows(alloc, state, shown.items())?;
+            Ok(Answer::Elements {
+                bounds: Some(*within),
+                rows,
+            })
+        }
+        Err(fault) => no_map(fault),
+    }
+}
+
+/// Why there is no map, unless memory ran out.
+fn no_map<'a>(fault: MapFault) -> Result<Answer<'a>, Memory>
+    ensures { IfOk result (λ answer. (answer ≡ answers.Refused (map_refusal fault)) × (fault ≢ MapFault.Memory)) }
+{
+    match fault {
+        MapFault::TooLarge { area } => Ok(Answer::Refused(Refusal::MapArea {
             area,
             limit: AREA_LIMIT,
         })),
-        Err(MapFault::TooMany { nodes }) => Ok(Answer::Refused(Refusal::MapNodes {
+        MapFault::TooMany { nodes } => Ok(Answer::Refused(Refusal::MapNodes {
             limit: MAP_NODE_LIMIT,
             nodes,
         })),
-        Err(MapFault::Memory) => Err(Memory),
+        MapFault::Memory => Err(Memory),
     }
 }
 

@@ -66,7 +66,8 @@ pub fn numbered(elements: &Elements, key: Key, number: u64, show: bool) -> Resul
     }
 }
 
-fn is_shown(elements: &Elements, key: Key, show: bool, number: u64) -> bool
+/// Whether a version is there and not hidden.
+pub fn is_shown(elements: &Elements, key: Key, show: bool, number: u64) -> bool
     ensures { result ≡ is_shown elements.now key show number }
 {
     match elements.version(key, number) {

@@ -32,7 +32,7 @@ fn with_listed(alloc: Global, elements: &Elements, key: Key) -> Result<Items<Sho
 }
 
 /// The element, what it lists, and what the ways that it lists list, in no order.
-fn gathered(alloc: Global, elements: &Elements, key: Key) -> Result<Vec<Key>, Memory>
+pub fn gathered(alloc: Global, elements: &Elements, key: Key) -> Result<Vec<Key>, Memory>
     ensures { IfOk result (λ found. (x : Key) → lists_key found.items x ≡ in_full elements.now key x) }
 {
     let mut found = elements.refs(alloc, key)?;

@@ -1,4 +1,5 @@
-//! Every read of the API on the plain map: elements by id, the map of a box, changesets.
+//! Every read of the API on the plain map: elements by id, the map of a box, both of now and as they
+//! were at a stamp; changesets.
 #![tactic(auto)]
 
 mod asks;
@@ -8,6 +9,8 @@ mod full;
 mod lists;
 mod many;
 mod met;
+mod past;
+mod past_map;
 mod rows;
 mod selection;
 mod users;
