@@ -72,29 +72,29 @@ get :
     ∷ Err WrongMethod
     ∷ Ok (call.Download 7)
     ∷ Ok (call.Changesets None false false None)
-    ∷ Ok (call.Map (area 10000000 20000000 30000000 40000000))
+    ∷ Ok (call.Map (area 10000000 20000000 30000000 40000000) None)
     ∷ Err WrongMethod
     ∷ Err WrongMethod
-    ∷ Ok (call.One (key Node 12))
+    ∷ Ok (call.One (key Node 12) None)
     ∷ Ok (call.History (key Node 12) false)
     ∷ Ok (call.Numbered (key Node 12) 3 false)
     ∷ Err WrongMethod
     ∷ Ok (call.RelationsOf (key Node 12))
     ∷ Err WrongMethod
-    ∷ Ok (call.One (key Way 12))
+    ∷ Ok (call.One (key Way 12) None)
     ∷ Ok (call.History (key Way 12) false)
     ∷ Ok (call.Numbered (key Way 12) 3 false)
     ∷ Err WrongMethod
     ∷ Ok (call.RelationsOf (key Way 12))
     ∷ Err WrongMethod
-    ∷ Ok (call.One (key Relation 12))
+    ∷ Ok (call.One (key Relation 12) None)
     ∷ Ok (call.History (key Relation 12) false)
     ∷ Ok (call.Numbered (key Relation 12) 3 false)
     ∷ Err WrongMethod
     ∷ Ok (call.RelationsOf (key Relation 12))
     ∷ Ok (call.WaysOf 12)
-    ∷ Ok (call.Full (key Way 12))
-    ∷ Ok (call.Full (key Relation 12))
+    ∷ Ok (call.Full (key Way 12) None)
+    ∷ Ok (call.Full (key Relation 12) None)
     ∷ Ok (call.Many Node (5 ∷ 1 ∷ 5 ∷ []))
     ∷ Ok (call.Many Way (5 ∷ 1 ∷ 5 ∷ []))
     ∷ Ok (call.Many Relation (5 ∷ 1 ∷ 5 ∷ []))

@@ -1,5 +1,4 @@
 -- The table of routes may go to another thread: so may each node of the router's tree.
-use Rattle.std.proofs.Common.{tests, of_calls}
 use denote.Param.Send.{sendable, IsSend}
 use Rattle.route_table.specs.contracts.routes.Routes as Routes
 use Rattle.matchit.proofs.route.Route.TheSendSync as Route

@@ -46,7 +46,22 @@ changesets d = do
   Ok (call.Changesets user only_open only_closed within)
 
 abbrev pub map_call : Details → Result Call RouteFault
-map_call d = needed area_in (codes "bbox") d.query >>= λ within. Ok (call.Map within)
+map_call d = do
+  within ← needed area_in (codes "bbox") d.query
+  at ← optional number_of (codes "at") d.query
+  Ok (call.Map within at)
+
+abbrev pub one : Kind → Details → Result Call RouteFault
+one kind d = do
+  key ← key_in kind d
+  at ← optional number_of (codes "at") d.query
+  Ok (call.One key at)
+
+abbrev pub full : Kind → Details → Result Call RouteFault
+full kind d = do
+  key ← key_in kind d
+  at ← optional number_of (codes "at") d.query
+  Ok (call.Full key at)
 
 abbrev pub history : Kind → Details → Result Call RouteFault
 history kind d = do
@@ -90,7 +105,7 @@ call_at Changesets Get d = changesets d
 call_at Map Get d = map_call d
 call_at Redactions Post d = Ok call.MakeRedaction
 call_at (NewElement kind) Put d = Ok (call.CreateSingle kind)
-call_at (Element kind) Get d = key_in kind d >>= λ key. Ok (call.One key)
+call_at (Element kind) Get d = one kind d
 call_at (Element kind) Put d = key_in kind d >>= λ key. Ok (call.ModifySingle key)
 call_at (Element kind) Delete d = key_in kind d >>= λ key. Ok (call.DeleteSingle key)
 call_at (History kind) Get d = history kind d
@@ -98,7 +113,7 @@ call_at (Version kind) Get d = numbered kind d
 call_at (VersionRedaction kind) Post d = redact kind d
 call_at (Relations kind) Get d = key_in kind d >>= λ key. Ok (call.RelationsOf key)
 call_at NodeWays Get d = id_in d >>= λ id. Ok (call.WaysOf id)
-call_at (Full kind) Get d = key_in kind d >>= λ key. Ok (call.Full key)
+call_at (Full kind) Get d = full kind d
 call_at (Elements kind) Get d = many kind d
 call_at FeedState Get d = Ok call.FeedState
 call_at FeedPiece Get d = id_in d >>= λ number. Ok (call.FeedPiece number)
@@ -125,7 +140,7 @@ HasPathNumbers (call.Retag id) = IsPathNumber id
 HasPathNumbers (call.CloseChangeset id) = IsPathNumber id
 HasPathNumbers (call.Upload id) = IsPathNumber id
 HasPathNumbers (call.Download id) = IsPathNumber id
-HasPathNumbers (call.One key) = IsPathNumber key.id
+HasPathNumbers (call.One key at) = IsPathNumber key.id
 HasPathNumbers (call.ModifySingle key) = IsPathNumber key.id
 HasPathNumbers (call.DeleteSingle key) = IsPathNumber key.id
 HasPathNumbers (call.History key show) = IsPathNumber key.id
@@ -133,26 +148,28 @@ HasPathNumbers (call.Numbered key version show) = IsPathNumber key.id × IsPathN
 HasPathNumbers (call.Redact key version redaction) = IsPathNumber key.id × IsPathNumber version
 HasPathNumbers (call.RelationsOf key) = IsPathNumber key.id
 HasPathNumbers (call.WaysOf id) = IsPathNumber id
-HasPathNumbers (call.Full key) = IsPathNumber key.id
+HasPathNumbers (call.Full key at) = IsPathNumber key.id
 HasPathNumbers (call.FeedPiece number) = IsPathNumber number
 HasPathNumbers _ = ⊤
 
 -- ---- memory: none is taken for a call without parameters
 
-abbrev pub has_parameters : Resource → Bool
-has_parameters Changesets = true
-has_parameters Map = true
-has_parameters (History kind) = true
-has_parameters (Version kind) = true
-has_parameters (VersionRedaction kind) = true
-has_parameters (Elements kind) = true
-has_parameters _ = false
+abbrev pub has_parameters : Resource → Method → Bool
+has_parameters Changesets Get = true
+has_parameters Map Get = true
+has_parameters (Element kind) Get = true
+has_parameters (History kind) Get = true
+has_parameters (Version kind) Get = true
+has_parameters (VersionRedaction kind) Post = true
+has_parameters (Full kind) Get = true
+has_parameters (Elements kind) Get = true
+has_parameters _ _ = false
 
--- the target's path has a route whose call has parameters
-abbrev pub IsParametric : List ℕ → Type 0
-IsParametric target =
-    (path : List ℕ) × (route : RouteOf Resource)
-    × (path_of target ≡ Some path) × (route_at path ≡ Some route) × (has_parameters route.value ≡ true)
+-- the target's path has a route whose call by the method has parameters
+abbrev pub IsParametric : List ℕ → List ℕ → Type 0
+IsParametric method target =
+    (path : List ℕ) × (route : RouteOf Resource) × (verb : Method)
+    × (path_of target ≡ Some path) × (route_at path ≡ Some route) × (method_of method ≡ Some verb) × (has_parameters route.value verb ≡ true)
 
 -- ---- what a reading gives: what the definition says, unless memory ran out
 

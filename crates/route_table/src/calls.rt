@@ -1,7 +1,7 @@
 //! The calls of the API.
 ghost use Rattle.std.specs.Prelude.{◌≡◌, true, IfOk};
-ghost use Rattle.route_table.specs.Calls.{call_at, changesets, map_call, history, numbered, redact};
-ghost use Rattle.route_table.specs.Calls.{many, list_name, Gives, HasPathNumbers, has_parameters};
+ghost use Rattle.route_table.specs.Calls.{call_at, changesets, map_call, one, history, numbered, redact};
+ghost use Rattle.route_table.specs.Calls.{full, many, list_name, Gives, HasPathNumbers, has_parameters};
 
 use crate::details::Details;
 use crate::faults::RouteFault;
@@ -37,15 +37,19 @@ pub enum Call {
         only_closed: bool,
         within: Option<Box7>,
     },
+    /// With `at`, the map as it was at that stamp, in seconds since 1970.
     Map {
         within: Box7,
+        at: Option<u64>,
     },
     MakeRedaction,
     CreateSingle {
         kind: Kind,
     },
+    /// With `at`, the element as it was at that stamp.
     One {
         key: Key,
+        at: Option<u64>,
     },
     ModifySingle {
         key: Key,
@@ -75,8 +79,10 @@ pub enum Call {
     WaysOf {
         id: u64,
     },
+    /// With `at`, the elements as they were at that stamp.
     Full {
         key: Key,
+        at: Option<u64>,
     },
     Many {
         kind: Kind,
@@ -99,7 +105,7 @@ pub fn call_at(
 ) -> Result<Call, RouteFault>
     ensures call { Gives (call_at resource method details.now) result }
     ensures numbers { IfOk result HasPathNumbers }
-    ensures memory { result ≡ Err RouteFault.Memory → has_parameters resource ≡ true }
+    ensures memory { result ≡ Err RouteFault.Memory → has_parameters resource method ≡ true }
 {
     match method {
         Method::Get => get_call(alloc, resource, details),
@@ -113,25 +119,21 @@ pub fn call_at(
 fn get_call(alloc: Global, resource: Resource, details: &Details<'_>) -> Result<Call, RouteFault>
     ensures call { Gives (call_at resource Method.Get details.now) result }
     ensures numbers { IfOk result HasPathNumbers }
-    ensures memory { result ≡ Err RouteFault.Memory → has_parameters resource ≡ true }
+    ensures memory { result ≡ Err RouteFault.Memory → has_parameters resource Method.Get ≡ true }
 {
     match resource {
         Resource::Changeset => Ok(Call::Changeset { id: details.id()? }),
         Resource::ChangesetDownload => Ok(Call::Download { id: details.id()? }),
         Resource::Changesets => changesets(alloc, details),
         Resource::Map => map_call(alloc, details),
-        Resource::Element(kind) => Ok(Call::One {
-            key: details.key(kind)?,
-        }),
+        Resource::Element(kind) => one(alloc, kind, details),
         Resource::History(kind) => history(alloc, kind, details),
         Resource::Version(kind) => numbered(alloc, kind, details),
         Resource::Relations(kind) => Ok(Call::RelationsOf {
             key: details.key(kind)?,
         }),
         Resource::NodeWays => Ok(Call::WaysOf { id: details.id()? }),
-        Resource::Full(kind) => Ok(Call::Full {
-            key: details.key(kind)?,
-        }),
+        Resource::Full(kind) => full(alloc, kind, details),
         Resource::Elements(kind) => many(alloc, kind, details),
         Resource::FeedState => Ok(Call::FeedState),
         Resource::FeedPiece => Ok(Call::FeedPiece {
@@ -145,7 +147,7 @@ fn get_call(alloc: Global, resource: Resource, details: &Details<'_>) -> Result<
 fn put_call(resource: Resource, details: &Details<'_>) -> Result<Call, RouteFault>
     ensures call { Gives (call_at resource Method.Put details.now) result }
     ensures numbers { IfOk result HasPathNumbers }
-    ensures memory { result ≡ Err RouteFault.Memory → has_parameters resource ≡ true }
+    ensures memory { result ≡ Err RouteFault.Memory → has_parameters resource Method.Put ≡ true }
 {
     match resource {
         Resource::NewChangeset => Ok(Call::CreateChangeset),
@@ -163,7 +165,7 @@ fn put_call(resource: Resource, details: &Details<'_>) -> Result<Call, RouteFaul
 fn post_call(alloc: Global, resource: Resource, details: &Details<'_>) -> Result<Call, RouteFault>
     ensures call { Gives (call_at resource Method.Post details.now) result }
     ensures numbers { IfOk result HasPathNumbers }
-    ensures memory { result ≡ Err RouteFault.Memory → has_parameters resource ≡ true }
+    ensures memory { result ≡ Err RouteFault.Memory → has_parameters resource Method.Post ≡ true }
 {
     match resource {
         Resource::ChangesetUpload => Ok(Call::Upload { id: details.id()? }),
@@ -177,7 +179,7 @@ fn post_call(alloc: Global, resource: Resource, details: &Details<'_>) -> Result
 fn delete_call(resource: Resource, details: &Details<'_>) -> Result<Call, RouteFault>
     ensures call { Gives (call_at resource Method.Delete details.now) result }
     ensures numbers { IfOk result HasPathNumbers }
-    ensures memory { result ≡ Err RouteFault.Memory → has_parameters resource ≡ true }
+    ensures memory { result ≡ Err RouteFault.Memory → has_parameters resource Method.Delete ≡ true }
 {
     match resource {
         Resource::Element(kind) => Ok(Call::DeleteSingle {
@@ -209,7 +211,26 @@ fn map_call(alloc: Global, details: &Details<'_>) -> Result<Call, RouteFault>
     ensures numbers { IfOk result HasPathNumbers }
 {
     let within = needed_area(alloc, details.query, "bbox")?;
-    Ok(Call::Map { within })
+    let at = number(alloc, details.query, "at")?;
+    Ok(Call::Map { within, at })
+}
+
+fn one(alloc: Global, kind: Kind, details: &Details<'_>) -> Result<Call, RouteFault>
+    ensures call { Gives (one kind details.now) result }
+    ensures numbers { IfOk result HasPathNumbers }
+{
+    let key = details.key(kind)?;
+    let at = number(alloc, details.query, "at")?;
+    Ok(Call::One { key, at })
+}
+
+fn full(alloc: Global, kind: Kind, details: &Details<'_>) -> Result<Call, RouteFault>
+    ensures call { Gives (full kind details.now) result }
+    ensures numbers { IfOk result HasPathNumbers }
+{
+    let key = details.key(kind)?;
+    let at = number(alloc, details.query, "at")?;
+    Ok(Call::Full { key, at })
 }
 
 fn history(alloc: Global, kind: Kind, details: &Details<'_>) -> Result<Call, RouteFault>

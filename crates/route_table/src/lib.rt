@@ -14,5 +14,6 @@ mod targets;
 pub use calls::Call;
 pub use faults::RouteFault;
 pub use osm_base::path_number as number;
-pub use parameters::parameter;
+pub use parameters::{flag, needed_area, parameter};
 pub use routes::Routes;
+pub use targets::{before_query, path_of, query_of};

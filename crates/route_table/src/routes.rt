@@ -61,7 +61,7 @@ impl Routes {
     pub fn route(&self, alloc: Global, method: &[u8], target: &[u8]) -> Result<Call, RouteFault>
         ensures call { Gives (call_of method.now target.now) result }
         ensures numbers { IfOk result HasPathNumbers }
-        ensures memory { result ≡ Err RouteFault.Memory → IsParametric target.now }
+        ensures memory { result ≡ Err RouteFault.Memory → IsParametric method.now target.now }
     {
         let path = path_of(target).ok_or(RouteFault::NoPath)?;
         let query = query_of(target);

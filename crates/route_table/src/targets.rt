@@ -30,7 +30,8 @@ pub fn path_of(target: &[u8]) -> Option<&str>
     Some(ascii_str(without_json(before_query(target))))
 }
 
-fn before_query(target: &[u8]) -> &[u8]
+/// The target up to its first question mark.
+pub fn before_query(target: &[u8]) -> &[u8]
     ensures { result.now ≡ before_first (is_byte question_mark) target.now }
 {
     match split_once(target, b'?') {

@@ -5,6 +5,7 @@ mod parameters;
 mod placeholders;
 mod redactions;
 mod references;
+mod stamps;
 mod stores;
 mod tiles;
 mod tokens;
@@ -17,6 +18,7 @@ pub fn play<R: Print>(rt: &R, alloc: Global, tally: &mut Tally) {
     tokens::play(rt, alloc, tally);
     tiles::play(rt, alloc, tally);
     parameters::play(rt, alloc, tally);
+    stamps::play(rt, alloc, tally);
     tally.note(
         rt,
         "a placeholder binds once",
