@@ -1,0 +1,5 @@
+pub mod Lists
+pub mod Settled
+pub mod Told
+pub mod Served
+pub mod Worked

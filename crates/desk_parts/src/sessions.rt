@@ -1,0 +1,95 @@
+//! Requests of a session of a hub, answered once it owes nothing: each call is one row.
+ghost use Rattle.std.specs.Prelude.{◌≡◌, OnOk, OnErr};
+ghost use Rattle.hub_answers.specs.Answered.Request.{Does, Reads};
+ghost use Rattle.hub_answers.specs.Steps.{told, Answers};
+ghost use Rattle.session_desk.specs.Answered.{IsFresh};
+ghost use Rattle.desk_parts.specs.Answered.{IsSettled};
+
+use hub_answers::{answer_command, answer_query};
+use machine_law::Machine;
+use osm_base::{Bytes, Memory, Steps};
+use osm_outside::Gate;
+use shared_front::HubName;
+use snapshot_hub::{Hub, Session, Snapshot};
+use std::sync::Wait;
+use std::sync::ledger::Ledger;
+
+/// Publishes what the session owes, if it owes a commit.
+#[tactic(auto, using(crate::proofs::Settled::settled_of, crate::proofs::Settled::rested))]
+fn settle_first<N: HubName, M: Machine, S: Snapshot<N, M>, G: Gate + Drop, R: Wait + Drop, W: Wait>(
+    rt: &W,
+    hub: &Hub<N, M, S, G, R>,
+    session: &mut Session<N, M, S>,
+) -> Result<(), Memory>
+    ensures ok { OnOk result (IsSettled session.old session.new) }
+    ensures err { OnErr result (session.new ≡ session.old) }
+{
+    if session.owes() {
+        hub.settle(rt, session)
+    } else {
+        Ok(())
+    }
+}
+
+/// Publishes the journal that is found under the lock, and lets the session see it.
+#[tactic(auto, using(crate::proofs::Settled::fresh_of))]
+pub fn freshen<N: HubName, M: Machine, S: Snapshot<N, M>, G: Gate + Drop, R: Wait + Drop, W: Wait>(
+    rt: &W,
+    hub: &Hub<N, M, S, G, R>,
+    session: &mut Session<N, M, S>,
+) -> Result<(), Memory>
+    ensures ok { OnOk result (IsFresh M.rules session.old session.new) }
+    ensures err { OnErr result (session.new ≡ session.old) }
+{
+    hub.freshen(rt, session)
+}
+
+/// Plans a command and commits it, once the session owes nothing.
+pub fn command_bytes<
+    N: HubName,
+    M: Machine,
+    S: Snapshot<N, M>,
+    G: Gate + Drop,
+    R: Wait + Drop,
+    W: Wait,
+    L: Ledger,
+>(
+    rt: &W,
+    hub: &Hub<N, M, S, G, R>,
+    session: &mut Session<N, M, S>,
+    command: M::Command,
+    moment: u64,
+    steps: &mut Steps<L>,
+) -> Result<Bytes, Memory>
+    ensures { Answers M.rules session.old (Does command) moment (told result) session.new }
+{
+    match settle_first(rt, hub, session) {
+        Ok(()) => answer_command(rt, hub, session, command, moment, steps),
+        Err(memory) => Err(memory),
+    }
+}
+
+/// Asks a query, once the session owes nothing.
+pub fn query_bytes<
+    N: HubName,
+    M: Machine,
+    S: Snapshot<N, M>,
+    G: Gate + Drop,
+    R: Wait + Drop,
+    W: Wait,
+    L: Ledger,
+>(
+    rt: &W,
+    hub: &Hub<N, M, S, G, R>,
+    session: &mut Session<N, M, S>,
+    query: &M::Query,
+    moment: u64,
+    steps: &mut Steps<L>,
+) -> Result<Bytes, Memory>
+    ensures { Answers M.rules session.old (Reads query.now) moment (told result) session.new }
+{
+    match settle_first(rt, hub, session) {
+        Ok(()) => answer_query(session, query, moment, steps),
+        Err(memory) => Err(memory),
+    }
+}
