@@ -8,7 +8,7 @@ use Rattle.api_desk.specs.declared.feed.FeedCall.{FeedCall}
 use Rattle.api_desk.specs.Answered.{AnswersFeed, IsRow}
 use Rattle.api_desk.specs.Feed.{Told, fed}
 use Rattle.api_desk.specs.Request.{Ask, of_map, of_feed}
-use Rattle.api_desk.proofs.Rows.{row-append, row_later}
+use Rattle.api_desk.proofs.Rows.{row_later}
 
 lacking : (F : List Entry) (s : ℕ) (p : Place) (request : MapRequest) (m : ℕ) → IsMapsRow F s p request m None p
 lacking F s p (refused r) m = inr (record { told = refl; stays = refl })
@@ -24,25 +24,3 @@ lacks F s p (of_feed call) m = inr (record { told = refl; stays = refl })
 pub goes_on : (F : List Entry) (s : ℕ) (before after : Place) (q : Ask) (m : ℕ) (reply : Option Told) → IsRow F s before q m reply after → before.point ≤ after.point
 goes_on F s before after (of_map request) m reply row = row_later F s before after request m row.answer row.row
 goes_on F s before after (of_feed call) m reply row = ⊎_elim (λ answers. answers.later) (λ lacks. omega (arith, ap (λ (p : Place). p.point) lacks.stays)) row
-
--- ---- a longer journal
-
-feed-append : (F more : List Entry) (before after : Place) (call : FeedCall) (reply : Option Told)
-    → after.point ≤ length F → AnswersFeed F before call reply after → AnswersFeed (F ++ more) before call reply after
-feed-append F more before after call reply within row = record {
-  later = row.later;
-  told = row.told ∙ ap (λ (es : List Entry). Some (fed es call)) (sym (take-append-le after.point F more within));
-  calls = row.calls;
-  debts = row.debts;
-}
-
--- a row of a journal is a row of each longer one
-pub row-longer : (F more : List Entry) (s : ℕ) (before after : Place) (q : Ask) (m : ℕ) (reply : Option Told)
-    → after.point ≤ length F → IsRow F s before q m reply after → IsRow (F ++ more) s before q m reply after
-row-longer F more s before after (of_map request) m reply within row = record {
-  answer = row.answer;
-  told = row.told;
-  row = row-append F more s before after request m row.answer within row.row;
-}
-row-longer F more s before after (of_feed call) m reply within row =
-    ⊎_elim (λ answers. inl (feed-append F more before after call reply within answers)) (λ lacks. inr lacks) row

@@ -11,7 +11,8 @@ use Rattle.api_desk.specs.Answered.{SessionRow, IsRow, IsAnswered}
 use Rattle.api_desk.specs.Answers.{AllTell, AreAnswered}
 use Rattle.api_desk.specs.HubDesk.{AtDesk, Allows, HasServed, stands_at}
 use Rattle.api_desk.proofs.Fronts.{prefix_self, prefix_trans}
-use Rattle.api_desk.proofs.Answered.{goes_on, row-longer}
+use Rattle.api_desk.specs.Longer.{row-longer}
+use Rattle.api_desk.proofs.Answered.{goes_on}
 
 -- ---- rows
 

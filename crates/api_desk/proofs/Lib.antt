@@ -11,7 +11,6 @@ pub mod MachineRows
 pub mod HubReplies
 pub mod HubSessions
 pub mod Settled
-pub mod Worked
 pub mod RowSteps
 pub mod Told
 pub mod Loads

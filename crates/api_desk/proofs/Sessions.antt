@@ -10,7 +10,7 @@ use Rattle.api_desk.specs.Request.{request_of}
 use Rattle.api_desk.specs.Answered.{IsRow}
 use Rattle.api_desk.specs.Answers.{AreAnswered}
 use Rattle.api_desk.specs.Desk.{Allows, HasServed, entries_of, users_of, session_of}
-use Rattle.api_desk.proofs.Answered.{row-longer}
+use Rattle.api_desk.specs.Longer.{row-longer}
 
 -- no exchange
 none_answered : (old new : OneDesk) → new ≡ old → HasServed old [] new

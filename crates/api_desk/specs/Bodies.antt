@@ -1,5 +1,5 @@
 -- The command that a call and its body ask for.
-use Rattle.std.specs.Prelude.{ℕ, ℤ, pos, negsuc, Bool, true, false, List, [], ◌∷◌, Result, Ok, Err}
+use Rattle.std.specs.Prelude.{ℕ, ℤ, pos, negsuc, Bool, true, false, List, [], ◌∷◌, Some, Result, Ok, Err}
 use Rattle.osm_base.specs.Outcome.{◌>>=◌}
 use Rattle.osm_base.specs.declared.keys.Kind.{Kind}
 use Rattle.osm_change.specs.Build.{change_of as built}
@@ -9,25 +9,20 @@ use Rattle.osm_change.specs.declared.raw.Action.TheVariants.{Create, Modify, Del
 use Rattle.osm_change.specs.declared.refusals.Refusal.{Refusal}
 use Rattle.osm_change.specs.declared.refusals.Refusal.TheVariants as refusals
 use Rattle.osm_element.specs.Limits.{check_tags}
+use Rattle.osm_element.specs.declared.faults.LocalFault.{LocalFault}
 use Rattle.osm_element.specs.Tags.{Tag}
 use Rattle.osm_json.specs.Reading.{changeset_tags, change_of, single_in, title_in}
 use Rattle.osm_model.specs.declared.commands.Command.{Command}
 use Rattle.osm_model.specs.declared.commands.Command.TheVariants as command
-use Rattle.api_desk.specs.declared.faults.RequestFault.{RequestFault}
-use Rattle.api_desk.specs.declared.faults.RequestFault.TheVariants.{Memory, Refused}
+use Rattle.desk_parts.specs.Faults.{or_refused, of_body, of_change}
+use Rattle.desk_parts.specs.declared.faults.RequestFault.{RequestFault}
+use Rattle.desk_parts.specs.declared.faults.RequestFault.TheVariants.{Refused}
 use Rattle.api_desk.specs.declared.tasks.Edit.{Edit}
 use Rattle.api_desk.specs.declared.tasks.Edit.TheVariants as edit
-use Rattle.api_desk.specs.Faults.{of_body, of_change, of_tags}
 
--- the refusal of a fault. No definition gives want of memory
-abbrev pub refusal_in : RequestFault → Refusal
-refusal_in (Refused r) = r
-refusal_in Memory = refusals.NotJson
-
--- a result, or the refusal that its fault is told as
-abbrev pub or_refused : {A E : Type 0} → (E → RequestFault) → Result A E → Result A Refusal
-or_refused of (Ok a) = Ok a
-or_refused of (Err fault) = Err (refusal_in (of fault))
+-- tags beyond a limit count as operation 0
+abbrev pub of_tags : LocalFault → RequestFault
+of_tags fault = Refused (refusals.Local fault (Some 0))
 
 -- the tags of a changeset's body, within the limits
 unfoldable pub tags_in : Bool → List ℕ → Result (List Tag) Refusal

@@ -1,13 +1,12 @@
 -- A reading of a message gives what the definitions say, unless memory ran out.
 use Rattle.std.specs.Prelude.{◌≡◌, Some, Result, Ok, Err, ⊤}
-use Rattle.osm_change.specs.Moments.{RefusalHasShownEnd}
 use Rattle.osm_change.specs.declared.refusals.Refusal.{Refusal}
 use Rattle.osm_base.specs.declared.memory.Memory.{Memory}
 use Rattle.osm_change.specs.declared.answers.Answer.TheVariants as answer
 use Rattle.osm_model.specs.Answered.{refused, does, reads}
 use Rattle.http_link.specs.declared.desk.Reply.{Reply}
-use Rattle.api_desk.specs.declared.faults.RequestFault.{RequestFault}
-use Rattle.api_desk.specs.declared.faults.RequestFault.TheVariants as fault
+use Rattle.desk_parts.specs.declared.faults.RequestFault.{RequestFault}
+use Rattle.desk_parts.specs.declared.faults.RequestFault.TheVariants as fault
 use Rattle.api_desk.specs.declared.requests.Request.{Request as Made}
 use Rattle.api_desk.specs.declared.requests.Request.TheVariants.{Change, Read, Feed}
 use Rattle.api_desk.specs.Answers.{reply_of}
@@ -34,11 +33,6 @@ abbrev pub GivesRequest : Ask → Result Made RequestFault → Type 0
 GivesRequest expected (Ok made) = expected ≡ shown_request made
 GivesRequest expected (Err fault.Memory) = ⊤
 GivesRequest expected (Err (fault.Refused r)) = expected ≡ of_map (refused r)
-
--- the moments of a refusal have a text
-abbrev pub HasShownFault : RequestFault → Type 0
-HasShownFault fault.Memory = ⊤
-HasShownFault (fault.Refused r) = RefusalHasShownEnd r
 
 -- the reply tells the refusal; want of memory has no reply
 abbrev pub TellsFault : RequestFault → Result Reply Memory → Type 0

@@ -13,6 +13,7 @@ use Rattle.osm_model.specs.State.{empty}
 use Rattle.osm_model.specs.declared.commands.Entry.{Entry}
 use Rattle.osm_model.specs.declared.states.State.{State}
 use Rattle.osm_model.proofs.Replayed.{leads-after, point_consistent, replay_timely, replay_attributed}
+use Rattle.osm_model.proofs.Stamped.{stamped-after, replay_stamped}
 use Rattle.osm_world.specs.World.{IsKept}
 use Rattle.machine_law.specs.declared.tags.Tag.{Tag}
 use Rattle.api_desk.specs.Machine.{act_as, entry_if, tag_of}
@@ -54,6 +55,7 @@ empty_kept = record {
   begun = record { begun = λ k counted below. absurd (omega (arith, counted, below, no_histories k.kind)) };
   timely = replay_timely [];
   attributed = replay_attributed [];
+  stamped = replay_stamped [];
 }
 
 -- an entry keeps what maps keep
@@ -63,4 +65,5 @@ taken_kept P e taken kept = record {
   begun = (leads-after P e).kept.begun kept.begun;
   timely = (leads-after P e).timely kept.timely;
   attributed = (leads-after P e).attributed kept.attributed;
+  stamped = stamped-after P e kept.stamped;
 }

@@ -1,6 +1,4 @@
-pub mod Faults
 pub mod Tasks
-pub mod Media
 pub mod Bodies
 pub mod Request
 pub mod Feed
@@ -14,3 +12,5 @@ pub mod MachineRows
 pub mod Desk
 pub mod HubDesk
 pub mod Loads
+pub mod Longer
+pub mod SessionDesk

@@ -9,35 +9,19 @@ use Rattle.osm_model.specs.Answered.{Request, refused, does, reads}
 use Rattle.http_wire.specs.declared.message.Message.{Message}
 use Rattle.route_table.specs.Calls.{call_of}
 use Rattle.route_table.specs.declared.calls.Call.{Call}
-use Rattle.user_table.specs.declared.tables.Who.{Who}
-use Rattle.user_table.specs.declared.tables.Who.TheVariants.{Anonymous, Known, Unknown}
-use Rattle.user_table.specs.Rows.{Row}
 use Rattle.user_table.specs.Users.{Users}
-use Rattle.user_table.specs.Who.{who_of}
 use Rattle.api_desk.specs.declared.feed.FeedCall.{FeedCall}
 use Rattle.api_desk.specs.declared.feed.FeedCall.TheVariants as feed
 use Rattle.api_desk.specs.declared.tasks.Edit.{Edit}
 use Rattle.api_desk.specs.declared.tasks.Task.{Task}
 use Rattle.api_desk.specs.declared.tasks.Task.TheVariants.{Read, Change, Moderate, Follow}
-use Rattle.api_desk.specs.Bodies.{or_refused, command_of}
-use Rattle.api_desk.specs.Faults.{of_route}
-use Rattle.api_desk.specs.Media.{is_xml}
+use Rattle.desk_parts.specs.Callers.{caller_of}
+use Rattle.desk_parts.specs.Faults.{or_refused, of_route}
+use Rattle.desk_parts.specs.Media.{is_xml}
+use Rattle.api_desk.specs.Bodies.{command_of}
 use Rattle.api_desk.specs.Tasks.{task_of}
 
 -- ---- the caller
-
--- the user at a place of the table
-abbrev pub user_at : List Row → ℕ → Result (Option User) Refusal
-user_at rows place = option_map_or (λ user. Ok (Some user)) (slice_get (map (λ row. row.user) rows) place) (Err NoUser)
-
--- nobody who says who it is, or a user of the table; another is refused
-abbrev pub caller_in : List Row → Who → Result (Option User) Refusal
-caller_in rows Anonymous = Ok None
-caller_in rows (Known place) = user_at rows place
-caller_in rows Unknown = Err NoUser
-
-abbrev pub caller_of : Users → Message → Result (Option User) Refusal
-caller_of users m = caller_in users.rows (who_of users.rows m.authorization)
 
 -- a caller who says who it is
 abbrev pub known_user : Option User → Result User Refusal

@@ -1,6 +1,8 @@
 -- What a call comes to, by who may make it (wiki, API v0.6).
 use Rattle.std.specs.Prelude.{ℕ, Bool, ◌&&◌, Option, Some, None, ⊤}
+use Rattle.osm_base.specs.Place.{Area}
 use Rattle.osm_base.specs.declared.keys.Key.{Key}
+use Rattle.osm_model.specs.declared.queries.Query.{Query}
 use Rattle.osm_model.specs.declared.queries.Query.TheVariants as query
 use Rattle.route_table.specs.Calls.{IsPathNumber}
 use Rattle.route_table.specs.declared.calls.Call.{Call}
@@ -15,6 +17,19 @@ use Rattle.api_desk.specs.declared.tasks.Task.TheVariants.{Read, Change, Moderat
 abbrev pub mark : Key → ℕ → Option ℕ → Task
 mark key version (Some redaction) = Moderate (edit.Redact key version redaction)
 mark key version None = Moderate (edit.Unredact key version)
+
+-- a read with a stamp is one of the past
+abbrev pub read_map : Area → Option ℕ → Query
+read_map within (Some at) = query.MapAt within at
+read_map within None = query.Map within
+
+abbrev pub read_one : Key → Option ℕ → Query
+read_one key (Some at) = query.OneAt key at
+read_one key None = query.One key
+
+abbrev pub read_full : Key → Option ℕ → Query
+read_full key (Some at) = query.FullAt key at
+read_full key None = query.Full key
 
 -- what a call comes to; what is redacted is shown where it is asked for by a caller who may see it, and a changeset
 -- is created with the moment from which new ones may grow large
@@ -31,12 +46,12 @@ task_of sees large_from (call.Redact key version redaction) = mark key version r
 task_of sees large_from (call.Changeset id) = Read (query.Changeset id)
 task_of sees large_from (call.Changesets user only_open only_closed within) = Read (query.Changesets user only_open only_closed within)
 task_of sees large_from (call.Download id) = Read (query.Download id)
-task_of sees large_from (call.Map within) = Read (query.Map within)
-task_of sees large_from (call.One key) = Read (query.One key)
+task_of sees large_from (call.Map within at) = Read (read_map within at)
+task_of sees large_from (call.One key at) = Read (read_one key at)
 task_of sees large_from (call.Numbered key version show) = Read (query.Numbered key version (show && sees))
 task_of sees large_from (call.History key show) = Read (query.History key (show && sees))
 task_of sees large_from (call.Many kind ids) = Read (query.Many kind ids)
-task_of sees large_from (call.Full key) = Read (query.Full key)
+task_of sees large_from (call.Full key at) = Read (read_full key at)
 task_of sees large_from (call.WaysOf id) = Read (query.WaysOf id)
 task_of sees large_from (call.RelationsOf key) = Read (query.RelationsOf key)
 task_of sees large_from call.FeedState = Follow feed.State

@@ -9,11 +9,12 @@ ghost use Rattle.http_wire.specs.declared.message.Message.{Message};
 ghost use Rattle.user_table.specs.Users.{Users};
 ghost use Rattle.api_desk.specs.Answers.{reply_of, Answers};
 ghost use Rattle.api_desk.specs.Feed.{says};
-ghost use Rattle.api_desk.specs.Gives.{GivesRequest, HasShownFault, TellsFault};
+ghost use Rattle.desk_parts.specs.Faults.{HasShownFault};
+ghost use Rattle.api_desk.specs.Gives.{GivesRequest, TellsFault};
 ghost use Rattle.api_desk.specs.Machine.{bytes_of};
 ghost use Rattle.api_desk.specs.Request.{request_of};
 
-use crate::faults::RequestFault;
+use desk_parts::RequestFault;
 use http_link::Reply;
 use osm_base::{Bytes, Memory};
 use osm_change::Answer;

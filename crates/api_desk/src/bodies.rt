@@ -1,22 +1,29 @@
 //! What the body of a call asks.
 ghost use Rattle.std.specs.Prelude.{◌≡◌, ◌∷◌, [], IfOk, IfErr};
 ghost use Rattle.osm_change.specs.Build.{change_of as built, IsRawOp, IsReference};
-ghost use Rattle.api_desk.specs.Bodies.{or_refused, tags_in, upload_in, change_in, command_of};
-ghost use Rattle.api_desk.specs.Faults.{of_change};
+ghost use Rattle.desk_parts.specs.Faults.{or_refused, of_change, HasShownFault};
+ghost use Rattle.api_desk.specs.Bodies.{of_tags, tags_in, upload_in, change_in, command_of};
 ghost use Rattle.api_desk.specs.Tasks.{HasPathNumber};
-ghost use Rattle.api_desk.specs.Gives.{Gives, HasShownFault};
+ghost use Rattle.api_desk.specs.Gives.{Gives};
 
-use crate::faults::{RequestFault, tags_fault};
 use crate::tasks::Edit;
+use desk_parts::RequestFault;
 use osm_base::{Kind, Memory};
-use osm_change::{Action, Change, OneOp, RawOp};
-use osm_element::Tags;
+use osm_change::{Action, Change, OneOp, RawOp, Refusal};
+use osm_element::{LocalFault, Tags};
 use osm_json::{read_change, read_single, read_tags, read_title};
 use osm_model::Command;
 use std::alloc::Global;
 
 /// The id that a creation is given, whose path has none.
 const NO_ID: i64 = -1;
+
+/// A changeset's tags are beyond a limit. They count as operation 0.
+fn tags_fault(fault: LocalFault) -> RequestFault
+    ensures { result ≡ of_tags fault }
+{
+    RequestFault::Refused(Refusal::Local { fault, op: Some(0) })
+}
 
 /// The tags of a changeset, within the limits.
 #[tactic(auto, unfolding(crate::specs::Bodies::tags_in))]

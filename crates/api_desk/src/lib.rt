@@ -4,10 +4,9 @@
 
 mod acceptance;
 mod answers;
+mod any_desk;
 mod bodies;
-mod bytes;
 mod desk;
-mod faults;
 mod feed;
 mod hub_desk;
 mod hub_feed;
@@ -17,7 +16,6 @@ mod law;
 mod load_events;
 mod load_faults;
 mod machine;
-mod media;
 mod planning;
 mod plans;
 mod requests;
@@ -26,9 +24,7 @@ mod world_asks;
 mod world_rows;
 
 pub use answers::{refuse, reply_from};
-pub use bytes::value_of;
 pub use desk::{OneDesk, next_call, query_reply};
-pub use faults::RequestFault;
 pub use feed::{FeedCall, feed_reply};
 pub use hub_desk::{HubDesk, MapHub, MapSession};
 pub use hub_law::{
@@ -39,10 +35,7 @@ pub use law::desk_answers;
 pub use load_events::events;
 pub use load_faults::LoadFault;
 pub use machine::{MapMachine, MapWorld};
-pub use media::is_xml;
 pub use plans::MapPlan;
-pub use requests::{
-    Asked, Request, caller_of, is_moderator, known_moderator, known_user, request_of,
-};
+pub use requests::{Asked, Request, is_moderator, known_moderator, known_user, request_of};
 pub use tasks::{Edit, Task, task_of};
 pub use world_asks::world_ask;

@@ -4,9 +4,9 @@ ghost use Rattle.osm_base.specs.declared.limits.TheConstants.{SESSION_LIMIT};
 ghost use Rattle.api_desk.specs.Request.{request_of};
 ghost use Rattle.api_desk.specs.Loads.{GivesCommand, GivesWork, events_by, AreEventsOf, FailsBy, AreEvents, FailsAt};
 
-use crate::faults::RequestFault;
 use crate::load_faults::LoadFault;
 use crate::requests::{Asked, Request, request_of};
+use desk_parts::RequestFault;
 use http_wire::Message;
 use hub_core::Event;
 use osm_base::{Bytes, Memory, SESSION_LIMIT};

@@ -1,23 +1,22 @@
 //! What a message asks.
 ghost use Rattle.std.specs.Prelude.{◌≡◌, option_copied, option_map, MatchResult, Ok, Err, IfErr};
 ghost use Rattle.api_desk.specs.declared.tasks.Task.TheVariants as task;
-ghost use Rattle.api_desk.specs.Request.{caller_of, is_moderator, known_user, known_moderator, work_of, piece_asked, asked_by, request_of};
+ghost use Rattle.api_desk.specs.Request.{is_moderator, known_user, known_moderator, work_of, piece_asked, asked_by, request_of};
 ghost use Rattle.api_desk.specs.Tasks.{HasPathNumber, HasTaskNumbers};
-ghost use Rattle.api_desk.specs.Gives.{Gives, GivesRequest, GivesAsked, HasShownFault};
+ghost use Rattle.desk_parts.specs.Faults.{HasShownFault};
+ghost use Rattle.api_desk.specs.Gives.{GivesRequest, GivesAsked};
 
 use crate::bodies::command_of;
-use crate::bytes::value_of;
-use crate::faults::RequestFault;
 use crate::feed::FeedCall;
-use crate::media::is_xml;
 use crate::tasks::{Edit, Task, task_of};
+use desk_parts::{RequestFault, caller_of, is_xml};
 use http_wire::Message;
 use osm_base::{TryCopy, User};
 use osm_change::Refusal;
 use osm_model::{Command, Query};
 use route_table::Routes;
 use std::alloc::Global;
-use user_table::{UserTable, Who};
+use user_table::UserTable;
 
 /// A command and the user who asks for it.
 #[derive(Drop)]
@@ -32,18 +31,6 @@ pub enum Request {
     Change(Asked),
     Read(Query),
     Feed(FeedCall),
-}
-
-/// The caller: nobody who says who it is, or a user. Another is refused.
-pub fn caller_of<'a>(message: &Message, users: &'a UserTable) -> Result<Option<&'a User>, Refusal>
-    ensures { MatchResult result (λ caller. caller_of users.now message.now ≡ Ok (option_copied caller))
-        (λ r. caller_of users.now message.now ≡ Err r) }
-{
-    match users.who(value_of(&message.authorization)) {
-        Who::Known(place) => Ok(Some(users.user(place))),
-        Who::Anonymous => Ok(None),
-        Who::Unknown => Err(Refusal::NoUser),
-    }
 }
 
 /// Whether the caller is a moderator.

@@ -1,10 +1,10 @@
 //! What a call comes to: a query, work on the map or a call of the feed, by who may ask for it.
 ghost use Rattle.std.specs.Prelude.{◌≡◌};
-ghost use Rattle.api_desk.specs.Tasks.{mark, task_of, HasTaskNumbers};
+ghost use Rattle.api_desk.specs.Tasks.{mark, read_map, read_one, read_full, task_of, HasTaskNumbers};
 ghost use Rattle.route_table.specs.Calls.{HasPathNumbers};
 
 use crate::feed::FeedCall;
-use osm_base::{Key, Kind};
+use osm_base::{Box7, Key, Kind};
 use osm_model::Query;
 use route_table::Call;
 
@@ -72,6 +72,36 @@ fn mark(key: Key, version: u64, redaction: Option<u64>) -> Task
     })
 }
 
+/// With a stamp it is the map as it was.
+fn read_map(within: Box7, at: Option<u64>) -> Query
+    ensures { result ≡ read_map within at }
+{
+    match at {
+        Some(at) => Query::MapAt { within, at },
+        None => Query::Map { within },
+    }
+}
+
+/// With a stamp it is the element as it was.
+fn read_one(key: Key, at: Option<u64>) -> Query
+    ensures { result ≡ read_one key at }
+{
+    match at {
+        Some(at) => Query::OneAt { key, at },
+        None => Query::One { key },
+    }
+}
+
+/// With a stamp it is the element as it was, with what it listed then.
+fn read_full(key: Key, at: Option<u64>) -> Query
+    ensures { result ≡ read_full key at }
+{
+    match at {
+        Some(at) => Query::FullAt { key, at },
+        None => Query::Full { key },
+    }
+}
+
 /// What a call comes to. `sees` tells whether its caller may see what is redacted: the parameter
 /// that asks for it counts for nobody else. `large_from` is the moment from which new changesets may
 /// grow large.
@@ -106,8 +136,8 @@ pub fn task_of(call: Call, sees: bool, large_from: Option<u64>) -> Task
             within,
         }),
         Call::Download { id } => Task::Read(Query::Download { id }),
-        Call::Map { within } => Task::Read(Query::Map { within }),
-        Call::One { key } => Task::Read(Query::One { key }),
+        Call::Map { within, at } => Task::Read(read_map(within, at)),
+        Call::One { key, at } => Task::Read(read_one(key, at)),
         Call::Numbered { key, version, show } => Task::Read(Query::Numbered {
             key,
             version,
@@ -118,7 +148,7 @@ pub fn task_of(call: Call, sees: bool, large_from: Option<u64>) -> Task
             show: show && sees,
         }),
         Call::Many { kind, ids } => Task::Read(Query::Many { kind, ids }),
-        Call::Full { key } => Task::Read(Query::Full { key }),
+        Call::Full { key, at } => Task::Read(read_full(key, at)),
         Call::WaysOf { id } => Task::Read(Query::WaysOf { id }),
         Call::RelationsOf { key } => Task::Read(Query::RelationsOf { key }),
         Call::FeedState => Task::Follow(FeedCall::State),

@@ -5,13 +5,15 @@ ghost use Rattle.osm_change.specs.declared.answers.Answer.TheVariants as answers
 ghost use Rattle.osm_change.specs.declared.reads.MapFault.{MapFault};
 ghost use Rattle.osm_change.specs.declared.reads.ReadFault.{ReadFault};
 ghost use Rattle.osm_change.specs.declared.reads.Shown.{Shown};
-ghost use Rattle.osm_model.specs.Ask.{ask, ask_at, elements_answer, one_answer, read_answer, map_refusal, map_answer, changeset_answer, download_answer};
+ghost use Rattle.osm_model.specs.Ask.{ask, ask_at, elements_answer, one_answer, read_answer, map_refusal, map_answer, past_map_answer, changeset_answer, download_answer};
 ghost use Rattle.osm_model.specs.ChangesetReads.{read_changeset, download};
+ghost use Rattle.osm_model.specs.PastMap.{map_at};
 ghost use Rattle.osm_model.specs.Selection.{map_of};
 ghost use Rattle.osm_world.specs.World.{state_of};
 ghost use Rattle.read_calls.specs.Read.{IsRead};
 
 use crate::world_rows::{element_rows, selected_rows};
+use attic_reads::{full_at, map_at, one_at};
 use changeset_calls::{ChangesetFault, download, query, read};
 use map_call::map;
 use osm_base::{AREA_LIMIT, Box7, Items, MAP_NODE_LIMIT, Memory, Stamp, Steps};
@@ -75,6 +77,11 @@ fn ask_at<'a, L: Ledger>(
             read_answer(alloc, world, many(alloc, world, *kind, ids.items()))
         }
         Query::Full { key } => read_answer(alloc, world, full(alloc, world, *key)),
+        Query::OneAt { key, at: then } => one_answer(alloc, world, one_at(world, *key, *then)),
+        Query::FullAt { key, at: then } => {
+            read_answer(alloc, world, full_at(alloc, world, *key, *then))
+        }
+        Query::MapAt { within, at: then } => ask_map_at(alloc, world, within, *then),
         Query::WaysOf { id } => users_answer(alloc, world, ways_of(alloc, world, *id)),
         Query::RelationsOf { key } => {
             users_answer(alloc, world, relations_of(alloc, world, *key))
@@ -170,6 +177,27 @@ fn selected_answer<'a>(
         bounds: Some(*within),
         rows,
     })
+}
+
+/// The elements of a box as they were at a stamp, with the box as their bounds.
+fn ask_map_at<'a>(
+    alloc: Global,
+    world: &'a World,
+    within: &Box7,
+    then: u64,
+) -> Result<Answer<'a>, Memory>
+    ensures { IfOk result (λ answer. answer ≡ past_map_answer (state_of world.now) within.now (map_at (state_of world.now) within.now then)) }
+{
+    match map_at(alloc, world, *within, then) {
+        Ok(shown) => {
+            let rows = element_rows(alloc, world, shown.items())?;
+            Ok(Answer::Elements {
+                bounds: Some(*within),
+                rows,
+            })
+        }
+        Err(fault) => refused_map(fault),
+    }
 }
 
 /// The refusal of a box, unless memory ran out.

@@ -10,7 +10,8 @@ ghost use Rattle.api_desk.specs.Answers.{reply_of};
 ghost use Rattle.api_desk.specs.Feed.{says, fed};
 
 use crate::desks::Sender;
-use api_desk::{Asked, FeedCall, Request, RequestFault, feed_reply, request_of};
+use api_desk::{Asked, FeedCall, Request, feed_reply, request_of};
+use desk_parts::RequestFault;
 use http_link::Reply;
 use http_wire::Message;
 use osm_base::Memory;

@@ -6,10 +6,10 @@ use Rattle.osm_change.specs.declared.refusals.Refusal.{Refusal}
 use Rattle.osm_change.specs.declared.refusals.Refusal.TheVariants.{Xml}
 use Rattle.http_wire.specs.declared.message.Message.{Message}
 use Rattle.user_table.specs.Users.{Users}
-use Rattle.api_desk.specs.Media.{is_xml}
-use Rattle.api_desk.specs.Request.{caller_of}
-use Rattle.api_desk.specs.declared.faults.RequestFault.{RequestFault}
-use Rattle.api_desk.specs.declared.faults.RequestFault.TheVariants.{Memory, Refused}
+use Rattle.desk_parts.specs.Media.{is_xml}
+use Rattle.desk_parts.specs.Callers.{caller_of}
+use Rattle.desk_parts.specs.declared.faults.RequestFault.{RequestFault}
+use Rattle.desk_parts.specs.declared.faults.RequestFault.TheVariants.{Memory, Refused}
 use Rattle.mirror_desk.specs.Gives.{GivesAsked, GivesAsk}
 use Rattle.mirror_desk.specs.Request.{Ask, line_of, asked_by, asked, ask_in}
 use Rattle.mirror_desk.specs.declared.lines.Line.{Line}

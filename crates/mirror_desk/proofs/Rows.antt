@@ -17,8 +17,8 @@ use Rattle.journal_follower.specs.declared.answers.Taken.{Taken}
 use Rattle.journal_follower.specs.declared.answers.Taken.TheVariants.{Folded, Old, Differs, Gap, Illegal}
 use Rattle.api_desk.specs.Feed.{says}
 use Rattle.api_desk.specs.Gives.{TellsFault}
-use Rattle.api_desk.specs.declared.faults.RequestFault.{RequestFault}
-use Rattle.api_desk.specs.declared.faults.RequestFault.TheVariants as fault
+use Rattle.desk_parts.specs.declared.faults.RequestFault.{RequestFault}
+use Rattle.desk_parts.specs.declared.faults.RequestFault.TheVariants as fault
 use Rattle.mirror_desk.specs.Answers.{Told, as_server, not_piece, took, reply_of, Tells, IsRow, HasOneMore, MirrorAnswers, AnswersAsk}
 use Rattle.mirror_desk.specs.Gives.{GivesAsk}
 use Rattle.mirror_desk.specs.Request.{Ask, refuses, forbids, reads, states, takes, request_of}

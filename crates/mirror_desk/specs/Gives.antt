@@ -1,8 +1,8 @@
 -- A reading of a message gives what the definitions say, unless memory ran out.
 use Rattle.std.specs.Prelude.{◌≡◌, ℕ, List, Result, Ok, Err, ⊤}
 use Rattle.osm_change.specs.declared.refusals.Refusal.{Refusal}
-use Rattle.api_desk.specs.declared.faults.RequestFault.{RequestFault}
-use Rattle.api_desk.specs.declared.faults.RequestFault.TheVariants as fault
+use Rattle.desk_parts.specs.declared.faults.RequestFault.{RequestFault}
+use Rattle.desk_parts.specs.declared.faults.RequestFault.TheVariants as fault
 use Rattle.mirror_desk.specs.Request.{Ask, refuses, forbids, reads, states, takes}
 use Rattle.mirror_desk.specs.declared.requests.Request.{Request}
 use Rattle.mirror_desk.specs.declared.requests.Request.TheVariants.{Forbidden, Read, State, Piece}

@@ -11,8 +11,9 @@ use Rattle.osm_model.specs.declared.queries.Query.{Query}
 use Rattle.http_wire.specs.declared.message.Message.{Message}
 use Rattle.route_table.specs.Targets.{question_mark}
 use Rattle.user_table.specs.Users.{Users}
-use Rattle.api_desk.specs.Media.{is_xml}
-use Rattle.api_desk.specs.Request.{call_in, caller_of, known_user, known_moderator, is_moderator}
+use Rattle.desk_parts.specs.Media.{is_xml}
+use Rattle.desk_parts.specs.Callers.{caller_of}
+use Rattle.api_desk.specs.Request.{call_in, known_user, known_moderator, is_moderator}
 use Rattle.api_desk.specs.Tasks.{task_of}
 use Rattle.api_desk.specs.declared.feed.FeedCall.{FeedCall}
 use Rattle.api_desk.specs.declared.feed.FeedCall.TheVariants as feed

@@ -1,13 +1,13 @@
 //! What a request line calls.
 ghost use Rattle.std.specs.Prelude.{◌≡◌, IfErr};
-ghost use Rattle.api_desk.specs.Gives.{Gives, HasShownFault};
-ghost use Rattle.mirror_desk.specs.Request.{before_query, posted, line_of};
+ghost use Rattle.desk_parts.specs.Faults.{HasShownFault};
+ghost use Rattle.api_desk.specs.Gives.{Gives};
+ghost use Rattle.mirror_desk.specs.Request.{posted, line_of};
 
-use api_desk::RequestFault;
+use desk_parts::RequestFault;
 use http_wire::Message;
-use osm_base::split_once;
 use osm_change::Refusal;
-use route_table::{Call, Routes};
+use route_table::{Call, Routes, before_query};
 use std::alloc::Global;
 
 /// The path of the call that takes a piece.
@@ -20,16 +20,6 @@ pub enum Line {
     Piece,
     /// A call that the server has.
     Served(Call),
-}
-
-/// The target up to its first question mark.
-fn before_query(target: &[u8]) -> &[u8]
-    ensures { result.now ≡ before_query target.now }
-{
-    match split_once(target, b'?') {
-        Some((path, _)) => path,
-        None => target,
-    }
 }
 
 /// The call that takes a piece has one method. Methods are compared exactly.

@@ -1,14 +1,12 @@
 //! What a message asks of a mirror.
 ghost use Rattle.std.specs.Prelude.{ℕ, List, option_copied, IfErr};
-ghost use Rattle.api_desk.specs.Gives.{HasShownFault};
+ghost use Rattle.desk_parts.specs.Faults.{HasShownFault};
 ghost use Rattle.mirror_desk.specs.Request.{forbidden_to, followed, asked_by_task, piece_from, asked_by, request_of};
 ghost use Rattle.mirror_desk.specs.Gives.{GivesAsked, GivesAsk};
 
 use crate::lines::{Line, line_of};
-use api_desk::{
-    FeedCall, RequestFault, Task, caller_of, is_moderator, is_xml, known_moderator, known_user,
-    task_of,
-};
+use api_desk::{FeedCall, Task, is_moderator, known_moderator, known_user, task_of};
+use desk_parts::{RequestFault, caller_of, is_xml};
 use http_wire::Message;
 use osm_base::User;
 use osm_change::Refusal;

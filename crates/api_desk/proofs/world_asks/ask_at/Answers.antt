@@ -1,6 +1,11 @@
+use Rattle.osm_model.specs.Past.{full_at}
 use Rattle.osm_model.specs.Reads.{ways_of, relations_of}
 use Rattle.osm_world.specs.World.{state_of}
 use Rattle.api_desk.proofs.world_asks.ask_at.Goals as goal
+
+pub returns-in-FullAt : goal.returns-in-FullAt
+returns-in-FullAt g c =
+    rw c.in-FullAt.is (c.read_answer-in-FullAt.ensures (full_at (state_of c.args.world.now) c.in-FullAt.key c.in-FullAt.then) c.full_at.ensures)
 
 pub returns-in-WaysOf : goal.returns-in-WaysOf
 returns-in-WaysOf g c =
