@@ -1,0 +1,5 @@
+pub mod Sound
+pub mod Serving
+pub mod Joined
+pub mod Closing
+pub mod Working

@@ -1,0 +1,3 @@
+pub mod Link
+pub mod Desks
+pub mod Ports
