@@ -1,0 +1,113 @@
+-- What was written of a body, one part after another.
+use Rattle.std.proofs.Common.{◌≡◌, ℕ, ◌<◌, ◌+◌, ◌≤◌, length, take, get_or, List, [], ◌∷◌, ◌++◌, Some, None, Ok, map, flat_map, refl, sym, ap, ◌∙◌, append_assoc}
+use Rattle.std.proofs.lemmas.List.{append-nil, take_all, take_more, flat_map_more}
+use Rattle.std.proofs.lemmas.Grind.{flat_map-append}
+use Rattle.std.specs.declared.alloc.AllocError.{AllocError}
+use Rattle.json.specs.Print.{print}
+use Rattle.json.specs.Token.{Token, begin_object, end_object, begin_array, end_array}
+use Rattle.json.specs.Tree.{members_tokens, items_tokens}
+use Rattle.json.specs.Written.{Written, Writes}
+use Rattle.serde_json.specs.Data.{Data}
+use Rattle.serde_json.specs.View.{items_of}
+use Rattle.serde_json.specs.Written.{members_outline, items_outline, compact_text}
+use Rattle.serde_json.proofs.Texts.{print-outline}
+use Rattle.osm_json.specs.Sent.{tokens_of, field_tokens, Appends, AppendsFields}
+use Rattle.osm_json.specs.Shown.{Field, field, members_of, record_of, list_of, version_field, document}
+
+fields_of : (fields : List Field) → members_tokens (members_outline (members_of fields)) ≡ flat_map field_tokens fields ++ end_object ∷ []
+unfolding tokens_of field_tokens
+fields_of [] = refl
+fields_of (None ∷ more) = fields_of more
+fields_of (Some m ∷ more) =
+    ap (λ ts. Token.key m.0 ∷ (tokens_of m.1 ++ ts)) (fields_of more) ∙ ap (λ ts. Token.key m.0 ∷ ts) (sym (append_assoc (tokens_of m.1) (flat_map field_tokens more) (end_object ∷ [])))
+
+record_tokens : (fields : List Field) → tokens_of (record_of fields) ≡ begin_object ∷ (flat_map field_tokens fields ++ end_object ∷ [])
+unfolding tokens_of record_of
+record_tokens fields = ap (λ ts. begin_object ∷ ts) (fields_of fields)
+
+items_are : {A : Type 0} (shown : A → Data) (xs : List A) → items_tokens (items_outline (items_of (map shown xs))) ≡ flat_map (λ x. tokens_of (shown x)) xs ++ end_array ∷ []
+unfolding tokens_of
+items_are shown [] = refl
+items_are shown (x ∷ xs) = ap (λ ts. tokens_of (shown x) ++ ts) (items_are shown xs) ∙ sym (append_assoc (tokens_of (shown x)) _ (end_array ∷ []))
+
+list_tokens : {A : Type 0} (shown : A → Data) (xs : List A) → tokens_of (list_of shown xs) ≡ begin_array ∷ (flat_map (λ x. tokens_of (shown x)) xs ++ end_array ∷ [])
+unfolding tokens_of list_of
+list_tokens shown xs = ap (λ ts. begin_array ∷ ts) (items_are shown xs)
+
+-- ---- one write after another
+
+-- the writer's own clause
+pub sent : {a b : Written} {t : Token} → Writes {E = AllocError} (Ok tt) a b t → Appends a b (t ∷ [])
+sent w = record { before = w.room.0; tokens = w.ok }
+
+infixr 10 ◌⨾◌
+pub ◌⨾◌ : {a b c : Written} {ts us : List Token} → Appends a b ts → Appends b c us → Appends a c (ts ++ us)
+◌⨾◌ {a} {b} {c} {ts} {us} p q = record { before = q.before ∙ p.before; tokens = q.tokens ∙ ap (λ w. w ++ us) p.tokens ∙ append_assoc a.tokens ts us }
+
+infixr 10 ◌⊕◌
+pub ◌⊕◌ : {a b c : Written} {fs gs : List Field} → AppendsFields a b fs → AppendsFields b c gs → AppendsFields a c (fs ++ gs)
+◌⊕◌ {a} {b} {c} {fs} {gs} p q = record {
+  before = q.before ∙ p.before;
+  tokens =
+      q.tokens ∙ ap (λ w. w ++ flat_map field_tokens gs) p.tokens ∙ append_assoc a.tokens (flat_map field_tokens fs) (flat_map field_tokens gs)
+      ∙ ap (λ ts. a.tokens ++ ts) (sym (flat_map-append field_tokens fs gs));
+}
+
+-- ---- lists
+
+pub nothing_sent : {a : Written} → Appends a a []
+nothing_sent {a} = record { before = refl; tokens = sym (append-nil a.tokens) }
+
+-- what a loop over a list has sent at its end
+pub whole : {A : Type 0} {a b : Written} (f : A → List Token) (xs : List A) (i : ℕ) → length xs ≤ i → Appends a b (flat_map f (take i xs)) → Appends a b (flat_map f xs)
+whole f xs i le p = rw (take_all i xs le) at p
+
+-- a loop has sent one item more
+pub one_more : {A : Type 0} {a b c : Written} (f : A → List Token) (xs : List A) (i : ℕ) (d : A) → i < length xs → Appends a b (flat_map f (take i xs)) → Appends b c (f (get_or xs i d)) → Appends a c (flat_map f (take (i + 1) xs))
+one_more {A} {a} {b} {c} f xs i d lt p q =
+    let more : flat_map f (take (i + 1) xs) ≡ flat_map f (take i xs) ++ f (get_or xs i d) = ap (flat_map f) (take_more xs i d lt) ∙ sym (flat_map_more f [] (take i xs) (get_or xs i d)) in
+    rw more (p ⨾ q)
+
+-- the one list behind the other
+pub both_sent : {A : Type 0} {a b c : Written} (f : A → List Token) (xs ys : List A) → Appends a b (flat_map f xs) → Appends b c (flat_map f ys) → Appends a c (flat_map f (xs ++ ys))
+both_sent f xs ys p q = rw (flat_map-append f xs ys) (p ⨾ q)
+
+-- the list of one item
+pub single_sent : {A : Type 0} {a b : Written} (f : A → List Token) (x : A) → Appends a b (f x) → Appends a b (flat_map f (x ∷ []))
+single_sent {A} {a} {b} f x p = record { before = p.before; tokens = p.tokens ∙ ap (λ ts. a.tokens ++ ts) (sym (append-nil (f x))) }
+
+-- lists of lists
+pub flat_twice : {A B : Type 0} (f : B → List Token) (g : A → List B) (xs : List A) → flat_map (λ x. flat_map f (g x)) xs ≡ flat_map f (flat_map g xs)
+flat_twice f g [] = refl
+flat_twice f g (x ∷ xs) = ap (λ ts. flat_map f (g x) ++ ts) (flat_twice f g xs) ∙ sym (flat_map-append f (g x) (flat_map g xs))
+
+-- ---- objects and arrays
+
+-- an object, from its members
+pub record_sent : {a b c d : Written} {fs : List Field} → Appends a b (begin_object ∷ []) → AppendsFields b c fs → Appends c d (end_object ∷ []) → Appends a d (tokens_of (record_of fs))
+record_sent {a} {b} {c} {d} {fs} begin fields end =
+    let inner : Appends b c (flat_map field_tokens fs) = record { before = fields.before; tokens = fields.tokens } in
+    rw record_tokens (begin ⨾ inner ⨾ end)
+
+-- an array, from its items
+pub list_sent : {A : Type 0} {a b c d : Written} (shown : A → Data) (xs : List A) → Appends a b (begin_array ∷ []) → Appends b c (flat_map (λ x. tokens_of (shown x)) xs) → Appends c d (end_array ∷ [])
+    → Appends a d (tokens_of (list_of shown xs))
+list_sent shown xs begin items end = rw list_tokens (begin ⨾ items ⨾ end)
+
+-- a member, from its name and its value
+pub member_sent : {a b c : Written} (name : List ℕ) (d : Data) → Appends a b (Token.key name ∷ []) → Appends b c (tokens_of d) → AppendsFields a c (field name d ∷ [])
+unfolding field_tokens
+member_sent {a} {b} {c} name d key value =
+    let both : Appends a c (Token.key name ∷ tokens_of d) = key ⨾ value in
+    record { before = both.before; tokens = both.tokens ∙ ap (λ ts. a.tokens ++ ts) (sym (append-nil (Token.key name ∷ tokens_of d))) }
+
+-- a document, from its part
+pub document_sent : {a b c d e f : Written} (name : List ℕ) (part : Data) → Appends a b (begin_object ∷ []) → Appends b c (Token.key name ∷ []) → Appends c d (tokens_of part) → AppendsFields d e (version_field ∷ []) → Appends e f (end_object ∷ []) → Appends a f (tokens_of (document name part))
+unfolding document
+document_sent name part begin key value version end = record_sent begin (member_sent name part key value ⊕ version) end
+
+-- ---- the text
+
+pub text_behind : (before w : Written) (d : Data) → before.tokens ≡ [] → Appends before w (tokens_of d) → w.before ++ print w.tokens ≡ before.before ++ compact_text d
+unfolding tokens_of
+text_behind before w d empty p = rw (p.before, p.tokens, empty) (ap (λ text. before.before ++ text) (print-outline d))

@@ -1,0 +1,12 @@
+use Rattle.notes_core.specs.Act.{open_note}
+use Rattle.notes_core.specs.World.{state_of}
+use Rattle.notes_core.proofs.Judged.{judged_by}
+use Rattle.notes_core.proofs.worlds.NotesWorld.judge.Goals as goal
+
+pub returns-in-Comment-clause-value : goal.returns-in-Comment-clause-value
+returns-in-Comment-clause-value c = λ caller t.
+    rw c.in-Comment.is (judged_by c.is_open.result (open_note (state_of c.args.self.now) c.in-Comment.id) _ c.is_open.ensures.value)
+
+pub returns-in-CloseNote-clause-value : goal.returns-in-CloseNote-clause-value
+returns-in-CloseNote-clause-value c = λ caller t.
+    rw c.in-CloseNote.is (judged_by c.is_open-in-CloseNote.result (open_note (state_of c.args.self.now) c.in-CloseNote.id) _ c.is_open-in-CloseNote.ensures.value)

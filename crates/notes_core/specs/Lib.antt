@@ -1,0 +1,9 @@
+pub mod Act
+pub mod Search
+pub mod Plan
+pub mod World
+pub mod Sent
+pub mod Near
+pub mod Shown
+pub mod Machine
+pub mod Laws
