@@ -1,0 +1,4 @@
+pub mod Positions
+pub mod Read
+pub mod Rows
+pub mod Told

@@ -1,0 +1,4 @@
+pub mod Routes
+pub mod Bodies
+pub mod Request
+pub mod Desk
