@@ -29,63 +29,11 @@ PointsConsistent = (entries : List Entry) → IsLegal entries → (point : ℕ) 
 
 -- ---- one session
 
--- what a closer says of a session that it ends
-abbrev pub ToldEnd : List Entry → Known Entry → Known Entry → End → Type 0
-ToldEnd journal old new ended =
-    MatchEnd ended ((new ≡ seeing old journal) × IsPrefix old.front journal)
-    (λ seen entries. (new ≡ old) × (seen ≡ length old.front) × (entries ≡ length journal) × (entries < seen))
-
-abbrev pub ToldCalls : List Entry → Known Entry → End → Type 0
-ToldCalls journal old ended = MatchEnd ended (old.calls ≤ calls_of old.number journal + owed old.owes) (λ seen entries. Unit {0})
-
-matched_as : (journal : List Entry) (old new : Known Entry) → new ≡ seeing old journal → IsPrefix old.front journal
-    → old.calls ≤ calls_of old.number journal + owed old.owes → EndsAs journal old new Matched
-matched_as journal old new is begins calls = subst (λ (k : Known Entry). EndsAs journal old k Matched) (sym is) (record {
-  seen = refl;
-  begins = begins;
-  ends = (refl, calls);
-  stays = tt;
-})
-
-unmatched_as : (journal : List Entry) (old new : Known Entry) (seen entries : ℕ) → new ≡ old
-    → seen ≡ length old.front → entries ≡ length journal → entries < seen → EndsAs journal old new (Unmatched seen entries)
-unmatched_as journal old new seen entries is seen_is entries_is longer = subst (λ (k : Known Entry). EndsAs journal old k (Unmatched seen entries)) (sym is) (record {
-  seen = refl;
-  begins = ([], append-nil old.front);
-  ends = (seen_is, entries_is, longer);
-  stays = refl;
-})
-
-pub ends_as : (journal : List Entry) (old new : Known Entry) (ended : End) → ToldEnd journal old new ended → ToldCalls journal old ended → EndsAs journal old new ended
-ends_as journal old new Matched told calls = matched_as journal old new told.0 told.1 calls
-ends_as journal old new (Unmatched seen entries) told calls = unmatched_as journal old new seen entries told.0 told.1 told.2 told.3
-
 -- what a session has seen at last is sound, where what it had seen before is, and the journal
 pub sound_at_last : (journal : List Entry) (old new : Known Entry) (ended : End) → EndsAs journal old new ended
     → IsSound journal → IsSound old.front → IsSound new.front
 sound_at_last journal old new Matched ends sound before = subst (λ (es : List Entry). IsSound es) (sym ends.ends.0) sound
 sound_at_last journal old new (Unmatched seen entries) ends sound before = subst (λ (k : Known Entry). IsSound k.front) (sym ends.stays) before
-
--- ---- sessions in turn
-
--- one session more in front
-pub end_first : (journal : List Entry) (old new : Known Entry) (ended : End) (olds news : List (Known Entry)) (ends : List End)
-    → EndsAs journal old new ended → EndEach journal olds news ends → EndEach journal (old ∷ olds) (new ∷ news) (ended ∷ ends)
-end_first journal old new ended olds news ends h rest = (h, rest)
-
--- the next session of those that are left
-pub end_step : (journal : List Entry) (all left popped : List (Known Entry)) (session new : Known Entry) (ended : End) → left ≡ popped ++ session ∷ []
-    → ((news : List (Known Entry)) (ends : List End) → EndEach journal (reverse left) news ends → HaveEnded journal all)
-    → EndsAs journal session new ended
-    → (news : List (Known Entry)) (ends : List End) → EndEach journal (reverse popped) news ends → HaveEnded journal all
-end_step journal all left popped session new ended is goes h news ends rest =
-    let turned : reverse left ≡ session ∷ reverse popped = ap (λ (l : List (Known Entry)). reverse l) is ∙ reverse-append popped (session ∷ []) in
-    goes (new ∷ news) (ended ∷ ends)
-    (subst (λ (l : List (Known Entry)). EndEach journal l (new ∷ news) (ended ∷ ends)) (sym turned) (end_first journal session new ended (reverse popped) news ends h rest))
-
-pub all_ended : (journal : List Entry) (all left : List (Known Entry)) → left ≡ []
-    → ((news : List (Known Entry)) (ends : List End) → EndEach journal (reverse left) news ends → HaveEnded journal all) → HaveEnded journal all
-all_ended journal all left empty goes = goes [] [] (subst (λ (l : List (Known Entry)). EndEach journal (reverse l) [] []) (sym empty) tt)
 
 -- a list of one session
 pub end_of_one : (journal : List Entry) (old : Known Entry) (news : List (Known Entry)) (ends : List End)

@@ -1,6 +1,7 @@
 pub mod Serving
 pub mod Joined
 pub mod Closing
+pub mod Maps
 pub mod Working
 pub mod Measuring
 pub mod SentLemmas

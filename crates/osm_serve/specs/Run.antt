@@ -5,7 +5,8 @@ use Rattle.osm_outside.specs.Host.{HostTold}
 use Rattle.server_frame.specs.Standard.{RunsStandard, IsUnserved}
 use Rattle.server_frame.specs.Listening.{RunsListening}
 use Rattle.osm_words.specs.declared.words.LoadOptions.{LoadOptions}
-use Rattle.osm_words.specs.Words.{Reading, pipe, serve, measure, export, replay}
+use Rattle.osm_words.specs.Words.{Reading, pipe, serve, measure, export, replay, notes, serve_notes}
+use Rattle.notes_serve.specs.Run.{RunsNotes, RunsServeNotes}
 use Rattle.osm_serve.specs.Serve.{ServesPipe}
 use Rattle.osm_serve.specs.ServeAll.{ServesPorts}
 use Rattle.osm_serve.specs.Measure.{AreLines}
@@ -44,6 +45,8 @@ ComesTo (Some (serve users address workers)) = RunsServe users address workers
 ComesTo (Some (measure load)) = RunsMeasure load
 ComesTo (Some (export load)) = RunsExport load
 ComesTo (Some replay) = RunsReplay
+ComesTo (Some (notes users at)) = RunsNotes users at
+ComesTo (Some (serve_notes users address workers)) = RunsServeNotes users address workers
 
 -- the same, or there was no memory for reading the words
 abbrev pub Runs : Option Reading → HostTold → HostTold → Told → Told → ℕ → Type 0

@@ -1,5 +1,5 @@
--- What serving one link by a session of a hub does: the headline for one connection; and what serving a link by a new hub does.
-use Rattle.std.specs.Prelude.{◌≡◌, ℕ, ◌+◌, ◌<◌, ◌≤◌, ◌⊎◌, true, List, [], length}
+-- What serving one link by a session of a hub of the map does: the headline for one connection; and what serving a link by a new hub does.
+use Rattle.std.specs.Prelude.{◌≡◌, ℕ, ◌+◌, ◌<◌, ◌≤◌, ◌⊎◌, true, List, length}
 use Rattle.osm_outside.specs.Told.{Told}
 use Rattle.osm_model.specs.declared.commands.Entry.{Entry}
 use Rattle.osm_model.specs.Journal.{IsLegal, calls_of, is_legal_from}
@@ -7,21 +7,14 @@ use Rattle.osm_model.specs.State.{empty}
 use Rattle.osm_element.specs.Elements.{IsConsistent}
 use Rattle.osm_model.specs.Answered.{map_at}
 use Rattle.http_link.specs.declared.end.LinkEnd.{LinkEnd}
-use Rattle.http_link.specs.declared.end.LinkEnd.TheVariants.{Memory}
 use Rattle.http_link.specs.Exchange.{Exchange}
 use Rattle.user_table.specs.Users.{Users}
 use Rattle.snapshot_hub.specs.Known.{Known, newcomer, owed}
 use Rattle.snapshot_hub.specs.Ends.{MatchEnd}
 use Rattle.snapshot_hub.specs.declared.ends.End.{End}
-use Rattle.api_desk.specs.HubDesk.{AtDesk, IsFresh, HasServed}
 use Rattle.server_frame.specs.OnLink.{OnLink}
-
--- There was no memory to freshen the session, and the link was left alone.
-pub record LacksStart (old start : Known Entry) (before after : Told) (exchanges : List Exchange) (end : LinkEnd) : Type 0 where
-  pub stays : start ≡ old
-  pub nothing : exchanges ≡ []
-  pub untouched : after ≡ before
-  pub ended : end ≡ Memory
+use Rattle.desk_serve.specs.Link.{LacksStart}
+use Rattle.api_desk.specs.HubDesk.{AtDesk, IsFresh, HasServed}
 
 -- A list of entries replays as one thread's, and after every entry visible ways and relations refer only to visible elements.
 pub record IsSound (entries : List Entry) : Type 0 where

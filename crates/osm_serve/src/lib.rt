@@ -3,7 +3,6 @@
 //! its journal.
 #![tactic(auto)]
 
-mod close;
 mod export;
 mod link;
 mod measure;

@@ -1,11 +1,11 @@
-//! Serving one link by one session of a hub.
+//! Serving one link by one session of a hub of the map.
 ghost use Rattle.osm_serve.specs.Serve.{ServesLink};
 
-use api_desk::{HubDesk, exchanges_chain};
+use api_desk::{HubDesk, MapMachine};
 use http_link::LinkEnd;
 use osm_outside::{Gate, Link, Outside};
-use server_frame::{answer_link, link_left_alone};
 use shared_front::HubName;
+use snapshot_hub::Shown;
 use std::alloc::Global;
 use std::sync::Wait;
 
@@ -19,18 +19,7 @@ pub fn serve_link<N: HubName, G: Gate + Drop, R: Wait + Drop, W: Wait, L: Link>(
 ) -> LinkEnd
     ensures { ServesLink desk.old desk.new (L.told link.old) (L.told link.new) result }
 {
-    // What the desk's relation over a whole link comes to, and what a link that is left alone is.
-    exchanges_chain();
-    link_left_alone();
-    match desk.freshen() {
-        Ok(()) => {
-            let end = answer_link(alloc, desk, link);
-            desk.law();
-            end
-        }
-        Err(_) => {
-            desk.law();
-            LinkEnd::Memory
-        }
-    }
+    desk_serve::serve_link::<N, MapMachine, Shown<N, MapMachine>, HubDesk<'_, N, G, R, W>, L>(
+        alloc, desk, link,
+    )
 }

@@ -5,9 +5,9 @@ ghost use Rattle.snapshot_hub.specs.Known.{Known};
 ghost use Rattle.osm_serve.specs.Serve.{ServesLink, ServesPipe};
 ghost use Rattle.osm_serve.specs.ServeAll.{at_desk};
 
-use crate::close::close_hub;
 use crate::link::serve_link;
 use api_desk::{HubDesk, MapHub, MapSession, served_stay};
+use desk_serve::close_hub;
 use http_link::LinkEnd;
 use osm_base::Memory;
 use osm_model::{Entry, points_are_consistent};

@@ -9,6 +9,7 @@ use crate::replay::replay;
 use crate::serve::{MapServer, run_serve};
 use api_desk::MapMachine;
 use hub_core::Book;
+use notes_serve::{NotesServer, run_serve_notes};
 use osm_outside::{Host, Link, Outside};
 use osm_words::{Words, WordsFault, read_words};
 use server_frame::{Listening, run_standard};
@@ -48,6 +49,20 @@ fn run_words_over<H: Host, R: Threads + Wait + Sync, L: Link>(
         Words::Measure(load) => measure(alloc, book, load, standard),
         Words::Export(load) => export(alloc, book, load, standard),
         Words::Replay => replay(alloc, standard),
+        Words::Notes { users, at } => {
+            run_standard::<NotesServer, H, R, L>(rt, alloc, users, at, host, standard)
+        }
+        Words::ServeNotes {
+            users,
+            listen,
+            workers,
+        } => {
+            let listening = Listening {
+                address: listen,
+                workers,
+            };
+            run_serve_notes(rt, alloc, users, listening, host, standard)
+        }
     }
 }
 

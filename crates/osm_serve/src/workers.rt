@@ -5,9 +5,9 @@ ghost use Rattle.link_workers.specs.Workers.{AllWork};
 ghost use Rattle.osm_serve.specs.Serve.{ServesLink};
 ghost use Rattle.osm_serve.specs.ServeAll.{at_desk, HaveServed, ServesPorts};
 
-use crate::close::close_hub;
 use crate::link::serve_link;
 use api_desk::{HubDesk, MapHub, MapSession, links_chain, served_stay};
+use desk_serve::close_hub;
 use http_link::LinkEnd;
 use link_workers::{Service, Worker, any_failed, seat_all, serve_all, unseat_all};
 use osm_base::Memory;

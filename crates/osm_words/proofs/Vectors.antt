@@ -2,7 +2,7 @@
 use Rattle.std.proofs.Common.{◌≡◌, ℕ, [], ◌∷◌, Some, None, codes, refl}
 use Rattle.clap.proofs.OnLiterals.{clap_on_literals}
 use Rattle.osm_words.specs.declared.words.LoadOptions.{LoadOptions}
-use Rattle.osm_words.specs.Words.{reading_of, pipe, serve, measure, export, replay, mirror_reading_of, standard, listens}
+use Rattle.osm_words.specs.Words.{reading_of, pipe, serve, measure, export, replay, notes, serve_notes, mirror_reading_of, standard, listens}
 
 abbrev load : ℕ → ℕ → ℕ → LoadOptions
 load seed sessions uploads = record { seed = seed; sessions = sessions; uploads = uploads }
@@ -167,3 +167,11 @@ mirror_with_an_end_mark = refl
 mirror_of_no_words : mirror_reading_of [] ≡ None
 unfolding clap_on_literals
 mirror_of_no_words = refl
+
+of_notes_by_the_clock : reading_of (codes "osm" ∷ codes "notes" ∷ codes "--users=u" ∷ []) ≡ Some (notes (codes "u") None)
+unfolding clap_on_literals
+of_notes_by_the_clock = refl
+
+of_notes_at_an_address : reading_of (codes "osm" ∷ codes "serve-notes" ∷ codes "--users=u" ∷ codes "--listen=a" ∷ codes "--workers=2" ∷ []) ≡ Some (serve_notes (codes "u") (codes "a") 2)
+unfolding clap_on_literals
+of_notes_at_an_address = refl

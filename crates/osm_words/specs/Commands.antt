@@ -11,15 +11,15 @@ option name is_needed = record (new_rule name) { long = Some name; required = is
 abbrev pub plain : Text → App
 plain name = on_top (λ s. record s { disable_help_flag = true; disable_version_flag = true }) (new_app name)
 
--- `pipe --users FILE [--at SECONDS]`
-abbrev pub pipe_app : App
-pipe_app = with_rule (with_rule (plain (codes "pipe")) (option (codes "users") true)) (option (codes "at") false)
+-- `NAME --users FILE [--at SECONDS]`
+abbrev pub pipe_app : Text → App
+pipe_app name = with_rule (with_rule (plain name) (option (codes "users") true)) (option (codes "at") false)
 
--- `serve --users FILE --listen ADDRESS --workers N`
-abbrev pub serve_app : App
-serve_app =
+-- `NAME --users FILE --listen ADDRESS --workers N`
+abbrev pub serve_app : Text → App
+serve_app name =
     with_rule
-    (with_rule (with_rule (plain (codes "serve")) (option (codes "users") true)) (option (codes "listen") true))
+    (with_rule (with_rule (plain name) (option (codes "users") true)) (option (codes "listen") true))
     (option (codes "workers") true)
 
 -- `NAME --seed N --sessions N --uploads N`

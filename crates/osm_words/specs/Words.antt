@@ -8,7 +8,7 @@ use Rattle.osm_base.specs.declared.limits.TheConstants.{SESSION_LIMIT}
 use Rattle.osm_words.specs.declared.words.TheConstants.{UPLOAD_LIMIT}
 use Rattle.osm_words.specs.declared.words.LoadOptions.{LoadOptions}
 use Rattle.osm_words.specs.declared.words.Words.{Words}
-use Rattle.osm_words.specs.declared.words.Words.TheVariants.{Pipe, Serve, Measure, Export, Replay}
+use Rattle.osm_words.specs.declared.words.Words.TheVariants.{Pipe, Serve, Measure, Export, Replay, Notes, ServeNotes}
 use Rattle.osm_words.specs.declared.words.MirrorWords.{MirrorWords}
 use Rattle.osm_words.specs.declared.words.MirrorWords.TheVariants.{Standard, Listen}
 use Rattle.osm_words.specs.declared.words.WordsFault.{WordsFault}
@@ -26,6 +26,9 @@ pub data Reading : Type 0 where
   measure : LoadOptions → Reading
   export : LoadOptions → Reading
   replay : Reading
+  -- as `pipe` and as `serve`, for the server of notes
+  notes : Text → Option ℕ → Reading
+  serve_notes : Text → Text → ℕ → Reading
 
 -- what was read, without where it lies in memory
 abbrev pub shown : Words → Reading
@@ -34,6 +37,8 @@ shown (Serve users listen workers) = serve users.now listen.now workers
 shown (Measure load) = measure load
 shown (Export load) = export load
 shown Replay = replay
+shown (Notes users at) = notes users.now at
+shown (ServeNotes users listen workers) = serve_notes users.now listen.now workers
 
 -- ---- the options in what `clap` found
 
@@ -64,11 +69,17 @@ load_of rows =
 -- ---- the words
 
 -- of a command's name with its options
-abbrev pub pipe_reading : List Text → Option Reading
-pipe_reading words = option_and_then pipe_of (found pipe_app words)
+abbrev pub pipe_reading : Text → List Text → Option Reading
+pipe_reading name words = option_and_then pipe_of (found (pipe_app name) words)
 
-abbrev pub serve_reading : List Text → Option Reading
-serve_reading words = option_and_then serve_of (found serve_app words)
+abbrev pub serve_reading : Text → List Text → Option Reading
+serve_reading name words = option_and_then serve_of (found (serve_app name) words)
+
+-- what serves the map, for notes
+abbrev pub of_notes : Reading → Reading
+of_notes (pipe users at) = notes users at
+of_notes (serve users listen workers) = serve_notes users listen workers
+of_notes other = other
 
 abbrev pub load_reading : Text → List Text → Option LoadOptions
 load_reading name words = option_and_then load_of (found (load_app name) words)
@@ -79,12 +90,14 @@ replay_reading words = option_map (λ _. replay) (found (plain (codes "replay"))
 -- of the command of that name
 abbrev pub command_reading : Text → List Text → Option Reading
 command_reading name words =
-    if bytes_eq name (codes "pipe") then pipe_reading words
-    else (if bytes_eq name (codes "serve") then serve_reading words
+    if bytes_eq name (codes "pipe") then pipe_reading (codes "pipe") words
+    else (if bytes_eq name (codes "serve") then serve_reading (codes "serve") words
     else (if bytes_eq name (codes "measure") then option_map measure (load_reading (codes "measure") words)
     else (if bytes_eq name (codes "export") then option_map export (load_reading (codes "export") words)
     else (if bytes_eq name (codes "replay") then replay_reading words
-    else None))))
+    else (if bytes_eq name (codes "notes") then option_map of_notes (pipe_reading (codes "notes") words)
+    else (if bytes_eq name (codes "serve-notes") then option_map of_notes (serve_reading (codes "serve-notes") words)
+    else None))))))
 
 -- behind the program's name
 abbrev pub named_reading : List Text → Option Reading
@@ -162,6 +175,7 @@ pub record HasWorkers (workers : ℕ) : Type 0 where
 -- the same of the load or the workers that are asked for, where they are
 abbrev pub HaveSessions : Words → Type 0
 HaveSessions (Serve users listen workers) = HasWorkers workers
+HaveSessions (ServeNotes users listen workers) = HasWorkers workers
 HaveSessions (Measure load) = HasSessions load
 HaveSessions (Export load) = HasSessions load
 HaveSessions other = ⊤

@@ -38,19 +38,19 @@ fn with_option<'a>(
     command.arg(option(alloc, name, is_needed))
 }
 
-/// `pipe --users FILE [--at SECONDS]`.
-pub fn pipe<'a>(alloc: Global) -> Result<Command<'a>, AllocError>
-    ensures { IfOk result (λ command. app_of command ≡ pipe_app) }
+/// `NAME --users FILE [--at SECONDS]`.
+pub fn pipe<'a>(alloc: Global, name: &'a str) -> Result<Command<'a>, AllocError>
+    ensures { IfOk result (λ command. app_of command ≡ pipe_app name.entry.now) }
 {
-    let needed = with_option(alloc, plain(alloc, "pipe"), "users", true)?;
+    let needed = with_option(alloc, plain(alloc, name), "users", true)?;
     with_option(alloc, needed, "at", false)
 }
 
-/// `serve --users FILE --listen ADDRESS --workers N`.
-pub fn serve<'a>(alloc: Global) -> Result<Command<'a>, AllocError>
-    ensures { IfOk result (λ command. app_of command ≡ serve_app) }
+/// `NAME --users FILE --listen ADDRESS --workers N`.
+pub fn serve<'a>(alloc: Global, name: &'a str) -> Result<Command<'a>, AllocError>
+    ensures { IfOk result (λ command. app_of command ≡ serve_app name.entry.now) }
 {
-    let named = with_option(alloc, plain(alloc, "serve"), "users", true)?;
+    let named = with_option(alloc, plain(alloc, name), "users", true)?;
     let placed = with_option(alloc, named, "listen", true)?;
     with_option(alloc, placed, "workers", true)
 }

@@ -1,25 +1,29 @@
 //! Reading the words.
 ghost use Rattle.std.specs.Prelude.{◌≡◌, IfOk, map, string_bytes};
-ghost use Rattle.osm_words.specs.Words.{Gives, GivesLoad, GivesMirror, HasSessions, HaveSessions, HaveWorkers, reading_of, mirror_reading_of, command_reading, pipe_reading, serve_reading, load_reading, replay_reading, has_end_mark};
+ghost use Rattle.osm_words.specs.Words.{Gives, GivesLoad, GivesMirror, HasSessions, HaveSessions, HaveWorkers, reading_of, mirror_reading_of, command_reading, of_notes, shown, pipe_reading, serve_reading, load_reading, replay_reading, has_end_mark};
 
 use crate::commands::{find, load, mirror, pipe, plain, serve};
 use crate::matches::{load_of, mirror_of, pipe_of, serve_of};
 use crate::words::{LoadOptions, MirrorWords, Words, WordsFault};
 use std::alloc::Global;
 
-fn read_pipe<'a>(alloc: Global, words: &'a [String]) -> Result<Words<'a>, WordsFault>
-    ensures gives { Gives (pipe_reading (map string_bytes words.entry.now)) result }
+fn read_pipe<'a>(alloc: Global, name: &'a str, words: &'a [String]) -> Result<Words<'a>, WordsFault>
+    ensures gives { Gives (pipe_reading name.entry.now (map string_bytes words.entry.now)) result }
     ensures sessions { IfOk result HaveSessions }
 {
-    let matches = find(pipe(alloc)?, words)?;
+    let matches = find(pipe(alloc, name)?, words)?;
     pipe_of(&matches).ok_or(WordsFault::NoReading)
 }
 
-fn read_serve<'a>(alloc: Global, words: &'a [String]) -> Result<Words<'a>, WordsFault>
-    ensures gives { Gives (serve_reading (map string_bytes words.entry.now)) result }
+fn read_serve<'a>(
+    alloc: Global,
+    name: &'a str,
+    words: &'a [String],
+) -> Result<Words<'a>, WordsFault>
+    ensures gives { Gives (serve_reading name.entry.now (map string_bytes words.entry.now)) result }
     ensures sessions { IfOk result HaveSessions }
 {
-    let matches = find(serve(alloc)?, words)?;
+    let matches = find(serve(alloc, name)?, words)?;
     serve_of(&matches).ok_or(WordsFault::NoReading)
 }
 
@@ -43,21 +47,45 @@ fn read_replay<'a>(alloc: Global, words: &'a [String]) -> Result<Words<'a>, Word
     Ok(Words::Replay)
 }
 
+/// The same of the server of notes, where it was read of that of the map.
+fn of_notes(words: Words<'_>) -> Words<'_>
+    ensures shown { shown result ≡ of_notes (shown words.entry) }
+    ensures sessions { HaveSessions words.entry → HaveSessions result }
+{
+    match words {
+        Words::Pipe { users, at } => Words::Notes { users, at },
+        Words::Serve {
+            users,
+            listen,
+            workers,
+        } => Words::ServeNotes {
+            users,
+            listen,
+            workers,
+        },
+        other => other,
+    }
+}
+
 /// The words from the command's name on.
 fn read_command<'a>(alloc: Global, name: &str, words: &'a [String]) -> Result<Words<'a>, WordsFault>
     ensures gives { Gives (command_reading name.now (map string_bytes words.entry.now)) result }
     ensures sessions { IfOk result HaveSessions }
 {
     if name == "pipe" {
-        read_pipe(alloc, words)
+        read_pipe(alloc, "pipe", words)
     } else if name == "serve" {
-        read_serve(alloc, words)
+        read_serve(alloc, "serve", words)
     } else if name == "measure" {
         Ok(Words::Measure(read_load(alloc, "measure", words)?))
     } else if name == "export" {
         Ok(Words::Export(read_load(alloc, "export", words)?))
     } else if name == "replay" {
         read_replay(alloc, words)
+    } else if name == "notes" {
+        Ok(of_notes(read_pipe(alloc, "notes", words)?))
+    } else if name == "serve-notes" {
+        Ok(of_notes(read_serve(alloc, "serve-notes", words)?))
     } else {
         Err(WordsFault::NoReading)
     }
@@ -75,7 +103,8 @@ fn has_end_mark(words: &[String]) -> bool
 ///
 /// `pipe` needs `users`, a path, and may have `at`. `serve` needs `users`, `listen`, an address, and
 /// `workers`, from 1 to 64. `measure` and `export` need `seed`, `sessions` from 1 to 64, and
-/// `uploads`, at most 909 for each session. `replay` has no options. A path or an address is any
+/// `uploads`, at most 909 for each session. `replay` has no options. `notes` and `serve-notes` are
+/// `pipe` and `serve` of the server of notes. A path or an address is any
 /// text that isn't empty and doesn't begin with `-`. Numbers are digits alone, below 2^64. All other
 /// words have no reading.
 pub fn read_words<'a>(alloc: Global, words: &'a [String]) -> Result<Words<'a>, WordsFault>

@@ -45,6 +45,17 @@ pub enum Words<'a> {
     Export(LoadOptions),
     /// To read a journal's text and tell of its map.
     Replay,
+    /// As `Pipe`, for the server of notes.
+    Notes {
+        users: &'a str,
+        at: Option<u64>,
+    },
+    /// As `Serve`, for the server of notes.
+    ServeNotes {
+        users: &'a str,
+        listen: &'a str,
+        workers: u32,
+    },
 }
 
 /// What a mirror is to do.

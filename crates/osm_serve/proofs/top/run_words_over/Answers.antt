@@ -26,3 +26,9 @@ returns-in-Replay g c = rw c.in-Replay.is (record { host_stays = refl; replays =
 
 pub returns-in-Serve : goal.returns-in-Serve
 returns-in-Serve g c = rw c.in-Serve.is c.run_serve.ensures
+
+pub returns-in-Notes : goal.returns-in-Notes
+returns-in-Notes g c = rw c.in-Notes.is c.run_standard-in-Notes.ensures
+
+pub returns-in-ServeNotes : goal.returns-in-ServeNotes
+returns-in-ServeNotes g c = rw c.in-ServeNotes.is c.run_serve_notes.ensures
