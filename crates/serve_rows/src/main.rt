@@ -1,11 +1,12 @@
-//! Rows of `serve` and of a mirror that listens: whole runs with workers on ports in memory, links that break off,
-//! and workers on a listener of the system.
+//! Rows of `serve`, of a mirror that listens and of `serve-notes`: whole runs with workers on ports in
+//! memory, links that break off, and workers on a listener of the system.
 #![tactic(auto)]
 
 mod crossing;
 mod gates;
 mod links;
 mod mirrors;
+mod notes;
 mod ports;
 mod replies;
 mod runs;
@@ -20,6 +21,7 @@ fn main(rt: HostRuntime) -> io::Result<ExitCode> {
     let mut tally = Tally::none();
     runs::play(&rt, rt.alloc(), &mut tally);
     mirrors::play(&rt, rt.alloc(), &mut tally);
+    notes::play(&rt, rt.alloc(), &mut tally);
     links::play(&rt, rt.alloc(), &mut tally);
     crossing::play(&rt, rt.alloc(), &mut tally);
     sockets::play(&rt, rt, &mut tally);

@@ -1,10 +1,9 @@
 //! Runs of a mirror with ports in memory.
-use crate::ports::port;
+use crate::ports::ports;
 use crate::replies::{reply, reply_of};
 use crate::runs::{Outcome, Program, listen};
 use crate::texts::USERS;
 use osm_base::Memory;
-use osm_outside::MemPort;
 use row_tally::Tally;
 use std::alloc::Global;
 use std::sync::Wait;
@@ -30,21 +29,6 @@ const FOLDED: &str = "\"taken\":\"folded\"";
 /// A change of the map, which a mirror refuses.
 const CHANGE: &str =
     "PUT /api/0.6/changeset/create HTTP/1.1\r\nAuthorization: Bearer alicetoken\r\n\r\n";
-
-/// Ports with so many links each, which all send these texts, and the last one's accepts that fail.
-fn ports(
-    alloc: Global,
-    links: &[usize],
-    sent: &[&str],
-    bad: &[u64],
-) -> Result<Vec<MemPort>, Memory> {
-    let mut all = Vec::new(alloc);
-    for (place, count) in links.iter().enumerate() {
-        let is_last = place + 1 == links.len();
-        all.push(port(alloc, *count, sent, if is_last { bad } else { &[] })?)?;
-    }
-    Ok(all)
-}
 
 /// Whether the run ended with that status, its ports came back with so many links served, each link
 /// got that reply last, and so many pieces were folded.

@@ -1,4 +1,4 @@
-//! Runs of the server and of a mirror with ports in memory.
+//! Runs of the servers and of a mirror with ports in memory.
 use crate::ports::port;
 use crate::replies::{Numbers, reply};
 use crate::texts::{CREATION, FIRST, READ, USERS};
@@ -16,6 +16,7 @@ use std::thread::Threads;
 pub enum Program {
     Server,
     Mirror,
+    Notes,
 }
 
 /// The words with which a program listens by so many workers.
@@ -24,6 +25,7 @@ fn words(alloc: Global, program: Program, workers: &str) -> Result<Vec<String>, 
     let first: &[&str] = match program {
         Program::Server => &["osm", "serve"],
         Program::Mirror => &["osm_mirror"],
+        Program::Notes => &["osm", "serve-notes"],
     };
     let options = [
         "--users",
@@ -75,7 +77,7 @@ pub fn listen<R: Threads + Wait + Sync>(
         1_000,
     )?;
     let status = match program {
-        Program::Server => run(rt, alloc, words, &mut host, &mut standard),
+        Program::Server | Program::Notes => run(rt, alloc, words, &mut host, &mut standard),
         Program::Mirror => mirror(rt, alloc, words, &mut host, &mut standard),
     };
     let is_unused = standard.left().len() == length && standard.written().is_empty();
