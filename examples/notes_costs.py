@@ -13,7 +13,7 @@ import random
 import threading
 import time
 
-from serving import OSM, Link, Replies, Server, connect, request
+from serving import OSM, Link, Replies, Server, boxes, connect, request, timed
 
 USERS = "1 alicetoken user alice\n"
 LINKS = 4
@@ -43,24 +43,6 @@ def side_of(notes: int, wanted: int) -> int:
     return round(EDGE * (wanted / notes) ** 0.5)
 
 
-def degrees(value: int) -> str:
-    return f"{value // 10_000_000}.{value % 10_000_000:07}"
-
-
-def searched(link: Link, side: int, searches: int) -> str:
-    """How long searches of squares with that side take, wherever they lie."""
-    drawn, times, found = random.Random(side), [], 0
-    for _ in range(searches):
-        west, south = drawn.randint(0, EDGE - side), drawn.randint(0, EDGE - side)
-        box = ",".join(map(degrees, (west, south, west + side, south + side)))
-        before = time.perf_counter()
-        reply = link.ask("GET", f"notes?bbox={box}")
-        times.append(time.perf_counter() - before)
-        found += len(reply.read()["notes"])
-    times.sort()
-    return f"half within {times[len(times) // 2] * 1e6:,.0f} us, 99 of 100 within {times[len(times) * 99 // 100] * 1e6:,.0f} us; {found / searches:.0f} shown"
-
-
 def main() -> None:
     parser = argparse.ArgumentParser(description=(__doc__ or "").split("\n")[0])
     parser.add_argument("--program", default=OSM)
@@ -79,7 +61,8 @@ def main() -> None:
         link = Link(server.port)
         for wanted in (1, 100, 10_000, words.notes // 4, words.notes):
             times = words.searches if wanted <= 10_000 else max(1, words.searches // 20)
-            print(f"a square of {wanted:,} notes on average: {searched(link, side_of(words.notes, wanted), times)}")
+            paths = (f"notes?bbox={box}" for box in boxes(EDGE, side_of(words.notes, wanted), times))
+            print(f"a square of {wanted:,} notes on average: {timed(link, paths, 'notes')}")
         link.close()
 
 

@@ -10,12 +10,11 @@ from __future__ import annotations
 
 import argparse
 import os
-import random
 import time
 from collections.abc import Iterator
 from typing import Any
 
-from serving import OSM, Link, Server
+from serving import OSM, Link, Server, boxes, timed
 
 USERS = "1 alicetoken user alice\n@large-from 0\n"
 EDGE = 20_000_000
@@ -57,26 +56,6 @@ def upload(link: Link, block: str, elements: Iterator[dict[str, Any]]) -> None:
                 raise SystemExit(f"{reply.status} {reply.body.decode()[:200]}")
 
 
-def degrees(value: int) -> str:
-    return f"{value // 10_000_000}.{value % 10_000_000:07}"
-
-
-def read(link: Link, side: int, reads: int, at: str) -> str:
-    """How long reads of boxes with that side take, wherever they lie, and how many elements each has."""
-    drawn, times, found = random.Random(1), [], 0
-    for _ in range(reads):
-        west, south = drawn.randint(0, EDGE - side), drawn.randint(0, EDGE - side)
-        box = ",".join(map(degrees, (west, south, west + side, south + side)))
-        before = time.perf_counter()
-        reply = link.ask("GET", f"map?bbox={box}{at}")
-        times.append(time.perf_counter() - before)
-        if reply.status != 200:
-            raise SystemExit(f"{reply.status} {reply.body.decode()[:200]}")
-        found += len(reply.read()["elements"])
-    times.sort()
-    return f"half within {times[len(times) // 2] * 1e6:,.0f} us, {found / reads:,.0f} elements"
-
-
 def main() -> None:
     parser = argparse.ArgumentParser(description=(__doc__ or "").split("\n")[0])
     parser.add_argument("--program", default=OSM)
@@ -91,12 +70,12 @@ def main() -> None:
         made = f"&at={int(time.time())}"
         print(f"{nodes:,} nodes and {nodes // 10:,} ways: the server holds {server.megabytes():,.0f} MiB")
         for name, at in (("as they are", ""), ("as they were at the last upload", made)):
-            print(f"boxes {name}: {read(link, side, words.reads, at)}")
+            print(f"boxes {name}: {timed(link, (f'map?bbox={box}{at}' for box in boxes(EDGE, side, words.reads)), 'elements')}")
         time.sleep(1.1)
         upload(link, "modify", moved(nodes))
         print(f"each node moved once: the server holds {server.megabytes():,.0f} MiB")
         for name, at in (("as they are", ""), ("as they were before", made)):
-            print(f"boxes {name}: {read(link, side, words.reads, at)}")
+            print(f"boxes {name}: {timed(link, (f'map?bbox={box}{at}' for box in boxes(EDGE, side, words.reads)), 'elements')}")
         link.close()
 
 

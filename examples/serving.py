@@ -4,11 +4,13 @@ from __future__ import annotations
 
 import json
 import os
+import random
 import socket
 import subprocess
 import sys
 import tempfile
 import time
+from collections.abc import Iterable, Iterator
 from typing import Any, NamedTuple
 
 TICKS: int = os.sysconf("SC_CLK_TCK")
@@ -163,3 +165,31 @@ class Server:
         """The memory that is held, or at most was (VmHWM)."""
         with open(f"/proc/{self.pid}/status") as file:
             return next(int(line.split()[1]) for line in file if line.startswith(which)) / 1024
+
+
+def degrees(value: int) -> str:
+    """Units of 1e-7 degrees, not negative, as a decimal."""
+    return f"{value // 10_000_000}.{value % 10_000_000:07}"
+
+
+def boxes(edge: int, side: int, count: int) -> Iterator[str]:
+    """So many drawn squares of that side, in units of 1e-7 degrees, within a larger one at the origin, as the parameter `bbox` has them."""
+    drawn = random.Random(side)
+    for _ in range(count):
+        west, south = drawn.randint(0, edge - side), drawn.randint(0, edge - side)
+        yield ",".join(map(degrees, (west, south, west + side, south + side)))
+
+
+def timed(link: Link, paths: Iterable[str], member: str) -> str:
+    """How long reads take, and how many rows the member of their replies has on average."""
+    times, found = [], 0
+    for path in paths:
+        before = time.perf_counter()
+        reply = link.ask("GET", path)
+        times.append(time.perf_counter() - before)
+        if reply.status != 200:
+            raise SystemExit(f"{reply.status} {reply.body.decode()[:200]}")
+        found += len(reply.read()[member])
+    times.sort()
+    half, most = times[len(times) // 2] * 1e6, times[len(times) * 99 // 100] * 1e6
+    return f"half within {half:,.0f} us, 99 of 100 within {most:,.0f} us; {found / len(times):,.0f} {member}"
