@@ -1,3 +1,4 @@
 pub mod Changeset
 pub mod Timely
 pub mod Kept
+pub mod Known

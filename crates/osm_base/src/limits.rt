@@ -9,6 +9,10 @@ pub const FIELD_LIMIT: usize = 64;
 /// The most bytes of a message's body.
 pub const BODY_LIMIT: usize = 33_554_432;
 
+/// The most bytes of a body that a mirror reads: a piece of the feed is longer than the body of the
+/// upload that it tells of by what tells the rest of its entry.
+pub const PIECE_LIMIT: usize = 33_619_968;
+
 /// The most requests that are answered on one link.
 pub const REQUEST_LIMIT: usize = 1_000;
 
@@ -43,6 +47,9 @@ pub const QUERY_LIMIT: usize = 100;
 /// The most bytes of a users text.
 pub const USERS_LIMIT: usize = 1_048_576;
 
+/// The most comments of a note.
+pub const COMMENT_LIMIT: usize = 10_000;
+
 /// The latest moment that is told apart, in seconds since 1970. A later one counts as it.
 pub const MOMENT_LIMIT: u64 = 253_000_000_000;
 
@@ -52,6 +59,8 @@ const _: () = prove!(HEAD_LIMIT == 16_384);
 const _: () = prove!(FIELD_LIMIT == 64);
 
 const _: () = prove!(BODY_LIMIT == 33_554_432);
+
+const _: () = prove!(PIECE_LIMIT == BODY_LIMIT + 65_536);
 
 const _: () = prove!(REQUEST_LIMIT == 1_000);
 
@@ -74,5 +83,7 @@ const _: () = prove!(MAP_NODE_LIMIT == 50_000);
 const _: () = prove!(QUERY_LIMIT == 100);
 
 const _: () = prove!(USERS_LIMIT == 1_048_576);
+
+const _: () = prove!(COMMENT_LIMIT == 10_000);
 
 const _: () = prove!(MOMENT_LIMIT == 253_000_000_000);

@@ -8,6 +8,14 @@ use std::alloc::Global;
 use std::marker::Model;
 use std::mem;
 
+/// The most items of a row that takes memory for just what it is promised.
+const SHORT: usize = 4;
+
+/// For how many more items a row of some takes memory at least, where it takes any.
+fn ahead_of(items: usize) -> usize {
+    if items <= SHORT { 0 } else { items / 2 }
+}
+
 /// A list that is promised room for some more items, so that adding those takes no memory and
 /// can't fail. What was promised is a number of its own: there may be room for more.
 #[derive(Drop)]
@@ -61,14 +69,19 @@ impl<T> Roomy<T> {
 }
 
 impl<T: Drop> Roomy<T> {
-    /// Promises room for some more items, and takes memory for no others.
+    /// Promises room for some more items. Where it takes memory, a short row takes it for no others,
+    /// and a longer one for half as many again as it has, so that many promises one after the other
+    /// cost no more than their items.
     pub fn promise(&mut self, more: usize) -> Result<(), Memory>
         ensures { self.new ≡ record self.old { free = self.old.free + (if is_ok result then more else 0) } }
     {
         let Some(free) = self.free.checked_add(more) else {
             return Err(Memory);
         };
-        self.items.reserve_exact(free)?;
+        if self.items.capacity() - self.items.len() < free {
+            self.items
+                .reserve_exact(free.max(ahead_of(self.items.len())))?;
+        }
         self.free = free;
         Ok(())
     }

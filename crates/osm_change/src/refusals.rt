@@ -1,6 +1,7 @@
 //! Why a request is refused.
-use osm_base::{Kind, Stamp, Text};
+use osm_base::{Kind, Memory, Stamp, Text, TryCopy};
 use osm_element::LocalFault;
+use std::alloc::Global;
 
 /// An element as a client names it: by its id, or by the placeholder under which the same upload
 /// created it.
@@ -148,4 +149,160 @@ pub enum Refusal {
         last: u64,
         number: u64,
     },
+}
+
+impl TryCopy for Refusal {
+    fn copy(&self, alloc: Global) -> Result<Refusal, Memory> {
+        Ok(match self {
+            Refusal::BadHead => Refusal::BadHead,
+            Refusal::HeadLong => Refusal::HeadLong,
+            Refusal::Coded => Refusal::Coded,
+            Refusal::BadLength => Refusal::BadLength,
+            Refusal::BodyLong => Refusal::BodyLong,
+            Refusal::NoPath => Refusal::NoPath,
+            Refusal::WrongMethod => Refusal::WrongMethod,
+            Refusal::Xml => Refusal::Xml,
+            Refusal::NoUser => Refusal::NoUser,
+            Refusal::BadNumber => Refusal::BadNumber,
+            Refusal::BadParameter { name } => Refusal::BadParameter {
+                name: name.copy(alloc)?,
+            },
+            Refusal::Role => Refusal::Role,
+            Refusal::NotJson => Refusal::NotJson,
+            Refusal::Shape { op } => Refusal::Shape { op: *op },
+            Refusal::NotNegative { op } => Refusal::NotNegative { op: *op },
+            Refusal::DoublePlaceholder { op } => Refusal::DoublePlaceholder { op: *op },
+            Refusal::UnknownPlaceholder { op } => Refusal::UnknownPlaceholder { op: *op },
+            Refusal::NoVersion { op } => Refusal::NoVersion { op: *op },
+            Refusal::Local { fault, op } => Refusal::Local {
+                fault: *fault,
+                op: *op,
+            },
+            Refusal::OtherChangeset { named, op } => Refusal::OtherChangeset {
+                named: *named,
+                op: *op,
+            },
+            Refusal::NoChangeset { id } => Refusal::NoChangeset { id: *id },
+            Refusal::NotOwner { changeset, owner } => Refusal::NotOwner {
+                changeset: *changeset,
+                owner: *owner,
+            },
+            Refusal::Closed {
+                changeset,
+                closed_at,
+            } => Refusal::Closed {
+                changeset: *changeset,
+                closed_at: *closed_at,
+            },
+            Refusal::Full {
+                applied,
+                changeset,
+                count,
+                limit,
+            } => Refusal::Full {
+                applied: *applied,
+                changeset: *changeset,
+                count: *count,
+                limit: *limit,
+            },
+            Refusal::BoxTooLarge {
+                area,
+                changeset,
+                limit,
+            } => Refusal::BoxTooLarge {
+                area: *area,
+                changeset: *changeset,
+                limit: *limit,
+            },
+            Refusal::NoElement { id, op, kind } => Refusal::NoElement {
+                id: *id,
+                op: *op,
+                kind: *kind,
+            },
+            Refusal::NoSuchVersion { id, kind, version } => Refusal::NoSuchVersion {
+                id: *id,
+                kind: *kind,
+                version: *version,
+            },
+            Refusal::WrongVersion {
+                found,
+                id,
+                op,
+                provided,
+                kind,
+            } => Refusal::WrongVersion {
+                found: *found,
+                id: *id,
+                op: *op,
+                provided: *provided,
+                kind: *kind,
+            },
+            Refusal::Gone {
+                id,
+                op,
+                kind,
+                version,
+            } => Refusal::Gone {
+                id: *id,
+                op: *op,
+                kind: *kind,
+                version: *version,
+            },
+            Refusal::Missing {
+                id,
+                op,
+                kind,
+                version,
+            } => Refusal::Missing {
+                id: *id,
+                op: *op,
+                kind: *kind,
+                version: *version,
+            },
+            Refusal::Used {
+                id,
+                op,
+                kind,
+                user_id,
+                user_kind,
+                user_version,
+            } => Refusal::Used {
+                id: *id,
+                op: *op,
+                kind: *kind,
+                user_id: *user_id,
+                user_kind: *user_kind,
+                user_version: *user_version,
+            },
+            Refusal::Redacted {
+                id,
+                redaction,
+                kind,
+                version,
+            } => Refusal::Redacted {
+                id: *id,
+                redaction: *redaction,
+                kind: *kind,
+                version: *version,
+            },
+            Refusal::NoRedaction { id } => Refusal::NoRedaction { id: *id },
+            Refusal::RedactCurrent { id, kind, version } => Refusal::RedactCurrent {
+                id: *id,
+                kind: *kind,
+                version: *version,
+            },
+            Refusal::MapArea { area, limit } => Refusal::MapArea {
+                area: *area,
+                limit: *limit,
+            },
+            Refusal::MapNodes { limit, nodes } => Refusal::MapNodes {
+                limit: *limit,
+                nodes: *nodes,
+            },
+            Refusal::NoPiece { last, number } => Refusal::NoPiece {
+                last: *last,
+                number: *number,
+            },
+        })
+    }
 }

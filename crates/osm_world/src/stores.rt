@@ -13,12 +13,11 @@ use crate::beds::Laid;
 use crate::plans::lay_all;
 use crate::records::{add_changeset, promise_work, set_end, set_tags, vacant};
 use crate::uploads::apply_all;
-use changeset_core::Changeset;
+use changeset_core::{Changeset, Redactions};
 use indexed_map::IndexedMap;
 use osm_base::{Box7, Items, Memory, Roomy, Stamp, User};
 use osm_change::Op;
 use osm_model::Command;
-use redaction_core::Redactions;
 use std::alloc::Global;
 
 /// The map in its stores.

@@ -16,7 +16,7 @@ ghost use Rattle.osm_world.specs.World.{state_of, HasRoom, HasUploadRoom, HasNot
 use crate::beds::Laid;
 use crate::records::forget_work;
 use crate::stores::Stores;
-use changeset_core::Changeset;
+use changeset_core::{Changeset, Redactions};
 use history_store::Store;
 use indexed_map::IndexedMap;
 use osm_base::{Key, Memory, Roomy, Stamp, User};
@@ -25,7 +25,6 @@ use osm_model::{
     Command, Entry, entries_keep_maps, moments_are_bounded, points_are_consistent,
     versions_are_attributed, versions_are_stamped_in_order,
 };
-use redaction_core::Redactions;
 use std::alloc::Global;
 use std::marker::Model;
 use tile_grid::Grid;

@@ -14,7 +14,7 @@ ghost use Rattle.osm_world.specs.World.{state_of};
 ghost use Rattle.upload_check.specs.Asked.{IsOutcome, OnRefused};
 ghost use Rattle.upload_check.specs.Planned.{plan_of, outcome_of, taken_by, IsShown};
 
-use crate::copies::{copy_refusal, copy_rows};
+use crate::copies::copy_rows;
 use crate::overlays::first_ids;
 use crate::plans::{Found, Plan};
 use changeset_core::{Changeset, join_boxes};
@@ -79,7 +79,7 @@ fn taken(
             has_box(kept, user, id, *touched)?;
             Ok(copy_rows(alloc, rows.items())?)
         }
-        Found::Refused(refusal) => Err(Fault::Refused(copy_refusal(alloc, refusal)?)),
+        Found::Refused(refusal) => Err(Fault::Refused(refusal.copy(alloc)?)),
     }
 }
 

@@ -1,6 +1,6 @@
-//! The titles of redactions, with promised room.
+//! The titles of redactions (OpenStreetMap wiki, API v0.6, "Redactions"), with promised room.
 ghost use Rattle.std.specs.Prelude.{◌≡◌, ◌+◌, ◌-◌, ◌<◌, ◌∷◌, [], ◌++◌, length, is_ok, if◌then◌else◌};
-ghost use Rattle.redaction_core.specs.Known.{is_known};
+ghost use Rattle.changeset_core.specs.Known.{is_known};
 
 use osm_base::{Memory, Roomy, Text};
 use std::alloc::Global;
