@@ -18,7 +18,7 @@ use crate::copies::copy_rows;
 use crate::overlays::first_ids;
 use crate::plans::{Found, Plan};
 use changeset_core::{Changeset, join_boxes};
-use osm_base::{Box7, Memory, Stamp, User};
+use osm_base::{Box7, Memory, Stamp, TryCopy, User};
 use osm_change::{FirstIds, OpDone, OpDones, Refusal};
 use osm_later::plans_settle;
 use osm_model::{Fault, box_allowed};
