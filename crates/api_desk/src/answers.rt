@@ -1,4 +1,7 @@
 //! An answer as bytes, the two of its status, high byte first, and then its body; and as a reply.
+//!
+//! An answer's bytes begin with its status, and the desk takes the two off in place. The status is
+//! put before the body by moving it, so the body is never held twice.
 ghost use Rattle.std.specs.Prelude.{◌≡◌, ℕ, ◌+◌, ◌*◌, ◌/◌, ◌%◌, ◌≤◌, ◌∷◌, List, length, drop, slice_index, Some, Err, IfOk};
 ghost use Rattle.osm_base.specs.Status.{IsStatus};
 ghost use Rattle.osm_change.specs.Moments.{HasShownMoments};

@@ -1,4 +1,7 @@
 //! The map's desk as a desk of any machine.
+//!
+//! A message that is no request is told so by one function for both desks, whose clause names no
+//! journal: the session stays at whatever place it stands.
 use crate::hub_desk::{HubDesk, MapSession};
 use crate::machine::MapMachine;
 use osm_base::Memory;

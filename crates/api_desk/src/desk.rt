@@ -1,4 +1,8 @@
 //! A desk for one thread, over the map's book.
+//!
+//! A desk holds the table of routes, so `OneDesk::new` can answer want of memory; the link is then
+//! left alone. A desk that serves several sessions on one thread is switched from one to the next,
+//! so that the table isn't made for each request.
 ghost use Rattle.std.specs.Prelude.{◌≡◌, ◌<◌, ◌≤◌, ◌+◌, List, length, Some, IfOk, OnOk, OnErr};
 ghost use Rattle.osm_model.specs.Act.{act};
 ghost use Rattle.osm_model.specs.Ask.{ask};

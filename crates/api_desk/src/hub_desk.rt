@@ -1,4 +1,7 @@
 //! A desk of the map for one session of a hub.
+//!
+//! The gate is told of a reply to a command or a query, also where that is want of memory, and not
+//! of a message that is neither.
 ghost use Rattle.std.specs.Prelude.{◌≡◌, ◌<◌, ◌≤◌, ◌+◌, ◌*◌, ℕ, false, true, List, length, slice_index, IfOk, OnOk, OnErr};
 ghost use Rattle.osm_base.specs.Status.{IsStatus};
 ghost use Rattle.osm_element.specs.Elements.{IsConsistent};

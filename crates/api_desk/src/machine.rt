@@ -1,4 +1,7 @@
 //! The map as a machine: a world that changes by entries.
+//!
+//! The machine's world keeps the allocator beside the map, since a machine applies entries without
+//! one.
 ghost use Rattle.std.specs.Prelude.{◌≡◌, None, Some, IfOk};
 ghost use Rattle.osm_base.specs.Stamp.{stamp_after};
 ghost use Rattle.osm_change.specs.Moments.{HasShownMoments, RefusalHasShownEnd};

@@ -1,4 +1,8 @@
 //! Plans of commands.
+//!
+//! A plan of the map is that of an upload with its looks, or another command alone, which looks at
+//! nothing and stands on every map: those are judged when they are settled. A single change is an
+//! upload of one operation, so it is planned too.
 use crate::requests::Asked;
 use upload_check::Plan;
 

@@ -1,4 +1,14 @@
 //! What a message asks.
+//!
+//! A request is a command with its user, a query, or a call of the feed, so a read can't be taken
+//! for a change by any caller of `request_of`.
+//!
+//! Who may ask is told by the kind of call: whoever changes the map must be known, whoever redacts
+//! must be a moderator; whoever reads may leave the field out, but a wrong token is refused there
+//! too, and before the role is looked at.
+//!
+//! The parameter that asks to see what is redacted counts for a moderator alone. It is read all
+//! the same, so a value that can't be read is refused to everybody.
 ghost use Rattle.std.specs.Prelude.{◌≡◌, option_copied, option_map, MatchResult, Ok, Err, IfErr};
 ghost use Rattle.api_desk.specs.declared.tasks.Task.TheVariants as task;
 ghost use Rattle.api_desk.specs.Request.{is_moderator, known_user, known_moderator, work_of, piece_asked, asked_by, request_of};

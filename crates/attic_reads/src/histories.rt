@@ -1,4 +1,8 @@
 //! Elements as they were: their histories up to a stamp, found by halving.
+//!
+//! A history is cut by halving, so a world keeps that the stamps of a history never go back and
+//! that none is past the last one (`IsKept`). Every entry keeps this, taken or not, since no stamp
+//! is before the map's last.
 ghost use Rattle.std.specs.Prelude.{◌≡◌, length, option_copied};
 ghost use Rattle.std.specs.List.Sorted.{IsNonDecreasingBy};
 ghost use Rattle.osm_element.specs.Elements.{history, version_in, content_of};

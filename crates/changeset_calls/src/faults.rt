@@ -1,4 +1,6 @@
 //! Why a call on a changeset has no result.
+//!
+//! The faults of a changeset's reads have their own type, with the one refusal that there is.
 use osm_base::Memory;
 
 /// Why a call on a changeset has no result.

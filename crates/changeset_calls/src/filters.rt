@@ -1,4 +1,8 @@
 //! The query of changesets: its filters, the newest first.
+//!
+//! A changeset that touched nothing meets no box.
+//!
+//! A query that asks for open and for closed changesets at once gives none.
 ghost use Rattle.std.specs.Prelude.{◌≡◌, ◌++◌, ◌∷◌, [], true, not, ◌&&◌, ◌||◌, ◌==◌, filter, filter_map, IfOk};
 ghost use Rattle.std.specs.Option.{option_map_or};
 ghost use Rattle.osm_model.specs.ChangesetReads.{touches, passes, passes_at, row_at, query_changesets};

@@ -1,4 +1,7 @@
 //! A changeset with promised room for its work.
+//!
+//! A changeset's moments are bounded by the type of the one with room; the plain record says it as
+//! a condition of `closes`, and the model proves it of every map that entries make.
 ghost use Rattle.std.specs.Prelude.{◌≡◌, ◌+◌, ◌-◌, ◌<◌, ◌≤◌, ◌∷◌, [], ◌++◌, length, Some, None, true, is_ok, if◌then◌else◌};
 ghost use Rattle.osm_base.specs.declared.limits.TheConstants.{MOMENT_LIMIT};
 ghost use Rattle.changeset_core.specs.Changeset.{closes, first_record, is_open, limit_of, retagged, ended_at, widen, join_areas};

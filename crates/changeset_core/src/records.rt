@@ -1,4 +1,6 @@
 //! A changeset as a plain record, and what it did.
+//!
+//! The count of a changeset is the length of what it did. Keeping both would be one fact twice.
 use crate::areas::join_boxes;
 use crate::lives::{closed_at, closes};
 use osm_base::{Box7, Items, Key, Memory, Owner, Stamp};

@@ -1,4 +1,7 @@
 //! The titles of redactions (OpenStreetMap wiki, API v0.6, "Redactions"), with promised room.
+//!
+//! Room for a redaction is a place in the list and takes no title, since making one takes the
+//! title over.
 ghost use Rattle.std.specs.Prelude.{◌≡◌, ◌+◌, ◌-◌, ◌<◌, ◌∷◌, [], ◌++◌, length, is_ok, if◌then◌else◌};
 ghost use Rattle.changeset_core.specs.Known.{is_known};
 

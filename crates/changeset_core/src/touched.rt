@@ -1,4 +1,8 @@
 //! The box of what a new version touches, read off the lists of elements.
+//!
+//! The box of what a new content touches is found by one function over whatever tells contents and
+//! places (`touched_area` over `Places`, changeset_core): the plain elements do, and the indexed
+//! map does.
 ghost use Rattle.std.specs.Prelude.{◌≡◌, [], ◌∷◌, map, option_to_list};
 ghost use Rattle.osm_element.specs.Elements.{key, key_of_member, position_in, refs, refs_of};
 ghost use Rattle.changeset_core.specs.Changeset.{touched_area, widen_all, widen_by};

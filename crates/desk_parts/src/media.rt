@@ -1,4 +1,7 @@
 //! Whether a body is XML.
+//!
+//! XML is refused wherever a route takes the message, also on calls that read no body, and before
+//! the caller is looked at.
 ghost use Rattle.std.specs.Prelude.{◌≡◌, option_copied};
 ghost use Rattle.std.specs.List.{before_first};
 ghost use Rattle.desk_parts.specs.Media.{is_semicolon, has_xml_suffix, names_xml, says_xml, is_blank, begins_as_xml, is_xml};

@@ -1,4 +1,8 @@
 //! Serving one link by one session of a hub.
+//!
+//! What a link's clause says of replies, it says from each point of the front that the session
+//! began with, and not from its end alone. So the links of a worker join: the points never go back
+//! from one connection to the next.
 ghost use Rattle.desk_serve.specs.Link.{ServesLink};
 
 use crate::laws::points_are_consistent;

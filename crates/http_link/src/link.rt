@@ -1,4 +1,7 @@
 //! Serving a link.
+//!
+//! The 1,000th request that says close ends the link as closed, any other as spent. Both replies
+//! say close.
 ghost use Rattle.http_link.specs.Link.{Serves};
 
 use crate::desk::Desk;

@@ -1,4 +1,6 @@
 //! Whether the link ends after the reply.
+//!
+//! Each Connection field counts, not the first alone.
 ghost use Rattle.std.specs.Prelude.{◌≡◌, map, length, All};
 ghost use Rattle.httparse.specs.Grammar.{is_ows, skip_ows, trim_ows};
 ghost use Rattle.httparse.specs.Spans.{IsHeaderWithin, header_bytes};

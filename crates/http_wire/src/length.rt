@@ -1,4 +1,7 @@
 //! The length of a body, by the Content-Length fields. Numbers of any size are compared exactly.
+//!
+//! Numbers of Content-Length are compared exactly, whatever their size: two huge lengths that
+//! differ are bad_length, two that are equal are body_long. Leading zeros are allowed.
 ghost use Rattle.std.specs.Prelude.{◌≡◌, ◌+◌, map, min, length, All, IsTrue, option_map};
 ghost use Rattle.std.specs.Char.{is_ascii_digit};
 ghost use Rattle.std.specs.List.{list_all};

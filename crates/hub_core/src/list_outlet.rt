@@ -1,4 +1,7 @@
 //! An outlet in memory.
+//!
+//! An outlet in memory counts refused offers too, so that the list of numbers to be refused says
+//! which offers of a run fail; the count stands still at the greatest number of 64 bits.
 ghost use Rattle.std.specs.Prelude.{◌≡◌, [], MatchResult, OnErr};
 ghost use Rattle.hub_core.specs.Outlets.{no_offer, counted, IsTaken, IsKept};
 

@@ -1,6 +1,9 @@
 //! The elements with their indexes: who uses each of them, and where the visible nodes lie; and, for
 //! reads of the past, who ever used each of them, and where nodes ever lay. One version at a time is
 //! added, without memory, on room that was promised before.
+//!
+//! The indexes of elements are one crate, kept in step by one call, `revise`; the world above adds
+//! changesets, redactions and the last stamp.
 #![tactic(auto)]
 
 mod ever;

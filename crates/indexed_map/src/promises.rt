@@ -1,4 +1,7 @@
 //! Room that is promised for one entry, and taken back.
+//!
+//! The room of the indexes of now is room in those too: these are promised at least what the
+//! others are, and use no more. So the contracts of the world speak of one room.
 ghost use Rattle.std.specs.Prelude.{◌≡◌, false, ℕ, ◌+◌, ◌<◌, ◌≤◌, if◌then◌else◌, OnOk};
 ghost use Rattle.std.specs.List.{list_any};
 ghost use Rattle.osm_base.specs.Key.{key_eq, lists_key};

@@ -1,4 +1,8 @@
 //! Pieces taken one after another.
+//!
+//! What a follower says of a piece is one computing definition over the entries that are kept, and
+//! a list of calls has its own: so the theorem on feeds in any order speaks of lists alone, and
+//! whoever calls `take` has of each call just what the list needs.
 ghost use Rattle.std.specs.Prelude.{◌≡◌, ◌+◌, ◌-◌, ◌≤◌, ◌<◌, [], length, slice_get, Some, Ok, IfOk, OnErr, if◌then◌else◌};
 ghost use Rattle.osm_model.specs.Journal.{IsLegal};
 ghost use Rattle.journal_text.specs.Kept.{may_follow};

@@ -1,4 +1,7 @@
 //! The entries of an input.
+//!
+//! A text that is refused is read to its end all the same, so a pipe's writer isn't cut off, and a
+//! read that fails behind the fault is status 3.
 ghost use Rattle.std.specs.Prelude.{◌≡◌, ◌<◌, [], length};
 ghost use Rattle.osm_outside.specs.Told.{Told};
 ghost use Rattle.journal_text.specs.Text.{header};

@@ -1,4 +1,7 @@
 //! Who keeps the entries of a text as they are read.
+//!
+//! Whether an entry may come next is judged by a keeper, a trait with one call, so that a text can
+//! be read onto any world that keeps the rules. The plain journal is one.
 ghost use Rattle.std.specs.Prelude.{◌≡◌, List, IfOk};
 ghost use Rattle.osm_model.specs.declared.commands.Entry.{Entry};
 ghost use Rattle.journal_text.specs.Kept.{may_follow, kept_by};

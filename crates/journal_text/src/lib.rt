@@ -1,4 +1,7 @@
 //! The journal as a text, for audit and exchange: a header, and a line of JSON for each entry.
+//!
+//! The part of an upload goes through the code of requests: its blocks are read as a body's are,
+//! and the change is built of them.
 #![tactic(auto)]
 
 mod entries;

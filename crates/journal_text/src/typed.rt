@@ -1,4 +1,7 @@
 //! What the types of an entry say of it: laws, which cost at most a pass over its operations.
+//!
+//! That an entry is well typed is told when its line is written, by a pass over its operations,
+//! which costs less than writing them; no fact is carried with each entry.
 ghost use Rattle.std.specs.Prelude.{◌<◌, ◌^◌};
 ghost use Rattle.osm_json.specs.Uploads.{HasRisingTags, IsChange};
 ghost use Rattle.journal_text.specs.Line.{Fits64, FitsIfSome, IsCommand};

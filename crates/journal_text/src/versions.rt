@@ -1,4 +1,8 @@
 //! The versions of the text's form, each told by the first line of a text.
+//!
+//! The versions of the text share one definition of a line. A text of version 1 is its header and
+//! the same lines, where no entry has what version 1 has no member for. So what a version lacks is
+//! seen in the entry that was read, and nothing is read or written twice.
 ghost use Rattle.std.specs.Prelude.{◌≡◌, ◌++◌, IfSome, None};
 ghost use Rattle.journal_text.specs.Faults.{LacksHeader};
 ghost use Rattle.journal_text.specs.Text.{header};

@@ -1,4 +1,8 @@
 //! Workers made of sessions and ports, and taken apart again.
+//!
+//! Workers are made and taken apart by lists that are emptied and filled again. The room is taken
+//! before the first port is moved, and the ports come back without memory, so a port is never lost
+//! to the want of it.
 ghost use Rattle.std.specs.Prelude.{◌≡◌, ◌≤◌, ◌+◌, ◌++◌, [], vec_len, vec_capacity, IfOk, OnOk, OnErr};
 ghost use Rattle.link_workers.specs.Seats.{ports_of, seated, sessions_of};
 

@@ -1,4 +1,7 @@
 //! What a machine is: its world, its plans, and the laws that it keeps.
+//!
+//! A plan is told to have been made on an earlier state, in which the journal's first entries end,
+//! and not on a named one.
 ghost use Rattle.std.specs.Prelude.{◌≡◌, ℕ, true, IfOk, OnOk, MatchResult, IfSome};
 ghost use Rattle.machine_law.specs.declared.tags.Tag.{Tag};
 ghost use Rattle.machine_law.specs.Rules.{Rules, Later, IsForeseen};

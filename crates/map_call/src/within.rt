@@ -1,4 +1,8 @@
 //! The nodes of a box, by the cells that it touches.
+//!
+//! A map call counts a step for each node whose position it asks: at most those in the touched
+//! cells. Whether a node of a way is visible needs no position, since what a visible way lists is
+//! visible.
 ghost use Rattle.std.specs.Prelude.{◌≡◌, ◌+◌, ◌≤◌, length, IfOk};
 ghost use Rattle.osm_base.specs.Place.{IsArea};
 ghost use Rattle.osm_model.specs.Selection.{nodes_within};

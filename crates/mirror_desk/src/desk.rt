@@ -1,4 +1,7 @@
 //! A desk for one thread, over a follower.
+//!
+//! The table of routes of a mirror lies under the lock, beside the follower: one for all workers,
+//! and a table of routes may go to another thread but isn't shown to be looked at by two at once.
 ghost use Rattle.std.specs.Prelude.{◌≡◌, IfOk};
 
 use crate::answers::answer_mirrored;

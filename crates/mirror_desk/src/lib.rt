@@ -1,5 +1,10 @@
 //! A read-only mirror: what a message asks of it, what it answers, and a desk over one follower of
 //! the server's journal.
+//!
+//! The reads of a mirror are the server's own functions, over the book that its follower keeps.
+//!
+//! What a mirror tells of pieces stands in its own definition, beside the answers of the map,
+//! which no mirror widens.
 #![tactic(auto)]
 
 mod answers;

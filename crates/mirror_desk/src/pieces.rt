@@ -1,4 +1,8 @@
 //! Taking a piece, and telling what came of it.
+//!
+//! The answer to a piece that is folded is made before the piece is taken, so that none is folded
+//! whose answer would be want of memory. Of a piece that comes to something else this makes one
+//! short text in vain; its own answer is made afterwards, when nothing has changed.
 ghost use Rattle.std.specs.Prelude.{◌≡◌, ℕ, ◌+◌, ◌≤◌, ◌<◌, ◌^◌, length, Some, IfOk, OnOk, OnErr};
 ghost use Rattle.osm_base.specs.Status.{IsStatus};
 ghost use Rattle.http_link.specs.Desk.{counted_reply};

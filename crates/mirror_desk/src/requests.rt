@@ -1,4 +1,8 @@
 //! What a message asks of a mirror.
+//!
+//! A mirror has no request for what it doesn't take. Every call that isn't a read comes to one
+//! answer, by the call and the caller alone, and its body isn't looked at. A piece by its number
+//! is among them, since whoever posts pieces has them.
 ghost use Rattle.std.specs.Prelude.{ℕ, List, option_copied, IfErr};
 ghost use Rattle.desk_parts.specs.Faults.{HasShownFault};
 ghost use Rattle.mirror_desk.specs.Request.{forbidden_to, followed, asked_by_task, piece_from, asked_by, request_of};

@@ -1,4 +1,8 @@
 //! Notes with their comments, and why a command or a query of them is refused.
+//!
+//! A note's author is kept with each comment, as id and name at that time, since notes have no
+//! changeset that would say it. Moderators have no rights of their own: nothing of a note is
+//! hidden.
 use osm_base::{Coord, Items, Owner, Stamp, Text};
 
 /// What a comment did to its note.

@@ -1,4 +1,8 @@
 //! The notes in a box, by the cells that it touches.
+//!
+//! A search asks the cells that its box touches, in the same grid as the map's nodes. A note
+//! doesn't move and is never taken away, so the grid only grows; closed notes stay in it, since a
+//! search may ask for them.
 ghost use Rattle.std.specs.Prelude.{◌≡◌, IfOk};
 ghost use Rattle.osm_base.specs.Place.{IsArea};
 ghost use Rattle.notes_core.specs.Near.{notes_near};

@@ -1,4 +1,8 @@
 //! The calls of the notes.
+//!
+//! The paths of notes are told apart by their parts. They are five, and the table of route_table
+//! is the map's; what a path is, its numbers and its parameters are read by route_table's
+//! functions.
 ghost use Rattle.std.specs.Option.{option_copied};
 ghost use Rattle.route_table.specs.Calls.{Gives};
 ghost use Rattle.notes_desk.specs.Routes.{id_in, search_of, get_call, post_call, call_of};

@@ -1,4 +1,9 @@
 //! From what a body says to operations whose names stand for elements.
+//!
+//! A create's references are named before its placeholder is bound, so no element of an upload
+//! lists itself by its own placeholder; a double placeholder still comes before an unknown one.
+//!
+//! A delete's content and tags aren't looked at.
 ghost use Rattle.std.specs.Prelude.{◌≡◌, true, ◌+◌, ◌^◌, ◌<◌, length, [], None, Some, Ok, Err, OnOk, MatchOption, ⊤};
 ghost use Rattle.osm_base.specs.Outcome.{unless};
 ghost use Rattle.osm_base.specs.Place.{is_position};

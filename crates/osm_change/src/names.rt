@@ -1,4 +1,12 @@
 //! Elements as an upload names them.
+//!
+//! A user in a refusal is told by its id where it was there before the upload, else by the
+//! placeholder of its creation.
+//!
+//! What an upload's name stands for, which ids its creates get, and how a refusal names an element
+//! stand in osm_change once (`Name::id`, `Name::key`, `Name::said`, `said_made`,
+//! `FirstIds::after`), each with its definition, and so does what a read's fault is answered
+//! (`ReadFault::answer`). Whoever judges, applies or numbers an upload calls these.
 ghost use Rattle.std.specs.Prelude.{◌≡◌, position, option_copied};
 ghost use Rattle.osm_base.specs.Key.{key_eq};
 ghost use Rattle.osm_element.specs.Elements.{key};

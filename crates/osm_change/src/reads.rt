@@ -1,4 +1,7 @@
 //! What a read selects, and why it shows nothing.
+//!
+//! Faults of reads name an element by its key, refusals by its id. The case of a fault for want of
+//! memory, which no definition gives, is told as an arbitrary refusal.
 use crate::answers::Answer;
 use crate::refusals::{Refusal, Said};
 use osm_base::{Ids, Key, Memory};

@@ -1,4 +1,8 @@
 //! The rows of an upload.
+//!
+//! The rows of an upload are stated once, in osm_change, from each operation's element and what it
+//! did. diff_result computes the elements from the first ids, for a plan whose ids are given
+//! later, and a law says that these are the ids counted by creates.
 ghost use Rattle.std.specs.Prelude.{◌≡◌, length, slice_get, Some, IfOk};
 ghost use Rattle.osm_change.specs.Change.{IsWellFormed};
 ghost use Rattle.osm_change.specs.Rows.{whole_row, deletion_row, row, rows};

@@ -1,4 +1,7 @@
 //! A change of one operation.
+//!
+//! A single change is built against the changeset that its body names, so no single change is
+//! refused for another changeset.
 ghost use Rattle.std.specs.Prelude.{◌≡◌, ◌↔◌, length, IsOk, MatchResult};
 
 use crate::changes::Change;

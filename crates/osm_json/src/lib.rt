@@ -1,4 +1,6 @@
 //! The bodies of requests and answers, as JSON (RFC 8259).
+//!
+//! Only the body of 0 bytes is the empty one.
 #![tactic(auto)]
 
 mod again;

@@ -1,4 +1,7 @@
 //! The body of a refusal.
+//!
+//! A refusal's members stand in three groups (of the request, of the changeset, of the element),
+//! and at most one of them is there.
 ghost use Rattle.std.specs.Prelude.{◌≡◌, [], ◌∷◌, codes};
 ghost use Rattle.osm_json.specs.Shown.{field, natural, moment};
 ghost use Rattle.osm_json.specs.Refused.{local_name as name_of_local, error_name as name_of_error, before_error as fields_before, of_request as fields_of_request, of_changeset as fields_of_changeset, of_element as fields_of_element, op_field, element_fields, current_fields, version_fields, conflict_fields, user_fields, redacted_fields, refusal as refusal_data};

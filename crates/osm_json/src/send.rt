@@ -1,4 +1,7 @@
 //! The parts of an answer, written one after another.
+//!
+//! The ported writer escapes, and its contract is taken as it stands. The one call of it that
+//! would leave escapes out writes a text as a number, which its own `requires` refuses.
 #![tactic(auto, unfolding(crate::specs::Sent::tokens_of, crate::specs::Sent::field_tokens))]
 
 ghost use Rattle.std.specs.Prelude.{◌≡◌, [], ◌∷◌};

@@ -1,4 +1,9 @@
 //! The tags of an element or a changeset.
+//!
+//! An object's tags are read into one text with their places, which are sorted only where the
+//! names don't rise as they come, and the last of a name is kept; a map by name took ten times the
+//! memory of the tags. The room of the tags that are made of them is taken at once, and given back
+//! where a name came again.
 ghost use Rattle.std.specs.Prelude.{◌≡◌, ◌<◌, ◌≤◌, length, [], OnOk};
 ghost use Rattle.osm_json.specs.Entries.{AreInOrder, gather, text_pairs};
 ghost use Rattle.osm_json.specs.Found.{Makes};

@@ -1,5 +1,9 @@
 //! Uploads that were judged on an earlier map: what their plans look at, and what they settle to on
 //! a later one. Rules, and laws on them; the plans themselves are made above.
+//!
+//! That a plan was made on a sound map for a well-formed change is part of being planned: on
+//! elements that refer to what was never given, an upload's new element could be in use before it
+//! is made, and the law is false there. Every map that entries make is sound.
 #![tactic(auto)]
 
 mod law;

@@ -1,4 +1,8 @@
 //! What box a changeset may have.
+//!
+//! The box is tested by one function of osm_model, `box_allowed`, though that crate has
+//! definitions else: the plain program and the fast one both need it, and stand on no other common
+//! crate that knows refusals.
 ghost use Rattle.std.specs.Prelude.{◌≡◌, IfErr};
 ghost use Rattle.osm_change.specs.Moments.{RefusalHasShownEnd};
 ghost use Rattle.osm_model.specs.Fold.{box_allowed};

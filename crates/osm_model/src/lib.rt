@@ -1,5 +1,16 @@
 //! The rules of the map as definitions, the types that they name, and laws of the journals and maps
 //! that they make.
+//!
+//! "Answered" speaks of answers, not of bytes. A row has the answer or none (want of memory); the
+//! desk ties each answer to the bytes of its reply. So the definition stands with the map and
+//! knows nothing of HTTP or JSON.
+//!
+//! A session's place counts its debts (commands whose publication found no memory) already, though
+//! a desk on one thread has none: the shape is that of every later desk.
+//!
+//! A map accepts an entry by a truth value (`takes`), a list of entries is legal by recursion over
+//! it, and the numbering of calls stands apart, since a book keeps the counts of sessions beside
+//! its map.
 #![tactic(auto)]
 
 mod boxes;

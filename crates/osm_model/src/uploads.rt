@@ -1,4 +1,9 @@
 //! An upload under way.
+//!
+//! An upload folds over the elements, and its changeset's record is written once at its end: the
+//! versions that it made, the box of what it touched, its activity. The fold's own box is then
+//! there for a limit on boxes, and nothing but the elements is copied. An upload that applied
+//! nothing isn't activity, and that is read off its list of versions.
 use osm_base::{Box7, Items, Key};
 use osm_change::OpDone;
 use osm_element::Elements;

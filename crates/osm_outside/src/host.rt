@@ -1,4 +1,9 @@
 //! A host in memory.
+//!
+//! What was handed out and taken back is told by every port and host, each link and each port as
+//! it was then: the list is a value for contracts alone. Only the links to come stay optional,
+//! since a listener doesn't know them. A number says how many are out; to take one back needs that
+//! one is.
 ghost use Rattle.std.specs.Prelude.{◌≡◌, ◌+◌, ◌-◌, ◌++◌, ◌∷◌, [], ◌↔◌, vec_len, map, IfOk, IfSome, OnErr, Err, take};
 ghost use Rattle.osm_base.specs.declared.limits.TheConstants.{USERS_LIMIT};
 ghost use Rattle.osm_outside.specs.Told.{Rose};

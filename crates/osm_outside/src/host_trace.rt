@@ -1,4 +1,8 @@
 //! What was asked of a host, for contracts alone.
+//!
+//! A host tells the paths of the users texts and the addresses that it was asked for, in order and
+//! however each call ended, so that whoever calls it can say which those were. That the file at a
+//! path has the text that was given is trusted.
 ghost use Rattle.std.specs.Prelude.{◌≡◌, map};
 ghost use Rattle.std.specs.Borrow.{ftrue};
 ghost use Rattle.osm_outside.specs.Host.{HostAsked, none_asked, ask_at, listen_at, hand_ports, take_port};

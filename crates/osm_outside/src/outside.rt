@@ -1,5 +1,13 @@
 //! The traits of the outside. Each counts its faults, and a call fails only where its count rose.
 //! A link keeps for contracts, in one list, what its calls gave, took and told.
+//!
+//! Counts of faults are numbers of 64 bits that stand still at their end. "Rose" is the word of
+//! every contract: `min (before + 1) (2^64 - 1) ≤ now`.
+//!
+//! What is left to read stays optional: a link in memory knows it, and a link over a reader knows
+//! what the standard library says of that reader, which is nothing of a file or a socket. So a
+//! read that failed and is told as the end of input, or a write that failed and is told as done,
+//! is refused by the contracts of the adapters.
 ghost use Rattle.std.specs.Prelude.{◌≡◌, ◌+◌, ◌<◌, ◌≤◌, ◌∷◌, ◌++◌, [], length, map, take, vec_len, IfOk, IfSome, IsErr, OnErr, Some, Err};
 ghost use Rattle.std.specs.Io.KnownBytes.{ReadConsumes};
 ghost use Rattle.osm_base.specs.declared.limits.TheConstants.{USERS_LIMIT};

@@ -1,4 +1,6 @@
 //! A host over the system's files and network.
+//!
+//! A users file is read whole or to one byte past its limit, in pieces of 8,192 bytes.
 ghost use Rattle.std.specs.Prelude.{◌≡◌, ◌+◌, take, vec_len, IfOk, IfSome};
 ghost use Rattle.osm_base.specs.declared.limits.TheConstants.{USERS_LIMIT};
 

@@ -1,4 +1,7 @@
 //! The standard link, served by the one session of a new hub.
+//!
+//! `pipe` makes a hub of one session and closes it, so that the program has one way of serving.
+//! What it costs beside one book stands in docs/FIGURES.md.
 ghost use Rattle.std.specs.Prelude.{◌≡◌, ◌∷◌, [], vec_len, IfOk, OnErr};
 ghost use Rattle.osm_model.specs.declared.commands.Entry.{Entry};
 ghost use Rattle.snapshot_hub.specs.Known.{Known};

@@ -1,4 +1,7 @@
 //! Reading a journal's text and telling of its map.
+//!
+//! `replay` keeps its entries in a book, so beside the map the list of the entries is in memory.
+//! Of the text there is one line, and what was read at once.
 ghost use Rattle.std.specs.Prelude.{◌≡◌, IfOk, []};
 ghost use Rattle.osm_serve.specs.Replay.{AreReplayLines, Replays, status_of_input, status_of_text};
 ghost use Rattle.osm_serve.specs.Tell.{Tells};

@@ -1,4 +1,9 @@
 //! The requests of a load, sent to one desk.
+//!
+//! A load is sent to one desk that is switched to the session of each request, and a message is
+//! read of each request's bytes as of any link's; a request that no message begins would count as
+//! refused. A reply that tells of want of memory is told as refused, since it is one to its
+//! client.
 ghost use Rattle.std.specs.Prelude.{◌≡◌, IfOk};
 ghost use Rattle.api_desk.specs.Desk.{entries_of, users_of};
 ghost use Rattle.osm_serve.specs.Sending.{IsAnswered, IsSent, refuses, lacks_memory};

@@ -1,4 +1,7 @@
 //! The top call.
+//!
+//! Where there is no memory for the words of the command line the status is 5, and where they are
+//! no text it is 1: they have no reading.
 ghost use Rattle.std.specs.Prelude.{◌≡◌, [], map, string_bytes};
 ghost use Rattle.osm_words.specs.Words.{HaveSessions, reading_of, shown};
 ghost use Rattle.osm_serve.specs.Run.{Runs, ComesTo};

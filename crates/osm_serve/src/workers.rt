@@ -1,4 +1,10 @@
 //! Many workers over one new hub of the map.
+//!
+//! `serve_ports` makes the hub, seats the workers and closes the hub, by the seats, the users and
+//! the ports: what holds a hub can't be passed on by value in generic code, and whoever makes one
+//! has to be generic in its name. Its clause has the closing journal as the one that there is; a
+//! session's end is told there as `Closer::end` tells it. The ports come back in the list in which
+//! they came, also where memory is missing before the first link.
 ghost use Rattle.std.specs.Prelude.{◌≡◌, ◌+◌, ◌++◌, ◌≤◌, ℕ, List, map, vec_len, vec_capacity, IfOk, OnErr};
 ghost use Rattle.snapshot_hub.specs.Known.{newcomer};
 ghost use Rattle.link_workers.specs.Workers.{AllWork};

@@ -1,4 +1,8 @@
 //! The options in what `clap` found.
+//!
+//! A mirror's words have no command, and the address and the workers tell that it listens: both or
+//! none, and with them no moment, as the server's `serve` has none. `clap` is told all four
+//! options of one simple command, and which of them stand together is looked at behind it.
 ghost use Rattle.std.specs.Prelude.{◌≡◌, ◌≤◌, IfSome, Some, None, option_map, option_and_then};
 ghost use Rattle.clap.specs.Words.{first_of, found_of, rows_of};
 ghost use Rattle.osm_words.specs.Values.{text_of, number_in};

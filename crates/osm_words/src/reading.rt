@@ -1,4 +1,9 @@
 //! Reading the words.
+//!
+//! The words are read by one simple command of `clap` for each of the program's commands, with its
+//! help and version flags off; the definition is the matches that clap's own contract defines.
+//! `--` is tested before, since clap would take it. Values are checked by the program: numbers are
+//! digits alone, and what an address is the host says, not the words.
 ghost use Rattle.std.specs.Prelude.{◌≡◌, IfOk, map, string_bytes};
 ghost use Rattle.osm_words.specs.Words.{Gives, GivesLoad, GivesMirror, HasSessions, HaveSessions, HaveWorkers, reading_of, mirror_reading_of, command_reading, of_notes, shown, pipe_reading, serve_reading, load_reading, replay_reading, has_end_mark};
 

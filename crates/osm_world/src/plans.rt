@@ -1,4 +1,11 @@
 //! What an entry will need, found before it is taken.
+//!
+//! Room may be taken for any entry, accepted or not: for one that the rules never accept (no such
+//! changeset) the answer is want of memory. To apply an entry needs that the map takes it, in the
+//! word that legal journals use.
+//!
+//! Room of a cell is promised for each operation that brings a position, also where the node
+//! leaves that very cell; what wasn't used is taken back.
 ghost use Rattle.std.specs.Prelude.{◌≡◌, ◌+◌, ◌≤◌, [], ◌∷◌, ◌++◌, if◌then◌else◌, length, map, IfOk, OnOk};
 ghost use Rattle.osm_base.specs.Key.{key_eq, lists_key, IsRising};
 ghost use Rattle.osm_base.specs.Place.{Position};

@@ -1,4 +1,7 @@
 //! An accepted upload, done operation by operation.
+//!
+//! An entry is applied operation by operation over the present world, which tells then which uses
+//! end and begin and whether a delete is skipped. So what is laid by can be read off the entry.
 ghost use Rattle.std.specs.Prelude.{◌≡◌, ℕ, ◌+◌, ◌-◌, ◌≤◌, ◌<◌, ◌∷◌, ◌++◌, [], length, map, drop, Some, None, if◌then◌else◌};
 ghost use Rattle.osm_base.specs.Key.{key_eq};
 ghost use Rattle.osm_base.specs.Place.{Position};

@@ -1,4 +1,7 @@
 //! The map with its indexes: room for an entry, and its application.
+//!
+//! Whether a user may work on a changeset is asked of the world (`World::own_changeset`), by
+//! uploads and by other commands alike.
 ghost use Rattle.std.specs.Prelude.{◌≡◌, true, Some, None, Ok, Err, MatchOption, MatchResult, IfOk, IfErr, OnOk};
 ghost use Rattle.osm_base.specs.Key.{lists_key, IsRising};
 ghost use Rattle.osm_base.specs.declared.keys.Key.{Key};

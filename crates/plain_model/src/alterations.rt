@@ -1,4 +1,8 @@
 //! What an accepted command changes.
+//!
+//! What an accepted command changes is an `Alteration` in the plain program, the last stamp aside:
+//! it is judged on a state that stays as it is, and taken only once its answer has its last form.
+//! An edit is what a request asks for (`Edit` of api_desk).
 ghost use Rattle.std.specs.Prelude.{◌≡◌, ◌-◌, OnOk, OnErr, slice_get, Some};
 ghost use Rattle.plain_model.specs.Alteration.{state_after, CanTake};
 

@@ -1,4 +1,16 @@
 //! The plain program's journal.
+//!
+//! A command is judged before it is kept. `Journal::judge` gives the answer, its text is made, and
+//! only then `Journal::keep` changes anything. So want of memory for a reply's text never leaves a
+//! command in the journal that was answered 503.
+//!
+//! `Journal::judge` and `Journal::keep` stand beside `Journal::act`, which is the one after the
+//! other.
+//!
+//! The next call number of a session follows that of its last entry, since a legal journal numbers
+//! the calls of a session without a gap. The plain program looks for that entry from the journal's
+//! end and finds it at once where one session works on it; a book with counts of its own takes its
+//! place before many sessions come.
 ghost use Rattle.std.specs.Prelude.{◌≡◌, ◌<◌, ◌^◌, [], ◌∷◌, ◌++◌, IfOk, OnOk, OnErr};
 ghost use Rattle.osm_element.specs.Elements.{IsConsistent};
 ghost use Rattle.osm_element.specs.Later.{IsBegun};

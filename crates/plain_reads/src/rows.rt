@@ -1,4 +1,8 @@
 //! Rows of versions, borrowed from the map.
+//!
+//! A row is made where the version and its changeset are there, which a law says of each version
+//! that the rules ever make (`versions_are_attributed`). The definition leaves out what isn't
+//! there, so that it needs no arbitrary owner.
 ghost use Rattle.std.specs.Prelude.{◌≡◌, ◌++◌, ◌∷◌, [], filter_map, IfOk};
 ghost use Rattle.osm_model.specs.Ask.{element_row, element_rows};
 

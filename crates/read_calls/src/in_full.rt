@@ -1,4 +1,6 @@
 //! An element with what it lists.
+//!
+//! An element that lists itself is in its full read once, and isn't among its own users.
 ghost use Rattle.std.specs.Prelude.{◌≡◌, ◌++◌, if◌then◌else◌, [], true, map, filter, IfOk};
 ghost use Rattle.osm_base.specs.Key.{lists_key};
 ghost use Rattle.osm_base.specs.declared.keys.Key.{Key};

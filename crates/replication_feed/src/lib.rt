@@ -1,4 +1,7 @@
 //! The journal as a feed: its entries as numbered pieces, which a consumer follows by their numbers.
+//!
+//! The feed's pieces stand on the journal's text and not on the indexed world: a piece needs no
+//! map, and what pieces replay to is said by the definition of a replay.
 #![tactic(auto)]
 
 mod faults;

@@ -1,4 +1,9 @@
 //! The piece of a text.
+//!
+//! A piece of the feed is read from both ends. What stands round its line and its number is fixed,
+//! so the line is what is left between, and `read_entry` tells whether it is one: the piece isn't
+//! written again. Its number is the digits at the end, and they must be those that are written of
+//! their value, so that a piece has one text.
 ghost use Rattle.std.specs.Prelude.{◌≡◌, ℕ, ◌≤◌, ◌<◌, ◌^◌, ◌++◌, List, true, IfOk, IfSome, MatchOption};
 ghost use Rattle.std.specs.List.{list_all};
 ghost use Rattle.std.specs.Char.{is_ascii_digit};

@@ -1,4 +1,9 @@
 //! The parameters of a query.
+//!
+//! A box is read from bytes, so a value that is no text is no box. Digits past the seventh are cut
+//! off and not rounded.
+//!
+//! The moment is a number as in a path, so 0 is none; what a clock at 0 made is read by 1.
 ghost use Rattle.std.specs.Prelude.{◌≡◌, IfOk, Some};
 ghost use Rattle.std.specs.Option.{option_copied, option_map};
 ghost use Rattle.std.specs.List.{find, before_first, after_first};

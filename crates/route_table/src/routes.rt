@@ -1,4 +1,8 @@
 //! The table of routes.
+//!
+//! Which path a target has is what the search of `matchit` finds over the table of paths, and the
+//! parts of a path are those of its match. So `node/1/full` is read as a version, and is a bad
+//! number.
 ghost use Rattle.std.specs.Prelude.{◌≡◌, [], slice_index_or, Some, None, MatchOption, IfOk, IsAscii};
 ghost use Rattle.std.specs.Option.{option_copied};
 ghost use Rattle.matchit.specs.Router.{RouteOf};

@@ -1,4 +1,6 @@
 //! A target as its path and its query.
+//!
+//! A query that is absent has no parts; an empty one has one, with an empty name.
 ghost use Rattle.std.specs.Prelude.{◌≡◌, IfSome, IsAscii};
 ghost use Rattle.std.specs.Option.{option_copied};
 ghost use Rattle.std.specs.List.{list_all, before_first, ends_with};

@@ -1,5 +1,9 @@
 //! Rows of `serve`, of a mirror that listens and of `serve-notes`: whole runs with workers on ports in
 //! memory, links that break off, and workers on a listener of the system.
+//!
+//! The rows of `serve` compare replies, not the journal, which the program doesn't hand out: the
+//! numbers of the changesets that all links created are 1, 2, 3 and so on, each once, and rise
+//! along the links of a worker.
 #![tactic(auto)]
 
 mod crossing;

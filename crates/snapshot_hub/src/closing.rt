@@ -1,4 +1,7 @@
 //! The end of a hub.
+//!
+//! An end is never want of memory. The closer has the whole journal and takes no look at a copy,
+//! so `Unmatched` tells the length of the journal.
 ghost use Rattle.std.specs.Prelude.{◌≡◌, ◌+◌, ◌≤◌, ◌<◌, ◌++◌, ◌∷◌, [], length};
 ghost use mathlib.Core.List.{IsPrefix};
 ghost use Rattle.hub_core.specs.Journal.{calls_of, IsJournal};

@@ -1,4 +1,9 @@
 //! The held value under its lock.
+//!
+//! A part of the journal is copied under the lock, before it is published. A session's front tells
+//! how many entries it has seen and holds none of them, so copies come from the book. They come
+//! first, so that want of memory leaves the session and what is published as they were. No more is
+//! copied than is asked for.
 ghost use Rattle.std.specs.Prelude.{◌≡◌, ℕ, ◌⊎◌, ◌+◌, ◌≤◌, ◌<◌, [], Some, false, true, length, List, IfOk, OnOk, OnErr, IfSome, slice_get, take, drop};
 ghost use Rattle.std.specs.Sync.Mutex.{mutex_guard_value};
 ghost use mathlib.Core.List.{IsPrefix};

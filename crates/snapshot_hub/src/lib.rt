@@ -1,4 +1,8 @@
 //! Sessions that read published copies of a machine's world, and commit to one journal under a lock.
+//!
+//! Two more type parameters, the copy (`Shown` is the one that there is) and the writer's runtime:
+//! a struct that is generic in its machine can hold a writer of a bounded type alone. Layers above
+//! write aliases.
 #![tactic(auto)]
 
 mod closing;

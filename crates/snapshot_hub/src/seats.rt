@@ -1,4 +1,9 @@
 //! Seats, of which a hub is made.
+//!
+//! A hub's name says how many sessions it has (`HubName`, beside the list), a session's number is
+//! below that, and the value under the lock has entries of no other session. So the closing
+//! journal is known to be the calls of the hub's sessions and nothing else, though what lies under
+//! a lock is known by its type alone.
 ghost use Rattle.std.specs.Prelude.{◌≡◌, ◌<◌, ◌≤◌};
 ghost use Rattle.osm_base.specs.declared.limits.TheConstants.{SESSION_LIMIT};
 

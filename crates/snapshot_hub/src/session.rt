@@ -1,4 +1,8 @@
 //! A session of a hub, and what it does without the lock.
+//!
+//! `Session::ask` and `Session::plan` take no hub. The reader's guard is the session's own, so
+//! neither can wait for the lock. `plan` takes the gate that is told of it. Both take the count of
+//! steps, as the machine does.
 ghost use Rattle.std.specs.Prelude.{◌≡◌, ◌<◌, ◌+◌, ◌≤◌, [], false, length, IfOk, IsTrue, ◌↔◌, List};
 ghost use mathlib.Core.List.{IsPrefix};
 ghost use Rattle.machine_law.specs.Rules.{replay};

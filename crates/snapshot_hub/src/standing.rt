@@ -1,4 +1,7 @@
 //! Where a session stands: all of it but its place among the readers.
+//!
+//! A session's standing is one record (number, front, calls, owes, debts, anchor), and each call
+//! says by one equation what it made of it: what it doesn't name stays.
 ghost use Rattle.std.specs.Prelude.{◌≡◌, ◌⊎◌, ◌+◌, ◌<◌, ◌^◌, [], true, false, length};
 ghost use mathlib.Core.List.{IsPrefix};
 ghost use Rattle.machine_law.specs.Rules.{is_legal};

@@ -1,4 +1,10 @@
 //! What lies under the lock.
+//!
+//! A follower takes its entry before the shared list does, since `take` judges and keeps in one
+//! call. To add to the list takes no memory, and its room is tested before. Contracts can't say
+//! that the list under the lock is the whole list, so the case that it is longer has a branch: the
+//! value isn't asked any more, and each message gets 503. No run has shown it. The server's hub
+//! takes its lock again there; a mirror may answer any message with 503.
 ghost use Rattle.std.specs.Prelude.{◌≡◌, ◌<◌, ◌^◌, length, IsTrue, IfOk};
 ghost use Rattle.osm_base.specs.Status.{IsStatus};
 ghost use Rattle.http_link.specs.Desk.{counted_reply};

@@ -1,4 +1,7 @@
 //! Many workers over one list.
+//!
+//! The one list is the longest front of the workers' desks. What the lock holds at the end needs
+//! no looking at: all fronts begin one list, so the longest is begun by each.
 ghost use Rattle.std.specs.Prelude.{◌≡◌, ◌⊎◌, [], map, vec_len, replicate, IfOk, OnErr};
 ghost use Rattle.std.specs.List.{AllByRecursion};
 ghost use mathlib.Core.List.{IsPrefix};

@@ -1,4 +1,6 @@
 //! The cells of the globe.
+//!
+//! A position on an edge between cells lies in the cell to the north and east.
 ghost use Rattle.std.specs.Prelude.{◌≡◌};
 
 use osm_base::{Box7, Coord};

@@ -1,4 +1,7 @@
 //! Nodes by their cells.
+//!
+//! A grid counts how often an id is placed in a cell; that it is placed once is the indexed map's
+//! invariant.
 ghost use Rattle.std.specs.Prelude.{◌≡◌, ◌==◌, ◌&&◌, ◌||◌, [], ℕ, true, ◌+◌, ◌-◌, ◌<◌, ◌≤◌, length, count_by, slice_index_or, is_ok, if◌then◌else◌, OnOk, OnErr, IfOk};
 ghost use Rattle.std.specs.List.{list_any};
 ghost use Rattle.std.specs.List.Sorted.{IsStrictlyIncreasing};

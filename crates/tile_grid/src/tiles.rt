@@ -1,4 +1,11 @@
 //! The nodes of one cell.
+//!
+//! A cell's ids stand in no order, so a node is placed and taken out without moving others; a
+//! box's ids are sorted once when they are asked for. Cells are made with room, and stay when
+//! their last node leaves.
+//!
+//! A cell looks through its ids when one is taken out. A million nodes in one cell make each move
+//! there a walk; places where so many lie in 0.01 by 0.01 degrees are not expected.
 ghost use Rattle.std.specs.Prelude.{◌≡◌, ◌==◌, ℕ, true, ◌+◌, ◌-◌, ◌<◌, ◌≤◌, ◌∷◌, [], ◌++◌, length, count_by, slice_index, is_ok, if◌then◌else◌};
 ghost use Rattle.tile_grid.specs.Tile.{no_tile, times_in};
 

@@ -1,5 +1,9 @@
 //! What a version more of an element makes of where elements stand: how many versions it has, what
 //! it holds, and how many users others have.
+//!
+//! Users are counted, not listed. An operation takes its element's old references from their
+//! numbers and adds the new ones; whether an element is used is all that a delete asks. The least
+//! user is looked for only where a refusal names it, and that ends the upload.
 ghost use Rattle.std.specs.Prelude.{◌≡◌, ◌+◌, ◌<◌, true, if◌then◌else◌, IfOk, OnOk, OnErr};
 ghost use Rattle.osm_base.specs.Key.{key_eq, IsRising};
 ghost use Rattle.osm_base.specs.declared.keys.Key.{Key};

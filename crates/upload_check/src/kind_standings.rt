@@ -1,4 +1,9 @@
 //! Where the elements of one kind stand.
+//!
+//! Where created elements stand is kept in a list for each kind, since their ids rise by one from
+//! the world's next id; only older elements stand in a map by id. So a look at a created element
+//! takes the same time however many an upload creates, and no id that a client chooses lengthens a
+//! list.
 ghost use Rattle.std.specs.Prelude.{◌≡◌, ℕ, ◌<◌, ◌≤◌, ◌==◌, true, [], Option, None, Some, is_some, if◌then◌else◌, length, slice_get, OnOk, OnErr};
 ghost use Rattle.std.specs.Map.{lookup};
 ghost use Rattle.std.specs.Ordering.{nat_cmp};

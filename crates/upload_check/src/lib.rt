@@ -1,6 +1,9 @@
 //! Uploads on the map with its indexes, without a copy or a change of it (OpenStreetMap wiki, API
 //! v0.6, "Diff upload"): judged once, when they are planned, and settled on a later map as long as
 //! nothing that they looked at has changed.
+//!
+//! A command is judged at a stamp that the map gives: the stamp of a moment, or that of an entry
+//! which may come next.
 #![tactic(auto)]
 
 mod acceptance;

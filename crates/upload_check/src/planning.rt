@@ -1,4 +1,7 @@
 //! Planning an upload: its operations are judged, and what they look at is kept.
+//!
+//! A plan is judged before its changeset is tested, so an upload to a closed changeset costs its
+//! steps. The changeset's tests belong to the map of the commit.
 ghost use Rattle.std.specs.Prelude.{◌≡◌, ℕ, ◌+◌, ◌<◌, ◌≤◌, ◌^◌, List, [], ◌∷◌, ◌++◌, length, IfOk, OnOk};
 ghost use Rattle.osm_change.specs.Change.{IsWellFormed, names_given};
 ghost use Rattle.osm_change.specs.declared.operations.Op.{Op};

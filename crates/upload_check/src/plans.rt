@@ -1,4 +1,8 @@
 //! Uploads as they are asked for, and their plans.
+//!
+//! A plan owns what is asked for (`UploadCmd`), since it outlives the request, and the entry is
+//! copied from it once it is accepted: nothing of a refused upload is copied but by a second plan.
+//! Whoever follows a journal asks `accepts_upload`, which is lent the change and keeps no plan.
 use osm_base::{Box7, Items, Memory, TryCopy, User};
 use osm_change::{Change, OpDones, Refusal};
 use osm_later::{CountLook, UsersLook};

@@ -1,4 +1,7 @@
 //! What contents list.
+//!
+//! References are sorted in a list that is kept from one operation to the next, so an operation
+//! makes no list of names.
 ghost use Rattle.std.specs.Prelude.{◌≡◌, ◌++◌, map, OnOk};
 ghost use Rattle.std.specs.List.{list_any};
 ghost use Rattle.osm_base.specs.Key.{key_eq, lists_key};

@@ -1,4 +1,10 @@
 //! One line of a users text.
+//!
+//! A byte 13 is cut only before a byte 10. A last line without byte 10 keeps its 13.
+//!
+//! A line that begins with a space isn't skipped: it is no user, and a fault.
+//!
+//! The line of that moment may stand anywhere in the text, before the users or between them.
 ghost use Rattle.std.specs.Prelude.{◌≡◌, true, length};
 ghost use Rattle.std.specs.List.{list_all};
 ghost use Rattle.std.specs.Str.{chars};
