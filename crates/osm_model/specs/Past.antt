@@ -1,15 +1,17 @@
 -- The map as it was at a stamp: what had been made by then, with the marks that versions bear now.
-use Rattle.std.specs.Prelude.{ℕ, Bool, false, nat_le, ◌&&◌, List, [], ◌∷◌, map, filter, None, Result, Ok}
+use Rattle.std.specs.Prelude.{ℕ, Bool, false, nat_le, ◌&&◌, ◌||◌, if◌then◌else◌, List, [], ◌∷◌, map, filter, None, Result, Ok}
+use Rattle.std.specs.List.{list_any}
+use Rattle.osm_base.specs.Key.{key_eq, lists_key}
 use Rattle.osm_base.specs.Outcome.{◌>>=◌}
 use Rattle.osm_base.specs.declared.keys.Key.{Key}
-use Rattle.osm_element.specs.Elements.{count, is_visible, keys}
+use Rattle.osm_element.specs.Elements.{count, is_visible, keys, refs_of}
 use Rattle.osm_element.specs.declared.elements.Elements.{Elements}
 use Rattle.osm_element.specs.declared.versions.Version.{Version}
 use Rattle.osm_change.specs.declared.reads.ReadFault.{ReadFault}
 use Rattle.osm_change.specs.declared.reads.Shown.{Shown}
 use Rattle.osm_model.specs.declared.commands.Entry.{Entry}
 use Rattle.osm_model.specs.declared.states.State.{State}
-use Rattle.osm_model.specs.Reads.{current_shown, one, numbered, is_shown, in_full}
+use Rattle.osm_model.specs.Reads.{current_shown, one, numbered, is_shown, is_way, way_refs}
 
 -- ---- what there was
 
@@ -71,9 +73,21 @@ is_last_shown E k = is_visible E k && is_shown E k false (count E k)
 abbrev pub one_unmarked : Elements → Key → Result Shown ReadFault
 one_unmarked E k = one E k >>= λ itself. numbered E k (count E k) false
 
--- with what it lists and the nodes of the ways that it lists: those of them that are shown
+-- what a way that is shown lists, and nothing for another element
+abbrev pub shown_way_refs : Elements → Key → List Key
+shown_way_refs E k = if is_last_shown E k then way_refs E k else []
+
+-- one of the ways that an element lists, and that are shown, lists the key
+abbrev pub shown_way_lists : Elements → Key → Key → Bool
+shown_way_lists E k x = list_any (λ w. is_last_shown E w && (is_way w && lists_key (refs_of E w) x)) (refs_of E k)
+
+-- itself, what it lists, and the nodes of those ways that it lists that are shown
+abbrev pub in_full_unmarked : Elements → Key → Key → Bool
+in_full_unmarked E k x = key_eq x k || (lists_key (refs_of E k) x || shown_way_lists E k x)
+
+-- Those of them that are shown. A way with a mark is hidden with what it lists.
 abbrev pub full_unmarked : Elements → Key → Result (List Shown) ReadFault
-full_unmarked E k = one_unmarked E k >>= λ itself. Ok (map (current_shown E) (filter (λ x. in_full E k x && is_last_shown E x) (keys E)))
+full_unmarked E k = one_unmarked E k >>= λ itself. Ok (map (current_shown E) (filter (λ x. in_full_unmarked E k x && is_last_shown E x) (keys E)))
 
 abbrev pub one_at : State → Key → ℕ → Result Shown ReadFault
 one_at P k t = one_unmarked (past P t).elements k

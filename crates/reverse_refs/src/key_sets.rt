@@ -1,6 +1,6 @@
 //! A set of keys in order, with promised room.
-ghost use Rattle.std.specs.Prelude.{◌≡◌, ◌+◌, ◌-◌, ◌<◌, ◌≤◌, [], false, length, insert, position as position_of, OnOk, OnErr, IfSome};
-ghost use Rattle.osm_base.specs.Key.{key_lt, lists_key, insert_key, without_key, IsRising};
+ghost use Rattle.std.specs.Prelude.{◌≡◌, ◌+◌, ◌-◌, ◌<◌, ◌≤◌, [], false, length, insert, OnOk, OnErr};
+ghost use Rattle.osm_base.specs.Key.{lists_key, insert_key, without_key, IsRising};
 
 use osm_base::{Key, Memory, Roomy};
 use std::alloc::Global;
@@ -90,27 +90,19 @@ fn drop_key(keys: &mut Roomy<Key>, key: Key)
 }
 
 fn insert_key(keys: &mut Roomy<Key>, key: Key)
-    requires { 0 < keys.old.free }
+    requires room { 0 < keys.old.free }
+    requires rising { IsRising keys.old.items }
     ensures { keys.new ≡ record { items = insert_key keys.old.items key; free = keys.old.free - 1 } }
 {
     let place = place_of(keys.items(), key);
     keys.insert(place, key);
 }
 
-/// Where a key goes.
+/// Where a key goes in a list that is in order, found by halving.
 fn place_of(sorted: &[Key], key: Key) -> usize
+    requires { IsRising sorted.now }
     ensures place { insert sorted.now result key ≡ insert_key sorted.now key }
     ensures within { result ≤ length sorted.now }
 {
-    match first_after(sorted, key) {
-        Some(place) => place,
-        None => sorted.len(),
-    }
-}
-
-fn first_after(sorted: &[Key], key: Key) -> Option<usize>
-    ensures place { result ≡ position_of (λ x. key_lt key x) sorted.now }
-    ensures within { IfSome result (λ place. place < length sorted.now) }
-{
-    sorted.iter().position(|other| key.is_before(*other))
+    sorted.partition_point(|other| !key.is_before(*other))
 }
