@@ -10,7 +10,7 @@ use Rattle.http_wire.specs.declared.message.Message.{Message}
 use Rattle.http_link.specs.declared.desk.Reply.{Reply}
 use Rattle.user_table.specs.Users.{Users}
 use Rattle.snapshot_hub.specs.Known.{Known}
-use Rattle.hub_answers.specs.Steps.{place_at, told, Answers as AnswersBy}
+use Rattle.session_desk.specs.Steps.{place_at, told, Answers as AnswersBy}
 use Rattle.api_desk.specs.Answered.{IsRow}
 use Rattle.api_desk.specs.Answers.{reply_of, Answers}
 use Rattle.api_desk.specs.Feed.{says}

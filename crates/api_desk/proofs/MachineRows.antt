@@ -11,8 +11,8 @@ use Rattle.osm_model.specs.Journal.{entry_of}
 use Rattle.osm_model.specs.declared.commands.Command.{Command}
 use Rattle.osm_model.specs.declared.commands.Entry.{Entry}
 use Rattle.osm_model.specs.declared.queries.Query.{Query}
-use Rattle.hub_answers.specs.Answered.{RefusesRequest, LacksMemory, IsOwed, RefusesCommand, AcceptsCommand, AnswersQuery}
-use Rattle.hub_answers.specs.Answered.{IsRow as IsRowBy, Place as Step}
+use Rattle.session_desk.specs.Rows.{RefusesRequest, LacksMemory, IsOwed, RefusesCommand, AcceptsCommand, AnswersQuery}
+use Rattle.session_desk.specs.Rows.{IsRow as IsRowBy, Place as Step}
 use Rattle.api_desk.specs.Machine.{map_rules, bytes_of, entry_if}
 use Rattle.api_desk.specs.MachineRows.{asked_of, place_of, HasRow}
 

@@ -5,9 +5,9 @@ use Rattle.osm_model.specs.Journal.{calls_of}
 use Rattle.osm_model.specs.declared.commands.Entry.{Entry}
 use Rattle.osm_model.specs.declared.queries.Query.{Query}
 use Rattle.snapshot_hub.specs.Known.{Known, caught_up}
-use Rattle.hub_answers.specs.Answered.{Request, Place, IsRow}
-use Rattle.hub_answers.specs.Answered.Request.{Refused, Does, Reads}
-use Rattle.hub_answers.specs.Steps.{place_at, Answers}
+use Rattle.session_desk.specs.Rows.{Request, Place, IsRow}
+use Rattle.session_desk.specs.Rows.Request.{Refused, Does, Reads}
+use Rattle.session_desk.specs.Steps.{place_at, Answers}
 use Rattle.api_desk.specs.Machine.{map_rules}
 use Rattle.api_desk.specs.declared.requests.Asked.{Asked}
 use Rattle.api_desk.specs.HubDesk.{IsSettled, IsFresh}

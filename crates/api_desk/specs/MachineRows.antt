@@ -5,8 +5,8 @@ use Rattle.osm_change.specs.declared.answers.Answer.TheVariants as answers
 use Rattle.osm_model.specs.Answered.{Request, refused, does, reads, Place, IsRow}
 use Rattle.osm_model.specs.declared.commands.Entry.{Entry}
 use Rattle.osm_model.specs.declared.queries.Query.{Query}
-use Rattle.hub_answers.specs.Answered.{Request as Call, Place as Step}
-use Rattle.hub_answers.specs.Answered.Request.{Refused, Does, Reads}
+use Rattle.session_desk.specs.Rows.{Request as Call, Place as Step}
+use Rattle.session_desk.specs.Rows.Request.{Refused, Does, Reads}
 use Rattle.http_link.specs.declared.desk.Reply.{Reply}
 use Rattle.api_desk.specs.Answers.{reply_of}
 use Rattle.api_desk.specs.Feed.{says}

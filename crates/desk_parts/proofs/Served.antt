@@ -6,15 +6,15 @@ use Rattle.http_wire.specs.declared.message.Message.{Message}
 use Rattle.http_link.specs.declared.desk.Reply.{Reply}
 use Rattle.http_link.specs.Desk.{counted_reply}
 use Rattle.machine_law.specs.Rules.{Rules}
-use Rattle.hub_answers.specs.Answered.{Request}
-use Rattle.hub_answers.specs.Answered.Request.{Refused}
-use Rattle.hub_answers.specs.Steps.{Answers}
+use Rattle.session_desk.specs.Rows.{Request}
+use Rattle.session_desk.specs.Rows.Request.{Refused}
+use Rattle.session_desk.specs.Steps.{Answers}
 use Rattle.snapshot_hub.specs.Known.{Known}
 use Rattle.user_table.specs.Users.{Users}
 use Rattle.session_desk.specs.Answered.{Replies}
+use Rattle.session_desk.specs.Laws.{nothing_answered, refusal_answered}
 use Rattle.desk_parts.specs.Answered.{AnswersMessage}
 use Rattle.desk_parts.specs.Replies.{reply_of}
-use Rattle.desk_parts.proofs.Settled.{answers_nothing, answers_refusal}
 
 module _ {S C Q P E K : Type 0} (rules : Rules S C Q P E K) (request_of : Users → Message → Request C Q) where
   pub request_replied : (users : Users) (old new : Known E) (message : Message) (request : Request C Q) (moment : ℕ) (bytes : Option (List ℕ)) (reply : Reply)
@@ -29,11 +29,11 @@ module _ {S C Q P E K : Type 0} (rules : Rules S C Q P E K) (request_of : Users 
 
   pub nothing_replied : (users : Users) (it : Known E) (message : Message) (moment : ℕ) → Replies (AnswersMessage rules request_of) users it message moment (reply_of None) it
   nothing_replied users it message moment =
-      request_replied users it it message (request_of users message) moment None (reply_of None) refl (answers_nothing rules it it (request_of users message) moment refl) refl
+      request_replied users it it message (request_of users message) moment None (reply_of None) refl (nothing_answered rules it it (request_of users message) moment refl) refl
 
   pub refusal_replied : (users : Users) (it : Known E) (message : Message) (moment : ℕ) (answer : List ℕ) (result : Result Reply Memory)
       → request_of users message ≡ Refused answer → IfOk result (λ reply. reply ≡ reply_of (Some answer))
       → Replies (AnswersMessage rules request_of) users it message moment (counted_reply result) it
   refusal_replied users it message moment answer (Ok reply) asks told =
-      request_replied users it it message (Refused answer) moment (Some answer) reply asks (answers_refusal rules it answer moment) told
+      request_replied users it it message (Refused answer) moment (Some answer) reply asks (refusal_answered rules it answer moment) told
   refusal_replied users it message moment answer (Err memory) asks told = nothing_replied users it message moment

@@ -1,6 +1,5 @@
 //! What desks have in common, whatever machine they stand before: who sent a message, whether its
-//! body is XML, how its faults are told, the reply that the bytes of an answer tell, and requests
-//! that are answered once a session owes nothing.
+//! body is XML, how its faults are told, and the reply that the bytes of an answer tell.
 #![tactic(auto)]
 
 mod bytes;
@@ -8,10 +7,8 @@ mod callers;
 mod faults;
 mod media;
 mod replies;
-mod sessions;
 
 pub use callers::{caller_of, owner_of};
 pub use faults::RequestFault;
 pub use media::is_xml;
 pub use replies::{refusal_reply, reply_from};
-pub use sessions::{command_bytes, freshen, query_bytes};

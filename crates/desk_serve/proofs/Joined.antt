@@ -6,8 +6,8 @@ use Rattle.http_link.specs.Exchange.{Exchange}
 use Rattle.link_workers.specs.Port.{Visit, ServesEach}
 use Rattle.link_workers.specs.Joined.{all_of}
 use Rattle.machine_law.specs.Rules.{Rules}
-use Rattle.hub_answers.specs.Answered.{Place}
-use Rattle.hub_answers.specs.Steps.{place_at}
+use Rattle.session_desk.specs.Rows.{Place}
+use Rattle.session_desk.specs.Steps.{place_at}
 use Rattle.snapshot_hub.specs.Known.{Known, seeing}
 use Rattle.user_table.specs.Users.{Users}
 use Rattle.session_desk.specs.Answered.{AtDesk, RowOf, IsFresh, AreAnswered, HasServed}

@@ -130,7 +130,7 @@ impl<M: Machine> Book<M> {
     ) -> Result<Option<u64>, Memory>
         requires fits { IfSome entry (λ e. (M.rules.takes (replay M.rules self.old) e ≡ true) × (M.rules.tag_of e ≡ tag)) }
         requires next { tag.call ≡ calls_of M.rules.tag_of tag.session self.old + 1 }
-        requires welcome { (entry : M.Entry) → M.rules.takes (replay M.rules self.old) entry ≡ true → O.welcomes outlet.old entry }
+        requires welcome { (entry : M.Entry) → M.rules.takes (replay M.rules self.old) entry ≡ true → M.rules.tag_of entry ≡ tag → O.welcomes outlet.old entry }
         ensures entered { OnOk result (self.new ≡ extended self.old entry) }
         ensures placed { IfOk result (λ place. place ≡ place_of self.old entry) }
         ensures offers { IfOk result (λ place. MatchOption place ((self.new ≡ self.old) × (outlet.new ≡ outlet.old))
@@ -159,7 +159,7 @@ impl<M: Machine> Book<M> {
     ) -> Result<Done<M::Look>, Memory>
         requires made { IsMadeBefore M.rules plan self.old }
         requires next { tag.call ≡ calls_of M.rules.tag_of tag.session self.old + 1 }
-        requires welcome { (entry : M.Entry) → M.rules.takes (replay M.rules self.old) entry ≡ true → O.welcomes outlet.old entry }
+        requires welcome { (entry : M.Entry) → M.rules.takes (replay M.rules self.old) entry ≡ true → M.rules.tag_of entry ≡ tag → O.welcomes outlet.old entry }
         ensures acts { (made : List M.Entry) (command : M.Command) → IsPrefix made self.old → M.rules.planned (replay M.rules made) command plan
             → IfOk result (λ done. IsDone (M.rules.act (replay M.rules self.old) tag moment command) self.old self.new done.answer done.place) }
         ensures offers { IfOk result (λ done. MatchOption done.place ((self.new ≡ self.old) × (outlet.new ≡ outlet.old))

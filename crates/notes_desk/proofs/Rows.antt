@@ -7,7 +7,7 @@ use Rattle.osm_base.specs.Place.{Area}
 use Rattle.osm_change.specs.declared.refusals.Refusal.TheVariants.{NoUser, Xml, NoPath, WrongMethod, BadNumber, BadParameter, NotJson, Shape, Local}
 use Rattle.osm_element.specs.declared.faults.LocalFault.TheVariants.{Position}
 use Rattle.http_wire.specs.declared.message.Message.{Message}
-use Rattle.hub_answers.specs.Answered.Request.{Does, Reads}
+use Rattle.session_desk.specs.Rows.Request.{Does, Reads}
 use Rattle.notes_core.specs.declared.commands.NoteCommand.TheVariants.{OpenNote, CloseNote}
 use Rattle.notes_core.specs.declared.commands.NoteQuery.TheVariants.{One, Within}
 use Rattle.serde_json.proofs.OnLiterals.{serde_json_on_literals}

@@ -4,8 +4,8 @@ use Rattle.osm_base.specs.Stamp.{stamp_after}
 use Rattle.serde_json.specs.Written.{compact_text}
 use Rattle.osm_json.specs.Shown.{document, list_of}
 use Rattle.machine_law.specs.Rules.{replay}
-use Rattle.hub_answers.specs.Answered.{Place, RefusesCommand, AcceptsCommand, LacksMemory, IsOwed, AnswersQuery, IsRow}
-use Rattle.hub_answers.specs.Steps.{place_at, Answers}
+use Rattle.session_desk.specs.Rows.{Place, RefusesCommand, AcceptsCommand, LacksMemory, IsOwed, AnswersQuery, IsRow}
+use Rattle.session_desk.specs.Steps.{place_at, Answers}
 use Rattle.notes_core.specs.Act.{Effect, judge, known}
 use Rattle.notes_core.specs.Machine.{note_rules}
 use Rattle.notes_core.specs.Search.{Numbered, found, numbered}

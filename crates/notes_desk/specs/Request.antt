@@ -5,8 +5,8 @@ use Rattle.osm_base.specs.declared.people.User.{User}
 use Rattle.osm_change.specs.declared.refusals.Refusal.{Refusal}
 use Rattle.osm_change.specs.declared.refusals.Refusal.TheVariants.{NoUser, Xml}
 use Rattle.http_wire.specs.declared.message.Message.{Message}
-use Rattle.hub_answers.specs.Answered.{Request}
-use Rattle.hub_answers.specs.Answered.Request.{Refused, Does, Reads}
+use Rattle.session_desk.specs.Rows.{Request}
+use Rattle.session_desk.specs.Rows.Request.{Refused, Does, Reads}
 use Rattle.notes_core.specs.declared.commands.NoteAsked.{NoteAsked}
 use Rattle.notes_core.specs.declared.commands.NoteQuery.{NoteQuery}
 use Rattle.user_table.specs.Users.{Users}

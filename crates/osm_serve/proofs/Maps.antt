@@ -4,8 +4,8 @@ use Rattle.osm_outside.specs.Told.{Told}
 use Rattle.osm_model.specs.declared.commands.Entry.{Entry}
 use Rattle.http_link.specs.declared.end.LinkEnd.{LinkEnd}
 use Rattle.http_link.specs.Exchange.{Exchange}
-use Rattle.hub_answers.specs.Answered.{Place as Step}
-use Rattle.hub_answers.specs.Steps.{place_at}
+use Rattle.session_desk.specs.Rows.{Place as Step}
+use Rattle.session_desk.specs.Steps.{place_at}
 use Rattle.snapshot_hub.specs.Known.{Known}
 use Rattle.snapshot_hub.specs.declared.ends.End.{End}
 use Rattle.snapshot_hub.specs.declared.ends.End.TheVariants.{Matched, Unmatched}

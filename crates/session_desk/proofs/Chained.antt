@@ -4,8 +4,8 @@ use mathlib.Core.List.{IsPrefix}
 use Rattle.http_wire.specs.declared.message.Message.{Message}
 use Rattle.http_link.specs.declared.desk.Reply.{Reply}
 use Rattle.http_link.specs.Exchange.{Exchange, Chain}
-use Rattle.hub_answers.specs.Answered.{Place}
-use Rattle.hub_answers.specs.Steps.{place_at}
+use Rattle.session_desk.specs.Rows.{Place}
+use Rattle.session_desk.specs.Steps.{place_at}
 use Rattle.snapshot_hub.specs.Known.{Known}
 use Rattle.user_table.specs.Users.{Users}
 use Rattle.session_desk.specs.Answered.{RowOf, RowsStay, AtDesk, Allows, AreAnswered, HasServed}

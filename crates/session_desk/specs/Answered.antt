@@ -1,12 +1,12 @@
 -- What a session of a hub is answered, message by message, whatever machine the hub has.
-use Rattle.std.specs.Prelude.{◌≡◌, ℕ, ◌≤◌, List, [], ◌∷◌, length}
+use Rattle.std.specs.Prelude.{◌≡◌, ℕ, ◌≤◌, false, List, [], ◌∷◌, length}
 use mathlib.Core.List.{IsPrefix}
 use Rattle.http_wire.specs.declared.message.Message.{Message}
 use Rattle.http_link.specs.declared.desk.Reply.{Reply}
 use Rattle.http_link.specs.Exchange.{Exchange}
 use Rattle.machine_law.specs.Rules.{Rules}
-use Rattle.hub_answers.specs.Answered.{Place}
-use Rattle.hub_answers.specs.Steps.{place_at}
+use Rattle.session_desk.specs.Rows.{Place}
+use Rattle.session_desk.specs.Steps.{place_at}
 use Rattle.hub_core.specs.Journal.{calls_of}
 use Rattle.snapshot_hub.specs.Known.{Known, caught_up}
 use Rattle.user_table.specs.Users.{Users}
@@ -59,3 +59,13 @@ module _ {E : Type 0} (row : RowOf E) where
   abbrev pub RowsStay : Type 0
   RowsStay = (users : Users) (session : ℕ) (F G : List E) (before after : Place) (message : Message) (moment : ℕ) (reply : Reply)
       → IsPrefix F G → after.point ≤ length F → row users session F before message moment reply after → row users session G before message moment reply after
+
+-- ---- for private clauses
+
+-- The session owes nothing, and no request was answered: its front may be longer.
+pub record IsSettled {E : Type 0} (old new : Known E) : Type 0 where
+  pub begins : IsPrefix old.front new.front
+  pub number : new.number ≡ old.number
+  pub calls : new.calls ≡ old.calls
+  pub debts : new.debts ≡ old.debts
+  pub owes : new.owes ≡ false

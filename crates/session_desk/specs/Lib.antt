@@ -1,1 +1,4 @@
+pub mod Rows
+pub mod Steps
 pub mod Answered
+pub mod Laws

@@ -2,7 +2,7 @@
 ghost use Rattle.std.specs.Prelude.{◌≡◌, ◌≤◌, ◌++◌, ℕ, List, length};
 ghost use mathlib.Core.List.{IsPrefix};
 ghost use Rattle.http_link.specs.Exchange.{Exchange, Chain};
-ghost use Rattle.hub_answers.specs.Steps.{place_at};
+ghost use Rattle.session_desk.specs.Steps.{place_at};
 ghost use Rattle.snapshot_hub.specs.Known.{Known};
 ghost use Rattle.user_table.specs.Users.{Users};
 ghost use Rattle.session_desk.specs.Answered.{AreAnswered, HasServed};

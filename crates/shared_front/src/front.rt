@@ -1,5 +1,5 @@
 //! A list without a name, its end, and its beginnings.
-ghost use Rattle.std.specs.Prelude.{◌≡◌, ◌+◌, ◌<◌, ◌≤◌, ◌^◌, ◌++◌, ◌∷◌, [], length, IsTrue, false, ◌↔◌};
+ghost use Rattle.std.specs.Prelude.{◌≡◌, ◌⊎◌, ◌+◌, ◌<◌, ◌≤◌, ◌^◌, ◌++◌, ◌∷◌, [], length, IsTrue, false, ◌↔◌};
 ghost use mathlib.Core.List.{IsPrefix};
 ghost use Rattle.shared_front.specs.Counted.{head_of};
 
@@ -127,6 +127,19 @@ impl<N: HubName, E> Front<N, E> {
         let mut both = self.seen.again();
         both.learn(&other.seen);
         self.entries <= other.entries
+    }
+
+    /// The longer of two fronts, which begins with the other. It takes no memory.
+    pub fn longer(&self, other: &Front<N, E>) -> Front<N, E>
+        ensures is_one { (result ≡ self.now) ⊎ (result ≡ other.now) }
+        ensures this { IsPrefix self.now result }
+        ensures that { IsPrefix other.now result }
+    {
+        if self.begins(other) {
+            return other.again();
+        }
+        let _begins = other.begins(self);
+        self.again()
     }
 
     /// Adds an entry to all that was seen, and says whether it did. It did not where the list is

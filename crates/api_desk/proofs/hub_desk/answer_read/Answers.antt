@@ -1,5 +1,5 @@
 use Rattle.osm_model.specs.Answered.{reads}
-use Rattle.hub_answers.specs.Steps.{told}
+use Rattle.session_desk.specs.Steps.{told}
 use Rattle.api_desk.specs.MachineRows.{asked_of}
 use Rattle.api_desk.proofs.Settled.{answers_settled, answers_nothing}
 use Rattle.api_desk.proofs.hub_desk.answer_read.Goals as goal

@@ -1,6 +1,6 @@
 use Rattle.osm_model.specs.Answered.{does, reads}
 use Rattle.http_link.specs.Desk.{counted_reply}
-use Rattle.hub_answers.specs.Steps.{told}
+use Rattle.session_desk.specs.Steps.{told}
 use Rattle.api_desk.proofs.HubReplies.{all_long, all_statuses, replied}
 use Rattle.api_desk.proofs.hub_desk.answer_request.Goals as goal
 

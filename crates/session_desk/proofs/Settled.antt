@@ -1,15 +1,13 @@
 -- A session that was settled before it is answered.
-use Rattle.std.proofs.Common.{◌≡◌, ℕ, ◌≤◌, false, length, refl, sym, ap, ◌∙◌, subst, inr, inl, arith, List, Option, Some, None}
+use Rattle.std.proofs.Common.{◌≡◌, ℕ, ◌≤◌, false, length, refl, sym, ap, ◌∙◌, subst, arith, List, Option}
 use mathlib.Core.List.{IsPrefix}
 use Rattle.machine_law.specs.Rules.{Rules}
 use Rattle.hub_core.specs.Journal.{calls_of}
 use Rattle.snapshot_hub.specs.Known.{Known, caught_up}
-use Rattle.hub_answers.specs.Answered.{Request, Place, IsRow}
-use Rattle.hub_answers.specs.Answered.Request.{Refused, Does, Reads}
-use Rattle.hub_answers.specs.Steps.{place_at, Answers}
-use Rattle.session_desk.specs.Answered.{IsFresh}
-use Rattle.desk_parts.specs.Answered.{IsSettled}
-use Rattle.desk_parts.proofs.Lists.{prefix_self, prefix_trans, prefix_length}
+use Rattle.session_desk.specs.Rows.{Request, Place, IsRow}
+use Rattle.session_desk.specs.Steps.{place_at, Answers}
+use Rattle.session_desk.specs.Answered.{IsFresh, IsSettled}
+use Rattle.session_desk.proofs.Lists.{prefix_self, prefix_trans, prefix_length}
 
 module _ {E : Type 0} where
   -- what `Hub::settle` says
@@ -45,26 +43,4 @@ module _ {S C Q P E K : Type 0} (rules : Rules S C Q P E K) where
           subst (λ (n : ℕ). IsRow rules new.front n (place_at old point) request moment bytes (place_at new row.0)) settled.number
               (subst (λ (p : Place). IsRow rules new.front mid.number p request moment bytes (place_at new row.0)) same row.2),
         );
-  }
-
-  lacking : (F : List E) (s : ℕ) (place : Place) (request : Request C Q) (m : ℕ) → IsRow rules F s place request m None place
-  lacking F s place (Refused bytes) m = inr (record { told = refl; stays = refl })
-  lacking F s place (Does c) m = inr (inr (inl (record { told = refl; stays = refl })))
-  lacking F s place (Reads q) m = inr (record { told = refl; stays = refl })
-
-  -- want of memory that left the session
-  pub answers_nothing : (old new : Known E) (request : Request C Q) (moment : ℕ) → new ≡ old → Answers rules old request moment None new
-  answers_nothing old new request moment same =
-      subst (λ (n : Known E). Answers rules old request moment None n) (sym same) (record {
-        number = refl;
-        begins = prefix_self old.front;
-        row = λ point le. (point, le, lacking old.front old.number (place_at old point) request moment);
-      })
-
-  -- a request that is refused by itself
-  pub answers_refusal : (it : Known E) (answer : List ℕ) (moment : ℕ) → Answers rules it (Refused answer) moment (Some answer) it
-  answers_refusal it answer moment = record {
-    number = refl;
-    begins = prefix_self it.front;
-    row = λ point le. (point, le, inl (record { told = refl; stays = refl }));
   }

@@ -1,11 +1,10 @@
 //! Requests of a session of a hub, answered once it owes nothing: each call is one row.
 ghost use Rattle.std.specs.Prelude.{◌≡◌, OnOk, OnErr};
-ghost use Rattle.hub_answers.specs.Answered.Request.{Does, Reads};
-ghost use Rattle.hub_answers.specs.Steps.{told, Answers};
-ghost use Rattle.session_desk.specs.Answered.{IsFresh};
-ghost use Rattle.desk_parts.specs.Answered.{IsSettled};
+ghost use Rattle.session_desk.specs.Rows.Request.{Does, Reads};
+ghost use Rattle.session_desk.specs.Steps.{told, Answers};
+ghost use Rattle.session_desk.specs.Answered.{IsFresh, IsSettled};
 
-use hub_answers::{answer_command, answer_query};
+use crate::calls::{answer_command, answer_query};
 use machine_law::Machine;
 use osm_base::{Bytes, Memory, Steps};
 use osm_outside::Gate;

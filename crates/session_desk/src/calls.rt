@@ -1,7 +1,7 @@
 //! Requests of a session, answered by a hub: each call is one row.
 ghost use Rattle.std.specs.Prelude.{◌≡◌, false};
-ghost use Rattle.hub_answers.specs.Answered.Request.{Does, Reads};
-ghost use Rattle.hub_answers.specs.Steps.{told, Answers};
+ghost use Rattle.session_desk.specs.Rows.Request.{Does, Reads};
+ghost use Rattle.session_desk.specs.Steps.{told, Answers};
 
 use machine_law::Machine;
 use osm_base::{Bytes, Memory, Steps};
