@@ -1,5 +1,5 @@
 -- A map without elements.
-use Rattle.std.proofs.Common.{◌≡◌, ℕ, ◌<◌, ◌≤◌, ◌-◌, Bool, true, false, ◌&&◌, ⊎_elim, List, [], length, map, refl, sym, ap, ◌∙◌, subst, arith}
+use Rattle.std.proofs.Common.{◌≡◌, ℕ, ◌<◌, ◌≤◌, ◌-◌, Bool, true, false, ◌&&◌, ⊎_elim, List, [], length, map, None, refl, sym, ap, ◌∙◌, subst, arith}
 use Rattle.std.specs.List.{list_any}
 use Rattle.std.specs.Prelude.{not, option_and_then, slice_index, ◌==◌, if◌then◌else◌}
 use Rattle.osm_base.specs.Key.{key_eq, lists_key}
@@ -11,12 +11,12 @@ use Rattle.osm_element.specs.declared.versions.Version.{Version}
 use Rattle.osm_element.specs.Elements.{no_elements, key, histories, history, position_in, refs_in}
 use Rattle.osm_element.proofs.Pushed.{last_content}
 use Rattle.osm_element.proofs.Used.{known}
-use Rattle.changeset_core.specs.Changeset.{new_position}
 use Rattle.history_store.specs.Store.{Stored, empty, free, free_list}
 use Rattle.reverse_refs.specs.Users.{UserRows, users_in, free_in}
 use Rattle.tile_grid.specs.declared.cells.Cell.{Cell}
 use Rattle.tile_grid.specs.Tile.{Held}
 use Rattle.tile_grid.specs.Grid.{times, free_at}
+use Rattle.indexed_map.specs.Ever.{times_brought}
 use Rattle.indexed_map.specs.Indexed.{IsMap, Notes, stand}
 use Rattle.indexed_map.specs.Placed.{lies}
 
@@ -57,7 +57,7 @@ empty_map s u v g h notes is no_users no_uses no_nodes no_cells none_ever no_use
   indexed = record { holds = λ a b. ap (λ (ks : List Key). lists_key ks a) (no_users b) ∙ sym (ap (λ (vs : List Version). lists_key (refs_in (last_content vs)) b && not (key_eq a b)) (no_history a)) };
   placed = record { holds = λ c n. no_nodes c n ∙ sym (ap (λ (vs : List Version). if lies c (option_and_then position_in (last_content vs)) then 1 else 0) (no_history (key Node n))) };
   indexed_ever = record { holds = λ a b. ap (λ (ks : List Key). lists_key ks a) (none_ever b) ∙ sym (ap (λ (vs : List Version). list_any (λ held. lists_key (refs_in held) b) (map (λ (v : Version). v.content) vs) && not (key_eq a b)) (no_history a)) };
-  placed_ever = record { holds = λ c n. no_nodes_ever c n ∙ sym (ap (λ (vs : List Version). if list_any (λ held. lies c (new_position held)) (map (λ (v : Version). v.content) vs) then 1 else 0) (no_history (key Node n))) };
+  placed_ever = record { holds = λ c n. no_nodes_ever c n ∙ sym (ap (λ (vs : List Version). times_brought c None (map (λ (v : Version). v.content) vs)) (no_history (key Node n))) };
   spared = record { users = λ b. omega (arith, no_uses b); cells = λ p. omega (arith, no_cells p) };
   noted = record { versions = λ k out. no_room k; users = λ b out. no_uses b; cells = λ p out. no_cells p; users_ever = λ b out. no_uses_ever b; cells_ever = λ p out. no_cells_ever p };
 })

@@ -1,10 +1,11 @@
 -- What every version of an element held, after a version more, or a mark.
-use Rattle.std.proofs.Common.{◌≡◌, ℕ, zero, suc, ◌+◌, ◌-◌, ◌<◌, ◌≤◌, Bool, true, false, ◌&&◌, ◌||◌, ⊎_elim, List, [], ◌∷◌, ◌++◌, length, map, Option, Some, None, refl, sym, ap, ◌∙◌, arith}
+use Rattle.std.proofs.Common.{◌≡◌, ℕ, zero, suc, ◌+◌, ◌-◌, ◌<◌, ◌≤◌, Bool, true, false, ◌&&◌, ◌||◌, ⊎_elim, List, [], ◌∷◌, ◌++◌, length, map, take, get_or, Option, Some, None, refl, sym, ap, ◌∙◌, arith}
 use Rattle.std.specs.Prelude.{not, ◌==◌, if◌then◌else◌, option_and_then, slice_get, slice_set}
 use Rattle.std.specs.List.{list_any}
-use Rattle.std.specs.Option.{option_map_or}
+use Rattle.std.specs.Option.{option_map_or, option_or}
 use Rattle.std.proofs.lemmas.Bool.Decides.{nat_tests}
 use Rattle.std.proofs.lemmas.Bool.{cases_Bool, eqb-true, false≢true}
+use Rattle.std.proofs.lemmas.List.{take_more}
 use Rattle.std.proofs.lemmas.List.Folds.{list_any-append}
 use Rattle.osm_base.specs.Key.{kind_eq, key_eq, lists_key}
 use Rattle.osm_base.specs.Place.{Position}
@@ -15,19 +16,19 @@ use Rattle.osm_base.proofs.KeyOrder.{kind_eq-same, key_eq-same, key_eq-refl, key
 use Rattle.osm_element.specs.declared.contents.Content.{Content}
 use Rattle.osm_element.specs.declared.versions.Version.{Version}
 use Rattle.osm_element.specs.declared.elements.Elements.{Elements}
-use Rattle.osm_element.specs.Elements.{key, next_id, history, count, refs_in, uses, push_version, mark_in, mark}
+use Rattle.osm_element.specs.Elements.{key, next_id, history, position, count, refs_in, uses, push_version, mark_in, mark}
 use Rattle.osm_element.specs.Later.{contents}
 use Rattle.osm_element.proofs.Pushed.{history-push, last_content}
 use Rattle.osm_element.proofs.Later.{history-mark, given_some}
 use Rattle.changeset_core.specs.Changeset.{new_position}
 use Rattle.reverse_refs.specs.Users.{UserRows, users_in}
 use Rattle.tile_grid.specs.declared.cells.Cell.{Cell}
-use Rattle.tile_grid.specs.Cell.{cell_eq}
 use Rattle.tile_grid.specs.Grid.{times}
 use Rattle.tile_grid.specs.Tile.{Held}
-use Rattle.indexed_map.specs.Ever.{ever, has_used, has_lain, IsIndexedEver, IsPlacedEver}
+use Rattle.indexed_map.specs.Ever.{ever, has_used, has_lain, last_place, place_ever, times_brought, IsIndexedEver, IsPlacedEver}
 use Rattle.indexed_map.specs.Indexed.{IsListOf}
-use Rattle.indexed_map.specs.Placed.{lies}
+use Rattle.indexed_map.specs.Placed.{lies, share_cell}
+use Rattle.indexed_map.proofs.Together.{none-entered, apart}
 
 abbrev ones : Bool → ℕ
 ones b = if b then 1 else 0
@@ -46,20 +47,29 @@ or-true : (b : Bool) → b || true ≡ true
 or-true true = refl
 or-true false = refl
 
+contents-push :
+    (E : Elements) (k a : Key) (v : Version)
+    → 0 < k.id
+    → k.id ≤ next_id E k.kind
+    → contents (push_version E k v) a ≡ if key_eq a k then contents E k ++ v.content ∷ [] else contents E a
+contents-push E k a v counted reached =
+    ap (map (λ (v : Version). v.content)) (history-push E k a v counted reached)
+    ∙ along (key_eq a k)
+  where
+    along : (b : Bool) → map (λ (v : Version). v.content) (if b then history E k ++ v ∷ [] else history E a) ≡ if b then contents E k ++ v.content ∷ [] else contents E a
+    along true = map-push (history E k) v
+    along false = refl
+
 pub ever-push :
     (test : Option (Content ℕ) → Bool) (E : Elements) (k a : Key) (v : Version)
     → 0 < k.id
     → k.id ≤ next_id E k.kind
     → ever test (push_version E k v) a ≡ if key_eq a k then ever test E k || test v.content else ever test E a
-ever-push test E k a v counted reached =
-    ap (λ (vs : List Version). list_any test (map (λ (v : Version). v.content) vs)) (history-push E k a v counted reached)
-    ∙ along (key_eq a k)
+ever-push test E k a v counted reached = ap (list_any test) (contents-push E k a v counted reached) ∙ along (key_eq a k)
   where
-    along : (b : Bool)
-        → list_any test (map (λ (v : Version). v.content) (if b then history E k ++ v ∷ [] else history E a)) ≡ if b then ever test E k || test v.content else ever test E a
+    along : (b : Bool) → list_any test (if b then contents E k ++ v.content ∷ [] else contents E a) ≡ if b then ever test E k || test v.content else ever test E a
     along true =
-        ap (list_any test) (map-push (history E k) v)
-        ∙ list_any-append test (contents E k) (v.content ∷ [])
+        list_any-append test (contents E k) (v.content ∷ [])
         ∙ ap (λ (b : Bool). ever test E k || b) (or-false (test v.content))
     along false = refl
 
@@ -105,15 +115,37 @@ indexed_ever E u new k v listed counted reached was list begins = record {
         ∙ ap (λ (p : Bool). (if p then ever (λ held. lists_key (refs_in held) b) E k || lists_key (refs_in v.content) b else ever (λ held. lists_key (refs_in held) b) E a) && not (key_eq a b)) (sym (key_eq-sym a k ∙ f)))
         (cases_Bool (key_eq k a))
 
-pub placed_more :
+-- -- where a node came
+
+pub place-push : (before : Option Position) (hs : List (Option (Content ℕ))) (held : Option (Content ℕ)) → last_place before (hs ++ held ∷ []) ≡ option_or (new_position held) (last_place before hs)
+place-push before [] held = refl
+place-push before (h ∷ hs) held = place-push (option_or (new_position h) before) hs held
+
+brought-push :
+    (c : Cell) (before : Option Position) (hs : List (Option (Content ℕ))) (held : Option (Content ℕ))
+    → times_brought c before (hs ++ held ∷ []) ≡ times_brought c before hs + (if lies c (new_position held) && not (lies c (last_place before hs)) then 1 else 0)
+brought-push c before [] held = omega arith
+brought-push c before (h ∷ hs) held = omega (arith, brought-push c (option_or (new_position h) before) hs held)
+
+-- the versions up to one, and that one
+pub place-more :
+    (vs : List Version) (i : ℕ) (d : Version)
+    → i < length vs
+    → last_place None (map (λ (v : Version). v.content) (take (i + 1) vs)) ≡ option_or (new_position (get_or vs i d).content) (last_place None (map (λ (v : Version). v.content) (take i vs)))
+place-more vs i d within =
+    ap (λ (l : List Version). last_place None (map (λ (v : Version). v.content) l)) (take_more vs i d within)
+    ∙ ap (last_place None) (map-push (take i vs) (get_or vs i d))
+    ∙ place-push None (map (λ (v : Version). v.content) (take i vs)) (get_or vs i d).content
+
+placed_more :
     (E : Elements) (g₀ g₁ : List (List Held)) (k : Key) (v : Version)
     → kind_eq k.kind Node ≡ true
     → 0 < k.id
     → k.id ≤ next_id E k.kind
     → IsPlacedEver E g₀
-    → ((c : Cell) (n : ℕ) → times g₁ c n ≡ times g₀ c n + (if (lies c (new_position v.content) && not (has_lain E c k.id)) && (n == k.id) then 1 else 0))
+    → ((c : Cell) (n : ℕ) → times g₁ c n ≡ times g₀ c n + (if (lies c (new_position v.content) && not (lies c (place_ever E k))) && (n == k.id) then 1 else 0))
     → IsPlacedEver (push_version E k v) g₁
-placed_more E g₀ g₁ k v is_node counted reached was step = record { holds = λ c n. holds c n ∙ sym (ap ones (ever-push (λ held. lies c (new_position held)) E k (key Node n) v counted reached)) }
+placed_more E g₀ g₁ k v is_node counted reached was step = record { holds = λ c n. holds c n ∙ sym (ap (times_brought c None) (contents-push E k (key Node n) v counted reached)) }
   where
     kinds : k.kind ≡ Node
     kinds = kind_eq-same k.kind Node is_node
@@ -121,40 +153,71 @@ placed_more E g₀ g₁ k v is_node counted reached was step = record { holds = 
     same_key : (n : ℕ) → key_eq (key Node n) k ≡ (n == k.id)
     same_key n = ap (λ (kind : Kind). kind_eq Node kind && (n == k.id)) kinds
 
-    node : key Node k.id ≡ k
-    node = ap (λ (kind : Kind). key kind k.id) (sym kinds)
-
-    own : (h l : Bool) → ones h + ones ((l && not h) && true) ≡ ones (h || l)
-    own true true = refl
-    own true false = refl
-    own false true = refl
-    own false false = refl
+    and-true : (b : Bool) → b && true ≡ b
+    and-true true = refl
+    and-true false = refl
 
     and-false : (b : Bool) → b && false ≡ false
     and-false true = refl
     and-false false = refl
 
-    holds : (c : Cell) (n : ℕ)
-        → times g₁ c n
-        ≡ ones (if key_eq (key Node n) k then ever (λ held. lies c (new_position held)) E k || lies c (new_position v.content) else has_lain E c n)
+    holds : (c : Cell) (n : ℕ) → times g₁ c n ≡ times_brought c None (if key_eq (key Node n) k then contents E k ++ v.content ∷ [] else contents E (key Node n))
     holds c n =
         ⊎_elim
-        (λ yes. let id : n ≡ k.id = eqb-true n k.id yes in
-        let before : times g₀ c n ≡ ones (has_lain E c k.id) = was.holds c n ∙ ap (λ (m : ℕ). ones (has_lain E c m)) id in
-        let more : ones ((lies c (new_position v.content) && not (has_lain E c k.id)) && (n == k.id)) ≡ ones ((lies c (new_position v.content) && not (has_lain E c k.id)) && true)
-        = ap (λ (b : Bool). ones ((lies c (new_position v.content) && not (has_lain E c k.id)) && b)) yes in
-        let sum : times g₁ c n ≡ ones (has_lain E c k.id) + ones ((lies c (new_position v.content) && not (has_lain E c k.id)) && true) = omega (arith, step c n, before, more) in
+        (λ yes. let here : key Node n ≡ k = ap (λ (m : ℕ). key Node m) (eqb-true n k.id yes) ∙ ap (λ (kind : Kind). key kind k.id) (sym kinds) in
+        let before : times g₀ c n ≡ times_brought c None (contents E k) = was.holds c n ∙ ap (λ (x : Key). times_brought c None (contents E x)) here in
+        let more : ones ((lies c (new_position v.content) && not (lies c (place_ever E k))) && (n == k.id)) ≡ ones (lies c (new_position v.content) && not (lies c (place_ever E k)))
+        = ap (λ (b : Bool). ones ((lies c (new_position v.content) && not (lies c (place_ever E k))) && b)) yes ∙ ap ones (and-true (lies c (new_position v.content) && not (lies c (place_ever E k)))) in
+        let sum : times g₁ c n ≡ times_brought c None (contents E k) + ones (lies c (new_position v.content) && not (lies c (place_ever E k))) = omega (arith, step c n, before, more) in
         sum
-        ∙ own (has_lain E c k.id) (lies c (new_position v.content))
-        ∙ ap (λ (x : Key). ones (ever (λ held. lies c (new_position held)) E x || lies c (new_position v.content))) node
-        ∙ ap (λ (b : Bool). ones (if b then ever (λ held. lies c (new_position held)) E k || lies c (new_position v.content) else has_lain E c n)) (sym (same_key n ∙ yes)))
-        (λ no. let none : ones ((lies c (new_position v.content) && not (has_lain E c k.id)) && (n == k.id)) ≡ 0
-        = ap (λ (b : Bool). ones ((lies c (new_position v.content) && not (has_lain E c k.id)) && b)) no ∙ ap ones (and-false (lies c (new_position v.content) && not (has_lain E c k.id))) in
+        ∙ sym (brought-push c None (contents E k) v.content)
+        ∙ ap (λ (b : Bool). times_brought c None (if b then contents E k ++ v.content ∷ [] else contents E (key Node n))) (sym (same_key n ∙ yes)))
+        (λ no. let none : ones ((lies c (new_position v.content) && not (lies c (place_ever E k))) && (n == k.id)) ≡ 0
+        = ap (λ (b : Bool). ones ((lies c (new_position v.content) && not (lies c (place_ever E k))) && b)) no ∙ ap ones (and-false (lies c (new_position v.content) && not (lies c (place_ever E k)))) in
         let same : times g₁ c n ≡ times g₀ c n = omega (arith, step c n, none) in
         same
         ∙ was.holds c n
-        ∙ ap (λ (b : Bool). ones (if b then ever (λ held. lies c (new_position held)) E k || lies c (new_position v.content) else has_lain E c n)) (sym (same_key n ∙ no)))
+        ∙ ap (λ (b : Bool). times_brought c None (if b then contents E k ++ v.content ∷ [] else contents E (key Node n))) (sym (same_key n ∙ no)))
         (cases_Bool (n == k.id))
+
+-- it comes into a cell in which it didn't lie last
+pub placed_anew :
+    (E : Elements) (g₀ g₁ : List (List Held)) (k : Key) (v : Version) (last to : Option Position)
+    → kind_eq k.kind Node ≡ true
+    → 0 < k.id
+    → k.id ≤ next_id E k.kind
+    → IsPlacedEver E g₀
+    → last ≡ place_ever E k
+    → to ≡ new_position v.content
+    → share_cell last to ≡ false
+    → ((c : Cell) (n : ℕ) → times g₁ c n ≡ times g₀ c n + (if lies c to && (n == k.id) then 1 else 0))
+    → IsPlacedEver (push_version E k v) g₁
+placed_anew E g₀ g₁ k v last to is_node counted reached was last_is to_is other put =
+    placed_more E g₀ g₁ k v is_node counted reached was
+    (λ c n. let same : ones (lies c to && (n == k.id)) ≡ ones ((lies c (new_position v.content) && not (lies c (place_ever E k))) && (n == k.id))
+    = ap (λ (b : Bool). ones (b && (n == k.id))) (sym (apart last to other c))
+    ∙ ap (λ (o : Option Position). ones ((lies c o && not (lies c last)) && (n == k.id))) to_is
+    ∙ ap (λ (o : Option Position). ones ((lies c (new_position v.content) && not (lies c o)) && (n == k.id))) last_is in
+    omega (arith, put c n, same))
+
+-- it stays in the cell in which it lay last
+pub placed_still :
+    (E : Elements) (g : List (List Held)) (k : Key) (v : Version) (last to : Option Position)
+    → kind_eq k.kind Node ≡ true
+    → 0 < k.id
+    → k.id ≤ next_id E k.kind
+    → IsPlacedEver E g
+    → last ≡ place_ever E k
+    → to ≡ new_position v.content
+    → share_cell last to ≡ true
+    → IsPlacedEver (push_version E k v) g
+placed_still E g k v last to is_node counted reached was last_is to_is shared =
+    placed_more E g g k v is_node counted reached was
+    (λ c n. let none : ones ((lies c (new_position v.content) && not (lies c (place_ever E k))) && (n == k.id)) ≡ 0
+    = ap (λ (o : Option Position). ones ((lies c (new_position v.content) && not (lies c o)) && (n == k.id))) (sym last_is)
+    ∙ ap (λ (o : Option Position). ones ((lies c o && not (lies c last)) && (n == k.id))) (sym to_is)
+    ∙ ap (λ (b : Bool). ones (b && (n == k.id))) (none-entered last to shared c) in
+    omega (arith, none))
 
 -- ways and relations lie in no cell
 pub placed_other :
@@ -166,95 +229,44 @@ pub placed_other :
     → IsPlacedEver (push_version E k v) g
 placed_other E g k v other counted reached was = record {
   holds = λ c n. was.holds c n
-      ∙ ap (λ (b : Bool). ones (if b then ever (λ held. lies c (new_position held)) E k || lies c (new_position v.content) else has_lain E c n)) (sym (apart n))
-      ∙ sym (ap ones (ever-push (λ held. lies c (new_position held)) E k (key Node n) v counted reached));
+      ∙ ap (λ (b : Bool). times_brought c None (if b then contents E k ++ v.content ∷ [] else contents E (key Node n))) (sym (apart_from n))
+      ∙ sym (ap (times_brought c None) (contents-push E k (key Node n) v counted reached));
 }
   where
     turned : (a b : Kind) → kind_eq a b ≡ kind_eq b a
     turned a b = grind (arith, nat_tests)
 
-    apart : (n : ℕ) → key_eq (key Node n) k ≡ false
-    apart n = ap (λ (b : Bool). b && (n == k.id)) (turned Node k.kind ∙ other)
+    apart_from : (n : ℕ) → key_eq (key Node n) k ≡ false
+    apart_from n = ap (λ (b : Bool). b && (n == k.id)) (turned Node k.kind ∙ other)
 
--- what a look through the versions tells
-any-map : (test : Option (Content ℕ) → Bool) (vs : List Version) → list_any (λ (v : Version). test v.content) vs ≡ list_any test (map (λ (v : Version). v.content) vs)
-any-map test [] = refl
-any-map test (v ∷ vs) = ap (λ (b : Bool). test v.content || b) (any-map test vs)
+-- -- who lay in a cell came there
 
-abbrev has : List Version → Cell → Bool
-has vs c = list_any (λ (v : Version). lies c (new_position v.content)) vs
-
-looked : (E : Elements) (k : Key) (vs : List Version) (c : Cell) → kind_eq k.kind Node ≡ true → vs ≡ history E k → has vs c ≡ has_lain E c k.id
-looked E k vs c is_node all =
-    ap (λ (l : List Version). has l c) all
-    ∙ any-map (λ held. lies c (new_position held)) (history E k)
-    ∙ ap (λ (kind : Kind). ever (λ held. lies c (new_position held)) E (key kind k.id)) (kind_eq-same k.kind Node is_node)
-
-pub placed_once :
-    (E : Elements) (g₀ g₁ : List (List Held)) (k : Key) (v : Version) (vs : List Version) (to : Option Position)
-    → kind_eq k.kind Node ≡ true
-    → 0 < k.id
-    → k.id ≤ next_id E k.kind
-    → IsPlacedEver E g₀
-    → vs ≡ history E k
-    → to ≡ new_position v.content
-    → ((c : Cell) (n : ℕ) → times g₁ c n ≡ times g₀ c n + (if (lies c to && not (list_any (λ (v : Version). lies c (new_position v.content)) vs)) && (n == k.id) then 1 else 0))
-    → IsPlacedEver (push_version E k v) g₁
-placed_once E g₀ g₁ k v vs to is_node counted reached was all to_is put =
-    placed_more E g₀ g₁ k v is_node counted reached was
-    (λ c n. let same : ones ((lies c to && not (has vs c)) && (n == k.id)) ≡ ones ((lies c (new_position v.content) && not (has_lain E c k.id)) && (n == k.id))
-    = ap (λ (o : Option Position). ones ((lies c o && not (has vs c)) && (n == k.id))) to_is
-    ∙ ap (λ (b : Bool). ones ((lies c (new_position v.content) && not b) && (n == k.id))) (looked E k vs c is_node all) in
-    omega (arith, put c n, same))
-
-abbrev cell : ℕ → ℕ → Cell
-cell row column = record { row = row; column = column }
-
-cell_same : (c d : Cell) → cell_eq c d ≡ true → c ≡ d
-cell_same c d same =
-    let parts = both (c.row == d.row) (c.column == d.column) same in
-    ap (λ (row : ℕ). cell row c.column) (eqb-true c.row d.row parts.0)
-    ∙ ap (λ (column : ℕ). cell d.row column) (eqb-true c.column d.column parts.1)
+brought-there :
+    (c : Cell) (before : Option Position) (hs : List (Option (Content ℕ)))
+    → lies c before ≡ false
+    → list_any (λ held. lies c (new_position held)) hs ≡ true
+    → 0 < times_brought c before hs
+brought-there c before [] out some = absurd (false≢true some)
+brought-there c before (h ∷ hs) out some =
+    ⊎_elim
+    (λ t. let one : ones (lies c (new_position h) && not (lies c before)) ≡ 1
+    = ap (λ (b : Bool). ones (b && not (lies c before))) t ∙ ap (λ (b : Bool). ones (not b)) out in
+    omega (arith, one))
+    (λ f. let later : 0 < times_brought c (option_or (new_position h) before) hs
+    = brought-there c (option_or (new_position h) before) hs (still (new_position h) f) (sym (ap (λ (b : Bool). b || list_any (λ held. lies c (new_position held)) hs) f) ∙ some) in
+    omega (arith, later))
+    (cases_Bool (lies c (new_position h)))
   where
-    both : (p q : Bool) → p && q ≡ true → (p ≡ true) × (q ≡ true)
-    both true q h = (refl, h)
-    both false q h = cc
+    still : (o : Option Position) → lies c o ≡ false → lies c (option_or o before) ≡ false
+    still None f = out
+    still (Some p) f = f
 
--- it is placed in a cell in which none of the versions lies
-pub placed_first :
-    (g₀ g₁ : List (List Held)) (vs : List Version) (id : ℕ) (d e : Cell)
-    → e ≡ d
-    → false ≡ list_any (λ (v : Version). lies e (new_position v.content)) vs
-    → ((c : Cell) (n : ℕ) → times g₁ c n ≡ times g₀ c n + (if cell_eq c d && (n == id) then 1 else 0))
-    → (c : Cell) (n : ℕ)
-    → times g₁ c n ≡ times g₀ c n + (if (cell_eq c d && not (list_any (λ (v : Version). lies c (new_position v.content)) vs)) && (n == id) then 1 else 0)
-placed_first g₀ g₁ vs id d e is none put c n =
-    let same : ones (cell_eq c d && (n == id)) ≡ ones ((cell_eq c d && not (has vs c)) && (n == id)) =
-    ⊎_elim
-    (λ t. ap (λ (b : Bool). ones (b && (n == id))) t
-    ∙ ap (λ (b : Bool). ones (not b && (n == id))) (none ∙ ap (has vs) (is ∙ sym (cell_same c d t)))
-    ∙ ap (λ (b : Bool). ones ((b && not (has vs c)) && (n == id))) (sym t))
-    (λ f. ap (λ (b : Bool). ones (b && (n == id))) f ∙ ap (λ (b : Bool). ones ((b && not (has vs c)) && (n == id))) (sym f))
-    (cases_Bool (cell_eq c d))
-    in
-    omega (arith, put c n, same)
-
--- one of the versions lies in the cell, so it isn't placed again
-pub placed_still :
-    (g : List (List Held)) (vs : List Version) (id : ℕ) (d e : Cell)
-    → e ≡ d
-    → true ≡ list_any (λ (v : Version). lies e (new_position v.content)) vs
-    → (c : Cell) (n : ℕ)
-    → times g c n ≡ times g c n + (if (cell_eq c d && not (list_any (λ (v : Version). lies c (new_position v.content)) vs)) && (n == id) then 1 else 0)
-placed_still g vs id d e is some c n =
-    let nothing : ones ((cell_eq c d && not (has vs c)) && (n == id)) ≡ 0 =
-    ⊎_elim
-    (λ t. ap (λ (b : Bool). ones ((b && not (has vs c)) && (n == id))) t
-    ∙ ap (λ (b : Bool). ones (not b && (n == id))) (ap (has vs) (cell_same c d t ∙ sym is) ∙ sym some))
-    (λ f. ap (λ (b : Bool). ones ((b && not (has vs c)) && (n == id))) f)
-    (cases_Bool (cell_eq c d))
-    in
-    omega (arith, nothing)
+pub lain-placed :
+    (E : Elements) (g : List (List Held)) (c : Cell) (n : ℕ)
+    → IsPlacedEver E g
+    → has_lain E c n ≡ true
+    → 0 < times g c n
+lain-placed E g c n was lain = omega (arith, was.holds c n, brought-there c None (contents E (key Node n)) refl lain)
 
 -- -- a mark
 
@@ -281,29 +293,29 @@ contents-mark_in vs n m = by (n == 0)
     by true = refl
     by false = set_at (slice_get vs (n - 1)) (λ v e. e)
 
-ever-mark :
-    (test : Option (Content ℕ) → Bool) (E : Elements) (k a : Key) (n : ℕ) (m : Option ℕ)
+contents-mark :
+    (E : Elements) (k a : Key) (n : ℕ) (m : Option ℕ)
     → 0 < n
     → n ≤ count E k
-    → ever test (mark E k n m) a ≡ ever test E a
-ever-mark test E k a n m some made =
+    → contents (mark E k n m) a ≡ contents E a
+contents-mark E k a n m some made =
     let given = given_some E k (omega (arith, some, made)) in
-    ap (λ (vs : List Version). list_any test (map (λ (v : Version). v.content) vs)) (history-mark E k a n m given.0 given.1)
+    ap (map (λ (v : Version). v.content)) (history-mark E k a n m given.0 given.1)
     ∙ ⊎_elim
-    (λ t. ap (λ (b : Bool). list_any test (map (λ (v : Version). v.content) (if b then mark_in (history E k) n m else history E a))) t
-    ∙ ap (list_any test) (contents-mark_in (history E k) n m)
-    ∙ ap (ever test E) (sym (key_eq-same a k t)))
-    (λ f. ap (λ (b : Bool). list_any test (map (λ (v : Version). v.content) (if b then mark_in (history E k) n m else history E a))) f)
+    (λ t. ap (λ (b : Bool). map (λ (v : Version). v.content) (if b then mark_in (history E k) n m else history E a)) t
+    ∙ contents-mark_in (history E k) n m
+    ∙ ap (contents E) (sym (key_eq-same a k t)))
+    (λ f. ap (λ (b : Bool). map (λ (v : Version). v.content) (if b then mark_in (history E k) n m else history E a)) f)
     (cases_Bool (key_eq a k))
 
 pub marked_ever : (E : Elements) (u : UserRows) (k : Key) (n : ℕ) (m : Option ℕ) → 0 < n → n ≤ count E k → IsIndexedEver E u → IsIndexedEver (mark E k n m) u
 marked_ever E u k n m some made was = record {
-  holds = λ a b. was.holds a b ∙ ap (λ (p : Bool). p && not (key_eq a b)) (sym (ever-mark (λ held. lists_key (refs_in held) b) E k a n m some made));
+  holds = λ a b. was.holds a b ∙ ap (λ (p : Bool). p && not (key_eq a b)) (ap (list_any (λ held. lists_key (refs_in held) b)) (sym (contents-mark E k a n m some made)));
 }
 
 pub marked_placed_ever : (E : Elements) (g : List (List Held)) (k : Key) (n : ℕ) (m : Option ℕ) → 0 < n → n ≤ count E k → IsPlacedEver E g → IsPlacedEver (mark E k n m) g
 marked_placed_ever E g k n m some made was = record {
-  holds = λ c id. was.holds c id ∙ ap ones (sym (ever-mark (λ held. lies c (new_position held)) E k (key Node id) n m some made));
+  holds = λ c id. was.holds c id ∙ ap (times_brought c None) (sym (contents-mark E k (key Node id) n m some made));
 }
 
 -- -- what is held now was held ever
@@ -336,3 +348,31 @@ uses-ever E a b now = along (lists_key (refs_in (last_content (history E a))) b)
     along : (p q : Bool) → lists_key (refs_in (last_content (history E a))) b ≡ p → p && q ≡ true → ever (λ held. lists_key (refs_in held) b) E a && q ≡ true
     along true q last passes = ap (λ (p : Bool). p && q) (last-ever (λ held. lists_key (refs_in held) b) (history E a) refl last) ∙ passes
     along false q last passes = cc
+
+-- -- where a node lies now it lay last
+
+lies-last :
+    (c : Cell) (before : Option Position) (vs : List Version) (i : ℕ)
+    → i + 1 ≡ length vs
+    → lies c (new_position (option_and_then (λ (v : Version). v.content) (slice_get vs i))) ≡ true
+    → lies c (last_place before (map (λ (v : Version). v.content) vs)) ≡ true
+lies-last c before [] i last there = absurd (omega (arith, last))
+lies-last c before (v ∷ []) zero last there = along (new_position v.content) there
+  where
+    along : (o : Option Position) → lies c o ≡ true → lies c (option_or o before) ≡ true
+    along None there = absurd (false≢true there)
+    along (Some p) there = there
+lies-last c before (v ∷ w ∷ ws) zero last there = absurd (omega (arith, last))
+lies-last c before (v ∷ vs) (suc i) last there = lies-last c (option_or (new_position v.content) before) vs i (omega (arith, last)) there
+
+pub lay-last : (E : Elements) (k : Key) (c : Cell) → lies c (position E k) ≡ true → lies c (place_ever E k) ≡ true
+lay-last E k c = along (length (history E k) == 0) refl
+  where
+    along : (b : Bool)
+        → (length (history E k) == 0) ≡ b
+        → lies c (new_position (option_and_then (λ (v : Version). v.content) (if b then None else slice_get (history E k) (length (history E k) - 1)))) ≡ true
+        → lies c (place_ever E k) ≡ true
+    along true none there = absurd (false≢true there)
+    along false some there =
+        let more : length (history E k) - 1 + 1 ≡ length (history E k) = grind (arith, nat_tests) in
+        lies-last c None (history E k) (length (history E k) - 1) more there

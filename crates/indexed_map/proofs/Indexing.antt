@@ -240,14 +240,14 @@ still_ever E u between v k b rest was ever ends there =
     first true q h = refl
     first false q h = cc
 
-pub spared_uses :
+pub still_spared :
     (l s u v : Bool) (u₀ u₁ v₀ v₁ : ℕ)
     → (u ≡ true → v ≡ true)
     → u₁ + ones (l && (s && not u)) ≡ u₀
     → v₁ + ones (l && (s && not v)) ≡ v₀
     → u₀ ≤ v₀
     → u₁ ≤ v₁
-spared_uses l s u v u₀ u₁ v₀ v₁ ever spent_now spent_ever less = omega (arith, fewer l s u v ever, spent_now, spent_ever, less)
+still_spared l s u v u₀ u₁ v₀ v₁ ever spent_now spent_ever less = omega (arith, fewer l s u v ever, spent_now, spent_ever, less)
   where
     fewer : (l s u v : Bool) → (u ≡ true → v ≡ true) → ones (l && (s && not v)) ≤ ones (l && (s && not u))
     fewer true true true true ever = omega arith

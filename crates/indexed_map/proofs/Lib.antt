@@ -3,3 +3,4 @@ mod UseSteps
 mod Moved
 mod Empty
 mod EverHeld
+mod Together

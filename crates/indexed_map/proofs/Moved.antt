@@ -8,7 +8,7 @@ use Rattle.osm_base.specs.Key.{kind_eq, key_eq}
 use Rattle.osm_base.specs.declared.keys.Kind.{Kind}
 use Rattle.osm_base.specs.declared.keys.Kind.TheVariants.{Node}
 use Rattle.osm_base.specs.declared.keys.Key.{Key}
-use Rattle.osm_base.proofs.KeyOrder.{kind_eq-same}
+use Rattle.osm_base.proofs.KeyOrder.{kind_eq-same, key_eq-same}
 use Rattle.osm_element.specs.declared.versions.Version.{Version}
 use Rattle.osm_element.specs.declared.elements.Elements.{Elements}
 use Rattle.osm_element.specs.Elements.{key, next_id, content_of, position, position_in, push_version}
@@ -17,8 +17,8 @@ use Rattle.tile_grid.specs.declared.cells.Cell.{Cell}
 use Rattle.tile_grid.specs.Cell.{cell_of}
 use Rattle.tile_grid.specs.Tile.{Held}
 use Rattle.tile_grid.specs.Grid.{times}
-use Rattle.indexed_map.specs.Placed.{lies, lies_in}
-use Rattle.indexed_map.specs.Placed.{IsPlaced}
+use Rattle.indexed_map.specs.Placed.{lies, lies_in, share_cell, IsPlaced}
+use Rattle.indexed_map.proofs.Together.{together}
 
 -- a node is in the cell of its position
 pub placed : (n : ℕ) (p : Position) → n ≡ (if lies (cell_of p) (Some p) then 1 else 0) → 0 < n
@@ -115,3 +115,24 @@ not_moved E g k v other counted reached placed = record {
 
     same : (n : ℕ) → position (push_version E k v) (key Node n) ≡ position E (key Node n)
     same n = position-push E k (key Node n) v counted reached ∙ ap (λ (b : Bool). if b then option_and_then position_in v.content else position E (key Node n)) (apart n)
+
+-- a node that stays in its cell
+pub stayed :
+    (E : Elements) (g : List (List Held)) (k : Key) (v : Version) (from to : Option Position)
+    → 0 < k.id
+    → k.id ≤ next_id E k.kind
+    → IsPlaced E g
+    → from ≡ position E k
+    → to ≡ option_and_then position_in v.content
+    → share_cell from to ≡ true
+    → IsPlaced (push_version E k v) g
+stayed E g k v from to counted reached placed from_is to_is shared = record {
+  holds = λ c n. placed.holds c n ∙ sym (ap (λ (b : Bool). if b then 1 else 0) (ap (lies c) (position-push E k (key Node n) v counted reached) ∙ along c n (key_eq (key Node n) k) refl));
+}
+  where
+    along : (c : Cell) (n : ℕ) (b : Bool) → key_eq (key Node n) k ≡ b → lies c (if b then option_and_then position_in v.content else position E (key Node n)) ≡ lies_in E c n
+    along c n true here =
+        ap (lies c) (sym to_is)
+        ∙ sym (together from to shared c)
+        ∙ ap (lies c) (from_is ∙ ap (position E) (sym (key_eq-same (key Node n) k here)))
+    along c n false here = refl

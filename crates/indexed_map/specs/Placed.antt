@@ -22,6 +22,10 @@ lies_in E c n = lies c (position E (key Node n))
 abbrev pub enters : Position → Option Position → Bool
 enters p at = option_map_or (same_cell p) at false
 
+-- both are positions, and lie in one cell
+abbrev pub share_cell : Option Position → Option Position → Bool
+share_cell from to = option_map_or (λ p. enters p to) from false
+
 -- each visible node is placed once, in the cell in which it lies, and nothing else is
 pub record IsPlaced (E : Elements) (g : List (List Held)) : Type 0 where
   pub holds : (c : Cell) (n : ℕ) → times g c n ≡ if lies_in E c n then 1 else 0

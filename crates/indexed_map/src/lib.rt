@@ -7,9 +7,11 @@
 #![tactic(auto)]
 
 mod ever;
+mod law;
 mod maps;
 mod moves;
 mod promises;
 mod usage;
 
+pub use law::nodes_that_lay_there_are_placed;
 pub use maps::IndexedMap;

@@ -13,6 +13,7 @@ use Rattle.osm_change.specs.declared.reads.MapFault.TheVariants.{TooLarge}
 use Rattle.osm_change.specs.declared.reads.ReadFault.TheVariants.{NotFound, Gone, Redacted}
 use Rattle.changeset_core.specs.declared.records.ChangesetRecord.{ChangesetRecord}
 use Rattle.osm_model.specs.ChangesetReads.{newest, passes, download}
+use Rattle.osm_model.specs.Past.{full_unmarked}
 use Rattle.osm_model.specs.Reads.{shown, one, numbered, history_of, many, full, ways_of, relations_of}
 use Rattle.osm_model.specs.Selection.{map_of}
 use Rattle.osm_model.specs.State.{empty}
@@ -70,6 +71,16 @@ ways_of_nothing = refl
 
 relations_of_a_way : relations_of small (key kind.Way 1) ≡ shown (key kind.Relation 1) 1 ∷ []
 relations_of_a_way = refl
+
+-- a way that is marked is hidden with what it lists
+abbrev way_marked : Elements
+way_marked = record small { ways = (made (Some 1) (Some (Way (1 ∷ 2 ∷ []))) ∷ []) ∷ [] }
+
+unmarked_way_in_full : full_unmarked small (key kind.Relation 1) ≡ full small (key kind.Relation 1)
+unmarked_way_in_full = refl
+
+marked_way_in_full : full_unmarked way_marked (key kind.Relation 1) ≡ Ok (shown (key kind.Relation 1) 1 ∷ [])
+marked_way_in_full = refl
 
 -- a node with a mark on its first version, that was deleted at last
 abbrev marked : Elements

@@ -32,7 +32,7 @@ fn with_listed(alloc: Global, elements: &Elements, key: Key) -> Result<Items<Sho
 }
 
 /// The element, what it lists, and what the ways that it lists list, in no order.
-pub fn gathered(alloc: Global, elements: &Elements, key: Key) -> Result<Vec<Key>, Memory>
+fn gathered(alloc: Global, elements: &Elements, key: Key) -> Result<Vec<Key>, Memory>
     ensures { IfOk result (λ found. (x : Key) → lists_key found.items x ≡ in_full elements.now key x) }
 {
     let mut found = elements.refs(alloc, key)?;
@@ -46,7 +46,7 @@ pub fn gathered(alloc: Global, elements: &Elements, key: Key) -> Result<Vec<Key>
 }
 
 /// Adds what a way lists, and nothing for another element.
-fn add_way_refs(elements: &Elements, key: Key, found: &mut Vec<Key>) -> Result<(), Memory>
+pub fn add_way_refs(elements: &Elements, key: Key, found: &mut Vec<Key>) -> Result<(), Memory>
     ensures { IfOk result (λ _. found.new.items ≡ found.old.items ++ way_refs elements.now key) }
 {
     if !key.kind.is(Kind::Way) {

@@ -1,12 +1,14 @@
 //! Elements as they were at a stamp: a copy of them with the versions made by then.
-ghost use Rattle.std.specs.Prelude.{◌≡◌, ◌&&◌, map, filter, IfOk};
+ghost use Rattle.std.specs.Prelude.{◌≡◌, ◌++◌, ◌&&◌, map, filter, IfOk};
+ghost use Rattle.osm_base.specs.Key.{lists_key};
+ghost use Rattle.osm_base.specs.declared.keys.Key.{Key};
 ghost use Rattle.osm_element.specs.Elements.{keys};
-ghost use Rattle.osm_model.specs.Past.{made_by, before_others, histories_by, elements_by, is_last_shown, one_unmarked, full_unmarked, full_at};
-ghost use Rattle.osm_model.specs.Reads.{current_shown, in_full};
+ghost use Rattle.osm_model.specs.Past.{made_by, before_others, histories_by, elements_by, is_last_shown, shown_way_refs, in_full_unmarked, one_unmarked, full_unmarked, full_at};
+ghost use Rattle.osm_model.specs.Reads.{current_shown};
 ghost use Rattle.plain_reads.specs.Read.{IsRead};
 
 use crate::elements::{is_shown, numbered, one};
-use crate::full::gathered;
+use crate::full::add_way_refs;
 use crate::lists::{given_keys_once, shown_keys};
 use osm_base::{Items, Key, Memory, TryCopy};
 use osm_change::{ReadFault, Shown};
@@ -75,7 +77,7 @@ pub fn one_unmarked(elements: &Elements, key: Key) -> Result<Shown, ReadFault>
 }
 
 /// An element with what it listed at a stamp, and with the nodes of the ways that it listed: those
-/// that were visible and aren't marked.
+/// that were visible and aren't marked, and of the nodes those of such ways alone.
 pub fn full_at(alloc: Global, state: &State, key: Key, at: u64) -> Result<Items<Shown>, ReadFault>
     ensures { IsRead (full_at state.now key at) result }
 {
@@ -93,11 +95,34 @@ fn full_unmarked(alloc: Global, elements: &Elements, key: Key) -> Result<Items<S
 
 fn with_listed(alloc: Global, elements: &Elements, key: Key) -> Result<Items<Shown>, Memory>
     ensures { IfOk result (λ found. found ≡ map (current_shown elements.now)
-        (filter (λ x. in_full elements.now key x && is_last_shown elements.now x) (keys elements.now))) }
+        (filter (λ x. in_full_unmarked elements.now key x && is_last_shown elements.now x) (keys elements.now))) }
 {
     let listed = gathered(alloc, elements, key)?;
     let mut rising = given_keys_once(elements, listed);
     rising.retain(|key| is_last_shown(elements, *key));
     let shown = shown_keys(alloc, elements, rising.as_slice())?;
     Ok(shown)
+}
+
+/// The element, what it lists, and what those ways that it lists list that are shown, in no order.
+fn gathered(alloc: Global, elements: &Elements, key: Key) -> Result<Vec<Key>, Memory>
+    ensures { IfOk result (λ found. (x : Key) → lists_key found.items x ≡ in_full_unmarked elements.now key x) }
+{
+    let mut found = elements.refs(alloc, key)?;
+    let listed = found.len();
+    found.push(key)?;
+    for place in 0..listed {
+        let member = found[place];
+        add_shown_way_refs(elements, member, &mut found)?;
+    }
+    Ok(found)
+}
+
+fn add_shown_way_refs(elements: &Elements, key: Key, found: &mut Vec<Key>) -> Result<(), Memory>
+    ensures { IfOk result (λ _. found.new.items ≡ found.old.items ++ shown_way_refs elements.now key) }
+{
+    if is_last_shown(elements, key) {
+        add_way_refs(elements, key, found)?;
+    }
+    Ok(())
 }

@@ -2,16 +2,18 @@ use Rattle.std.proofs.Common.{◌≤◌, ◌<◌, ◌&&◌, sym, subst, arith}
 use Rattle.std.specs.Prelude.{not}
 use Rattle.std.specs.Option.{ForSome}
 use Rattle.changeset_core.specs.Changeset.{new_position}
-use Rattle.osm_base.specs.Key.{key_eq, lists_key}
-use Rattle.osm_element.specs.Elements.{next_id, refs_of}
+use Rattle.osm_base.specs.Key.{kind_eq, key_eq, lists_key}
+use Rattle.osm_base.specs.declared.keys.Kind.TheVariants.{Node}
+use Rattle.osm_element.specs.Elements.{next_id, position, refs_of}
 use Rattle.osm_element.specs.declared.elements.Elements.{Elements}
 use Rattle.reverse_refs.specs.Users.{users_in, free_in}
+use Rattle.tile_grid.specs.Cell.{cell_of}
 use Rattle.tile_grid.specs.Grid.{free_at}
-use Rattle.indexed_map.specs.Ever.{IsIndexedEver, IsPlacedEver}
+use Rattle.indexed_map.specs.Ever.{place_ever, IsIndexedEver, IsPlacedEver}
 use Rattle.indexed_map.specs.Indexed.{Stand, IsIndexed, times_listed, stand}
-use Rattle.indexed_map.specs.Placed.{IsPlaced}
-use Rattle.indexed_map.proofs.EverHeld.{indexed_ever}
-use Rattle.indexed_map.proofs.Indexing.{indexed, noted_less, spared_cell, spared_uses, still_ever}
+use Rattle.indexed_map.specs.Placed.{enters, IsPlaced}
+use Rattle.indexed_map.proofs.EverHeld.{indexed_ever, lay-last}
+use Rattle.indexed_map.proofs.Indexing.{indexed, noted_less, spared_cell, still_spared, still_ever}
 use Rattle.indexed_map.proofs.maps.IndexedMap.revise.Goals as goal
 
 pub begin_uses-requires : goal.begin_uses-requires
@@ -59,7 +61,7 @@ invariant_of-self c =
           c.begin_uses-2.ensures.users);
       placed_ever = subst H (sym c.push_version.ensures.elements) c.place_ever.ensures.placed;
       spared = record {
-        users = λ b. spared_uses (lists_key c.args.listed.now b) (not (key_eq c.args.key b)) (lists_key (users_in c.end_uses.new.users b) c.args.key) (lists_key (users_in c.self.inside.users_ever b) c.args.key)
+        users = λ b. still_spared (lists_key c.args.listed.now b) (not (key_eq c.args.key b)) (lists_key (users_in c.end_uses.new.users b) c.args.key) (lists_key (users_in c.self.inside.users_ever b) c.args.key)
             (free_in c.end_uses.new.users b) (free_in c.begin_uses.new.users b) (free_in c.self.inside.users_ever b) (free_in c.begin_uses-2.new.users b)
             (still_ever c.self.inside.store.elements c.self.inside.users c.end_uses.new.users c.self.inside.users_ever c.args.key b
             (not (lists_key (refs_of c.self.inside.store.elements c.args.key) b && (key_eq c.args.key c.args.key && not (lists_key c.args.listed.now b))))
@@ -67,7 +69,12 @@ invariant_of-self c =
             (c.begin_uses.ensures.spent b)
             (c.begin_uses-2.ensures.spent b)
             (omega (arith, c.self.invariant.spared.users b, c.end_uses.ensures.room b));
-        cells = λ p. omega (arith, c.move_node.ensures.spent p, c.place_ever.ensures.room p, c.self.invariant.spared.cells p);
+        cells = λ p. still_spared (kind_eq c.args.key.kind Node) (enters p (new_position c.args.version.content)) (enters p (position c.self.inside.store.elements c.args.key)) (enters p (place_ever c.self.inside.store.elements c.args.key))
+            (free_at c.self.inside.grid p) (free_at c.move_node.new.grid p) (free_at c.self.inside.grid_ever p) (free_at c.place_ever.new.grid p)
+            (lay-last c.self.inside.store.elements c.args.key (cell_of p))
+            (c.move_node.ensures.spent p)
+            (c.place_ever.ensures.spent p)
+            (c.self.invariant.spared.cells p);
       };
       noted = noted_less
           (stand c.self.inside.store c.self.inside.users c.self.inside.grid c.self.inside.users_ever c.self.inside.grid_ever)
@@ -76,7 +83,7 @@ invariant_of-self c =
           c.self.invariant.noted
           (λ k. omega (arith, c.push_version.ensures.room k))
           (λ b. omega (arith, c.begin_uses.ensures.no_more b, c.end_uses.ensures.room b))
-          c.move_node.ensures.no_more
+          (λ p. omega (arith, c.move_node.ensures.spent p))
           c.begin_uses-2.ensures.no_more
-          c.place_ever.ensures.no_more;
+          (λ p. omega (arith, c.place_ever.ensures.spent p));
     }
