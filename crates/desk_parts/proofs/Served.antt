@@ -12,7 +12,7 @@ use Rattle.session_desk.specs.Steps.{Answers}
 use Rattle.snapshot_hub.specs.Known.{Known}
 use Rattle.user_table.specs.Users.{Users}
 use Rattle.session_desk.specs.Answered.{Replies}
-use Rattle.session_desk.specs.Laws.{nothing_answered, refusal_answered}
+use Rattle.session_desk.proofs.Rows.{unanswered, refusal_answers}
 use Rattle.desk_parts.specs.Answered.{AnswersMessage}
 use Rattle.desk_parts.specs.Replies.{reply_of}
 
@@ -29,11 +29,11 @@ module _ {S C Q P E K : Type 0} (rules : Rules S C Q P E K) (request_of : Users 
 
   pub nothing_replied : (users : Users) (it : Known E) (message : Message) (moment : ℕ) → Replies (AnswersMessage rules request_of) users it message moment (reply_of None) it
   nothing_replied users it message moment =
-      request_replied users it it message (request_of users message) moment None (reply_of None) refl (nothing_answered rules it it (request_of users message) moment refl) refl
+      request_replied users it it message (request_of users message) moment None (reply_of None) refl (unanswered rules it it (request_of users message) moment refl) refl
 
   pub refusal_replied : (users : Users) (it : Known E) (message : Message) (moment : ℕ) (answer : List ℕ) (result : Result Reply Memory)
       → request_of users message ≡ Refused answer → IfOk result (λ reply. reply ≡ reply_of (Some answer))
       → Replies (AnswersMessage rules request_of) users it message moment (counted_reply result) it
   refusal_replied users it message moment answer (Ok reply) asks told =
-      request_replied users it it message (Refused answer) moment (Some answer) reply asks (refusal_answered rules it answer moment) told
+      request_replied users it it message (Refused answer) moment (Some answer) reply asks (refusal_answers rules it answer moment) told
   refusal_replied users it message moment answer (Err memory) asks told = nothing_replied users it message moment
