@@ -1,9 +1,11 @@
 #!/usr/bin/python3
-"""Writes a map as a file: examples/export_osm.py --server URL [--box WEST,SOUTH,EAST,NORTH] FILE
+"""Writes a map as a file: examples/export_osm.py --server URL [--box WEST,SOUTH,EAST,NORTH] [--replication URL] FILE
 
 FILE is a .osm, .osm.pbf or the like, and new; needs Debian's python3-pyosmium. Without a box it is the whole map, read by
 id to the last one; then nobody should be editing. With a box, in degrees, it is what the server's map call tells of it,
-in parts where the box is too large for one: relations come without those of their members that are elsewhere.
+in parts where the box is too large for one: relations come without those of their members that are elsewhere. With
+--replication, the address of the folder that replication/run writes, FILE says from which number on its changes are
+wanted (a .osm.pbf has room for that): then somebody may be editing, since what is newer comes with them once more.
 """
 
 from __future__ import annotations
@@ -11,6 +13,7 @@ from __future__ import annotations
 import argparse
 import os
 import sys
+import urllib.request
 from collections.abc import Iterator
 
 import osm_file
@@ -73,6 +76,18 @@ def read_many(client: Client, kind: str, first: int, end: int) -> list[Element]:
         return read_many(client, kind, first, int(why.why["id"]))
 
 
+def replication_headers(base_url: str) -> dict[str, str]:
+    """What the newest state of a folder of replication says, as OpenStreetMap's programs look for it in a file's head."""
+    with urllib.request.urlopen(base_url.rstrip("/") + "/state.txt", timeout=60) as reply:
+        lines = reply.read().decode().splitlines()
+    fields = dict(line.split("=", 1) for line in lines if "=" in line and not line.startswith("#"))
+    return {
+        "osmosis_replication_base_url": base_url,
+        "osmosis_replication_sequence_number": fields["sequenceNumber"],
+        "osmosis_replication_timestamp": fields["timestamp"].replace("\\", ""),
+    }
+
+
 def box_of(text: str) -> Box:
     """`WEST,SOUTH,EAST,NORTH` in degrees."""
     west, south, east, north = (round(float(it) * 1e7) for it in text.split(","))
@@ -83,15 +98,18 @@ def main() -> int:
     parser = argparse.ArgumentParser(usage=(__doc__ or "").split("\n\n")[0].partition(": ")[2])
     parser.add_argument("--server", required=True)
     parser.add_argument("--box", type=box_of)
+    parser.add_argument("--replication")
     parser.add_argument("file")
     it = parser.parse_args()
     if os.path.exists(it.file):
         sys.exit(f"export_osm.py: {it.file} is there already")
     client = Client(it.server)
     try:
+        # Before the map is read, so that the file has all that the state stands for.
+        headers = replication_headers(it.replication) if it.replication else {}
         elements = read_box(client, it.box) if it.box else read_all(client)
-        osm_file.write(it.file, elements.values())
-    except (Refused, Lost, RuntimeError) as why:
+        osm_file.write(it.file, elements.values(), headers)
+    except (Refused, Lost, RuntimeError, OSError, KeyError) as why:
         print(f"export_osm.py: {why}", file=sys.stderr)
         return 1
     counts = ", ".join(f"{sum(name[0] == kind for name in elements)} {kind}s" for kind in KINDS)

@@ -2,7 +2,7 @@
 
 from __future__ import annotations
 
-from collections.abc import Iterable
+from collections.abc import Iterable, Mapping
 from typing import Any
 
 import osmium
@@ -11,6 +11,7 @@ import osmium.osm.mutable as mutable
 from map_client import KINDS, Element, Key
 
 LETTERS = {"n": "node", "w": "way", "r": "relation"}
+BUFFER = 4 << 20  # bytes, as pyosmium has it
 LETTER_OF = {kind: letter for letter, kind in LETTERS.items()}
 
 
@@ -57,10 +58,13 @@ def mutable_of(it: Element) -> Any:
     return mutable.Relation(members=members, **given)
 
 
-def write(path: str, elements: Iterable[Element]) -> None:
+def write(path: str, elements: Iterable[Element], headers: Mapping[str, str] | None = None) -> None:
     """A new file, of the form that the end of its name says: nodes, then ways, then relations, each by id."""
     order = {kind: place for place, kind in enumerate(KINDS)}
-    writer = osmium.SimpleWriter(path)
+    header = osmium.io.Header()
+    for name, value in (headers or {}).items():
+        header.set(name, value)
+    writer = osmium.SimpleWriter(path, BUFFER, header)
     for it in sorted(elements, key=lambda it: (order[it["type"]], it["id"])):
         getattr(writer, f"add_{it['type']}")(mutable_of(it))
     writer.close()

@@ -1,0 +1,72 @@
+"""Versions of elements as a file of changes, as OpenStreetMap's programs read them: osmChange in XML, packed by gzip."""
+
+from __future__ import annotations
+
+import gzip
+import io
+import re
+from collections.abc import Iterable, Iterator
+from typing import Any
+from xml.sax.saxutils import quoteattr
+
+from made import KINDS
+
+Element = dict[str, Any]
+# What no text of XML 1.0 can have, nor tell by a number.
+NOT_XML = re.compile("[^\t\n\r\x20-\ud7ff\ue000-\ufffd\U00010000-\U0010ffff]")
+
+
+def attribute(name: str, value: object) -> str:
+    return f" {name}={quoteattr(NOT_XML.sub(chr(0xFFFD), str(value)))}"
+
+
+def degrees(units: int) -> str:
+    return f"{'-' if units < 0 else ''}{abs(units) // 10**7}.{abs(units) % 10**7:07}"
+
+
+def action_of(element: Element) -> str:
+    if not element["visible"]:
+        return "delete"
+    return "create" if element["version"] == 1 else "modify"
+
+
+def inner_lines(element: Element) -> Iterator[str]:
+    for ref in element.get("nodes", ()):
+        yield f'      <nd ref="{ref}"/>\n'
+    for member in element.get("members", ()):
+        yield f'      <member type="{member["type"]}" ref="{member["ref"]}"{attribute("role", member["role"])}/>\n'
+    # Two keys may be the same once they are fit for XML; then the first one counts.
+    tags = {attribute("k", key): value for key, value in reversed(element.get("tags", {}).items())}
+    for key, value in reversed(tags.items()):
+        yield f"      <tag{key}{attribute('v', value)}/>\n"
+
+
+def lines(element: Element) -> Iterator[str]:
+    """A version, with its kind, id, version, who made it and when, and where it is visible its content."""
+    head = "".join(attribute(name, element[name]) for name in ("id", "version", "timestamp", "changeset", "uid", "user"))
+    if "lat7" in element:
+        head += f' lat="{degrees(element["lat7"])}" lon="{degrees(element["lon7"])}"'
+    inner = "".join(inner_lines(element))
+    kind = element["type"]
+    yield f"    <{kind}{head}>\n{inner}    </{kind}>\n" if inner else f"    <{kind}{head}/>\n"
+
+
+def text_of(elements: Iterable[Element]) -> Iterator[str]:
+    """The whole text: nodes, ways, relations, each by id and version, neighbours of one action together."""
+    yield '<?xml version="1.0" encoding="UTF-8"?>\n<osmChange version="0.6" generator="hegunsap">\n'
+    action = ""
+    for element in sorted(elements, key=lambda it: (KINDS.index(it["type"]), it["id"], it["version"])):
+        if action_of(element) != action:
+            yield (f"  </{action}>\n" if action else "") + f"  <{action_of(element)}>\n"
+            action = action_of(element)
+        yield from lines(element)
+    yield (f"  </{action}>\n" if action else "") + "</osmChange>\n"
+
+
+def packed(elements: Iterable[Element]) -> bytes:
+    """The bytes of the file: the same for the same versions, whenever they are written."""
+    out = io.BytesIO()
+    with gzip.GzipFile(fileobj=out, mode="wb", mtime=0) as file:
+        for text in text_of(elements):
+            file.write(text.encode())
+    return out.getvalue()

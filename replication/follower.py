@@ -1,0 +1,146 @@
+"""Follows a server's feed, and writes what each interval made into the folder."""
+
+from __future__ import annotations
+
+import hashlib
+import time
+from collections import deque
+from collections.abc import Sequence
+
+from feed import Feed, OtherJournal, Unusable
+from folder import Folder, State
+from kept_link import Lost
+from made import Counts, Made, Version, made_by, read_piece
+from own_mirror import OwnMirror
+
+MOST_VERSIONS = 50_000  # from so many on a file ends, at the end of a piece
+MOST_POSTED = 500  # pieces that are held back for the mirror
+
+
+class Follower:
+    """The feed, a mirror of its own that has each piece that was looked at, and the folder.
+
+    A mirror keeps nothing on a disk, so it is given all pieces from the first one on at each start. With that it is seen whether the feed
+    is still the one that the folder was made of: the SHA-256 over all its pieces must come out again.
+    """
+
+    def __init__(self, feed: Feed, mirror: OwnMirror, folder: Folder) -> None:
+        self.feed, self.mirror, self.folder = feed, mirror, folder
+        self.state = folder.newest()
+        self.is_level = False
+        self.ahead: deque[bytes] = deque()
+        self.unposted: list[bytes] = []
+        self.counts, self.digest = Counts(), hashlib.sha256()
+        self.versions: dict[Version, None] = {}
+        self.at = 0
+
+    def advance(self) -> list[State]:
+        """Takes what the feed has, and tells which files came of it. Lost is raised behind what could be written."""
+        self.catch_up()
+        lost: Lost | None = None
+        written: list[State] = []
+        while lost is None:
+            try:
+                is_whole = self.gather()
+            except Lost as why:
+                lost, is_whole = why, True
+            self.post()
+            if self.versions:
+                written.append(self.publish())
+            if is_whole:
+                break
+        if lost is not None and not written:
+            raise lost
+        return written
+
+    def rest(self) -> None:
+        """Ends the links until the next time: a kept one would hold a worker of the server."""
+        self.feed.site.close()
+        self.mirror.site.close()
+
+    def catch_up(self) -> None:
+        """Gives the mirror what the folder has already. Of a new folder it writes the beginning."""
+        if self.is_level:
+            return
+        state = self.state or self.begin()
+        while self.mirror.length + len(self.unposted) < state.piece:
+            text = self.next_text()
+            if text is None:
+                raise OtherJournal(
+                    f"{self.feed.site.url} has another journal than {self.folder.path}: it is shorter than {state.piece} pieces"
+                )
+            self.look_at(text)
+        self.post()
+        if self.digest.hexdigest() != state.digest:
+            raise OtherJournal(
+                f"{self.feed.site.url} has another journal than {self.folder.path}: its first {state.piece} pieces are others"
+            )
+        self.is_level = True
+
+    def begin(self) -> State:
+        """Sequence number 0, without changes, just before the first piece."""
+        text = self.next_text()
+        if text is not None:
+            self.ahead.appendleft(text)
+        moment = int(time.time()) if text is None else read_piece(text).at - 1
+        self.state = State(0, moment, 0, hashlib.sha256().hexdigest())
+        self.folder.publish(self.state, ())
+        return self.state
+
+    def next_text(self) -> bytes | None:
+        if not self.ahead:
+            self.ahead.extend(self.feed.next_pieces())
+        return self.ahead.popleft() if self.ahead else None
+
+    def gather(self) -> bool:
+        """Looks at pieces until the feed ends or a file is full; answers whether it ended."""
+        while len(self.versions) < MOST_VERSIONS:
+            text = self.next_text()
+            if text is None:
+                return True
+            self.look_at(text)
+        return False
+
+    def look_at(self, text: bytes) -> None:
+        piece = read_piece(text)
+        made = made_by(piece, self.counts)
+        self.digest.update(text + b"\n")
+        if self.is_level:
+            self.at = piece.at
+            self.versions.update(dict.fromkeys(made.sure))
+            if made.perhaps:
+                self.versions.update(dict.fromkeys(self.new_ones(text, made)))
+                return
+        self.unposted.append(text)
+        if len(self.unposted) >= MOST_POSTED:
+            self.post()
+
+    def new_ones(self, text: bytes, made: Made) -> Sequence[Version]:
+        """Which of the uncertain versions a piece made: those that weren't there before and are there behind it."""
+        self.post()
+        paths = [f"{it.path}?show_redactions=true" for it in made.perhaps]
+        before = self.mirror.read(paths)
+        self.mirror.post([text])
+        after = self.mirror.read(paths)
+        return [it for it, was, now in zip(made.perhaps, before, after) if was is None and now is not None]
+
+    def post(self) -> None:
+        self.mirror.post(self.unposted)
+        self.unposted.clear()
+
+    def publish(self) -> State:
+        """One file with every version of the interval that no redaction hides at its end."""
+        assert self.state is not None
+        names = list(self.versions)
+        elements = self.mirror.read([f"{it.path}?show_redactions=true" for it in names])
+        for name, element in zip(names, elements):
+            if element is None:
+                raise Unusable(f"the mirror has no {name.path}, which the feed tells of")
+        shown = [it for it in elements if it is not None and "redaction" not in it]
+        # Moments of files rise, so that none is found in place of another by its moment.
+        moment = max(self.at, self.state.moment + 1)
+        state = State(self.state.sequence + 1, moment, self.mirror.length, self.digest.hexdigest())
+        self.folder.publish(state, shown)
+        self.state = state
+        self.versions.clear()
+        return state

@@ -1,0 +1,104 @@
+"""A mirror of this program's own, which is given pieces and asked what they made."""
+
+from __future__ import annotations
+
+import ctypes
+import json
+import os
+import secrets
+import signal
+import socket
+import subprocess
+import tempfile
+import time
+from collections.abc import Sequence
+from typing import Any
+
+from feed import Unusable
+from kept_link import Lost, Site
+
+WAIT = 600  # seconds for a mirror to begin, since an unproved one is made first
+PR_SET_PDEATHSIG = 1
+
+
+class Ended(Exception):
+    """The mirror is gone, and with it what it had: it takes a new one."""
+
+
+def end_with_parent() -> None:
+    """In the child: whatever ends this program ends the mirror too (Linux)."""
+    ctypes.CDLL(None).prctl(PR_SET_PDEATHSIG, signal.SIGTERM)
+
+
+def free_port() -> int:
+    with socket.socket() as free:
+        free.bind(("127.0.0.1", 0))
+        return int(free.getsockname()[1])
+
+
+class OwnMirror:
+    """Starts an empty mirror on a free port of the loopback, with one user who may post pieces; `close` ends it.
+
+    A mirror that serves its standard streams would end behind 1,000 requests, so it listens.
+    """
+
+    def __init__(self, words: Sequence[str]) -> None:
+        self.length, port, token = 0, free_port(), secrets.token_hex(16)
+        self.site = Site(f"http://127.0.0.1:{port}", token)
+        with tempfile.TemporaryDirectory() as folder:
+            users = os.path.join(folder, "users.txt")
+            with open(users, "w", encoding="utf-8") as file:
+                file.write(f"1 {token} moderator replication\n")
+            more = ("--users", users, "--listen", f"127.0.0.1:{port}", "--workers", "2")
+            self.process = subprocess.Popen([*words, *more], stdin=subprocess.DEVNULL, preexec_fn=end_with_parent)
+            try:
+                self.wait_for_it(words[0])
+            except BaseException:
+                self.close()
+                raise
+
+    def wait_for_it(self, program: str) -> None:
+        until = time.monotonic() + WAIT
+        while True:
+            try:
+                self.site.ask(self.site.get("replication/state"))
+                return
+            except Lost:
+                if self.process.poll() is not None:
+                    raise Unusable(f"the mirror's program {program} ended with status {self.process.returncode}") from None
+                if time.monotonic() > until:
+                    raise Unusable(f"the mirror's program {program} doesn't answer") from None
+                time.sleep(0.02)
+
+    def post(self, pieces: Sequence[bytes]) -> None:
+        """Gives it the pieces that come next."""
+        try:
+            for reply in self.site.exchange([self.site.post("replication", it) for it in pieces]):
+                self.length += 1
+                if reply.status != 200 or json.loads(reply.body).get("taken") != "folded":
+                    raise Unusable(
+                        f"piece {self.length} isn't taken by a mirror: {reply.status} {reply.body[:200].decode(errors='replace')}"
+                    )
+        except Lost as why:
+            raise Ended(str(why)) from why
+
+    def read(self, paths: Sequence[str]) -> list[dict[str, Any] | None]:
+        """The first element of each reply, with those that are redacted; none where there is no such element or version."""
+        found: list[dict[str, Any] | None] = []
+        try:
+            for path, reply in zip(paths, self.site.exchange([self.site.get(it) for it in paths])):
+                if reply.status not in (200, 404):
+                    raise Unusable(f"the mirror's reply to {path}: {reply.status} {reply.body[:200].decode(errors='replace')}")
+                found.append(json.loads(reply.body)["elements"][0] if reply.status == 200 else None)
+        except Lost as why:
+            raise Ended(str(why)) from why
+        return found
+
+    def close(self) -> None:
+        self.site.close()
+        self.process.terminate()
+        try:
+            self.process.wait(10)
+        except subprocess.TimeoutExpired:
+            self.process.kill()
+            self.process.wait()

@@ -1,0 +1,127 @@
+"""OpenStreetMap's own programs as followers of a folder of replication: each is begun with a file and brought up to date."""
+
+from __future__ import annotations
+
+import http.server
+import os
+import pwd
+import shutil
+import socketserver
+import subprocess
+import threading
+from collections.abc import Sequence
+from functools import partial
+
+POSTGRES = "/usr/lib/postgresql/15/bin"
+
+
+class Failed(Exception):
+    """A follower's program ended with another status than 0."""
+
+
+def run(words: Sequence[str], statuses: Sequence[int] = (0,), user: str = "", folder: str | None = None) -> str:
+    before = ["runuser", "-u", user, "--"] if user and os.geteuid() == 0 else []
+    done = subprocess.run([*before, *words], capture_output=True, text=True, timeout=300, check=False, cwd=folder)
+    if done.returncode not in statuses:
+        raise Failed(f"{' '.join(words)} ended with status {done.returncode}: {done.stdout[-800:]}{done.stderr[-1500:]}")
+    return done.stdout
+
+
+class Quiet(http.server.SimpleHTTPRequestHandler):
+    def log_message(self, format: str, *args: object) -> None:
+        pass
+
+
+class Files:
+    """A folder as http files on a free port of the loopback, until the end of a `with`."""
+
+    def __init__(self, folder: str) -> None:
+        self.server = socketserver.ThreadingTCPServer(("127.0.0.1", 0), partial(Quiet, directory=folder))
+        self.server.daemon_threads = True
+        self.url = f"http://127.0.0.1:{self.server.server_address[1]}"
+        threading.Thread(target=self.server.serve_forever, daemon=True).start()
+
+    def __enter__(self) -> Files:
+        return self
+
+    def __exit__(self, *_: object) -> None:
+        self.server.shutdown()
+        self.server.server_close()
+
+
+def by_pyosmium(base: str, out: str) -> None:
+    """`pyosmium-up-to-date`, by what the file's head says; 1 is its status where there may be more."""
+    shutil.copy(base, out)
+    run(["pyosmium-up-to-date", "-vv", out], statuses=(0, 1))
+
+
+def by_osmosis(base: str, out: str, url: str, state: str, folder: str) -> None:
+    """`--read-replication-interval` from the state that the file was made at, then `--apply-change`."""
+    os.makedirs(folder)
+    shutil.copy(state, os.path.join(folder, "state.txt"))
+    with open(os.path.join(folder, "configuration.txt"), "w", encoding="utf-8") as file:
+        file.write(f"baseUrl={url}\nmaxInterval=0\n")
+    changes = os.path.join(folder, "changes.osc.gz")
+    run(["osmosis", "-q", "--read-replication-interval", f"workingDirectory={folder}", "--simplify-change", "--write-xml-change", changes])
+    run(["osmosis", "-q", "--read-xml-change", changes, "--read-pbf", base, "--apply-change", "--write-pbf", out, "omitmetadata=false"])
+
+
+class Database:
+    """A cluster of PostgreSQL of its own, with PostGIS, until the end of a `with`; of the user postgres where this is root."""
+
+    def __init__(self, folder: str) -> None:
+        self.folder, self.name = os.path.join(folder, "postgres"), "osm"
+        os.makedirs(self.folder)
+        if os.geteuid() == 0:
+            os.chmod(folder, 0o711)
+            os.chown(self.folder, pwd.getpwnam("postgres").pw_uid, -1)
+        self.data = os.path.join(self.folder, "data")
+
+    def postgres(self, name: str, *words: str) -> str:
+        return run([os.path.join(POSTGRES, name), *words], user="postgres", folder=self.folder)
+
+    def __enter__(self) -> Database:
+        self.postgres("initdb", "-D", self.data, "-A", "trust", "-U", "postgres")
+        options = f"-c listen_addresses='' -c unix_socket_directories='{self.folder}' -c fsync=off"
+        self.postgres("pg_ctl", "-D", self.data, "-o", options, "-l", os.path.join(self.folder, "log"), "-w", "start")
+        self.ask("create database osm", "postgres")
+        self.ask("create extension postgis; create extension hstore")
+        return self
+
+    def __exit__(self, *_: object) -> None:
+        self.postgres("pg_ctl", "-D", self.data, "-m", "immediate", "stop")
+
+    def ask(self, query: str, database: str = "osm") -> str:
+        return self.postgres("psql", "-h", self.folder, "-U", "postgres", "-d", database, "-v", "ON_ERROR_STOP=1", "-Atqc", query)
+
+    def load(self, file: str, prefix: str) -> None:
+        words = ["-d", "osm", "-H", self.folder, "-U", "postgres", "--prefix", prefix, "-C", "50", "--number-processes", "1"]
+        run(["osm2pgsql", *words, "--create", "--slim", "--hstore-all", "--extra-attributes", file])
+
+    def follow(self, command: str, *words: str, more: Sequence[str] = ()) -> None:
+        """A command of osm2pgsql-replication."""
+        whose = ["-d", "osm", "-H", self.folder, "-U", "postgres", "--prefix", "planet_osm"]
+        run(["osm2pgsql-replication", command, *whose, *words, *(["--", *more] if more else [])])
+
+    def rows(self, table: str) -> list[str]:
+        return sorted(self.ask(f"select t::text from {table} t").splitlines())
+
+
+TABLES = ("point", "line", "polygon", "roads", "nodes", "ways", "rels")
+
+
+def by_osm2pgsql(base: str, wanted: str, folder: str) -> dict[str, int]:
+    """Loads the file, follows by osm2pgsql-replication, and compares each table with those of a fresh import; tells of their rows."""
+    with Database(folder) as database:
+        database.load(base, "planet_osm")
+        database.follow("init", "--osm-file", base)
+        database.follow("update", more=["-C", "50", "--number-processes", "1", "--hstore-all", "--extra-attributes"])
+        database.load(wanted, "fresh")
+        counts = {}
+        for table in TABLES:
+            found, right = database.rows(f"planet_osm_{table}"), database.rows(f"fresh_{table}")
+            if found != right:
+                wrong = sorted(set(found) ^ set(right))[:4]
+                raise Failed(f"table planet_osm_{table}: {len(found)} rows in place of {len(right)}, as {wrong}")
+            counts[table] = len(found)
+        return counts
