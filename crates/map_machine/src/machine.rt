@@ -21,7 +21,6 @@ use crate::answers::bytes_of;
 use crate::judging::judge_on;
 use crate::planning::{command_still, plan_command, upload_answer, upload_entry};
 use crate::plans::{Asked, MapPlan};
-
 use crate::world_asks::world_ask;
 use machine_law::{Machine, Settled, Tag};
 use osm_base::{Bytes, Memory, Stamp, Steps, TryCopy};

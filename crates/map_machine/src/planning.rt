@@ -16,7 +16,6 @@ ghost use Rattle.map_machine.specs.Machine.{IsPlannedAs, StandsAs, DiffersAs};
 ghost use Rattle.map_machine.specs.declared.plans.Asked.{Asked};
 
 use crate::plans::{Asked, MapPlan};
-
 use machine_law::Tag;
 use osm_base::{Memory, Stamp, Steps, TryCopy};
 use osm_change::{Answer, Change, FirstIds, OneOp, Op, OpDone, OpDones, kind_of};
