@@ -3,14 +3,10 @@ pub mod Bodies
 pub mod Request
 pub mod Feed
 pub mod Answered
-pub mod Judging
-pub mod Machine
-pub mod Laws
 pub mod Answers
 pub mod Gives
 pub mod MachineRows
 pub mod Desk
-pub mod HubDesk
 pub mod Loads
 pub mod Longer
-pub mod SessionDesk
+pub mod HubDesk
