@@ -14,7 +14,7 @@ use Rattle.session_desk.specs.Steps.{place_at, told, Answers as AnswersBy}
 use Rattle.api_desk.specs.Answered.{IsRow}
 use Rattle.api_desk.specs.Answers.{reply_of, Answers}
 use Rattle.api_desk.specs.Feed.{says}
-use Rattle.api_desk.specs.Machine.{map_rules, bytes_of}
+use Rattle.map_machine.specs.Machine.{map_rules, bytes_of}
 use Rattle.api_desk.specs.MachineRows.{asked_of, bytes_told, TellsBytes}
 use Rattle.api_desk.specs.Request.{Ask, of_map, request_of}
 use Rattle.api_desk.specs.HubDesk.{Replies, stands_at}

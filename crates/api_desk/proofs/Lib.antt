@@ -1,5 +1,4 @@
 pub mod Fronts
-pub mod Journals
 pub mod ReplyBytes
 pub mod Rows
 pub mod Answered
@@ -11,8 +10,5 @@ pub mod MachineRows
 pub mod HubReplies
 pub mod HubSessions
 pub mod Settled
-pub mod RowSteps
-pub mod Told
 pub mod Loads
-pub mod PlanSteps
 pub mod Sendable

@@ -14,7 +14,7 @@ use Rattle.api_desk.specs.Request.{Ask, of_map, of_feed, request_of}
 use Rattle.api_desk.specs.declared.feed.FeedCall.{FeedCall}
 use Rattle.api_desk.specs.declared.load_faults.LoadFault.{LoadFault}
 use Rattle.api_desk.specs.declared.load_faults.LoadFault.TheVariants.{Memory, NoCommand}
-use Rattle.api_desk.specs.declared.requests.Asked.{Asked}
+use Rattle.map_machine.specs.declared.plans.Asked.{Asked}
 use Rattle.api_desk.specs.Loads.{IsAsked, IsNoWork, AreAsked, events_by, events_of, AreEventsOf, LacksCommand, FailsBy, GivesCommand, GivesWork, AreEvents, FailsAt}
 use Rattle.whole_messages.specs.Messages.{BeginsAs}
 use Rattle.workload.specs.Users.{AreUsersOf}

@@ -13,7 +13,7 @@ use Rattle.osm_model.specs.declared.commands.Entry.{Entry}
 use Rattle.osm_model.specs.declared.queries.Query.{Query}
 use Rattle.session_desk.specs.Rows.{RefusesRequest, LacksMemory, IsOwed, RefusesCommand, AcceptsCommand, AnswersQuery}
 use Rattle.session_desk.specs.Rows.{IsRow as IsRowBy, Place as Step}
-use Rattle.api_desk.specs.Machine.{map_rules, bytes_of, entry_if}
+use Rattle.map_machine.specs.Machine.{map_rules, bytes_of, entry_if}
 use Rattle.api_desk.specs.MachineRows.{asked_of, place_of, HasRow}
 
 lacks : (F : List Entry) (s : ℕ) (before after : Step) (request : Request) (m : ℕ) (bytes : Option (List ℕ))

@@ -12,7 +12,7 @@ use Rattle.osm_json.specs.Refused.{refusal_status}
 use Rattle.http_link.specs.declared.desk.Reply.{Reply}
 use Rattle.api_desk.specs.Answers.{reply_of}
 use Rattle.api_desk.specs.Feed.{says}
-use Rattle.api_desk.specs.Machine.{bytes_of}
+use Rattle.map_machine.specs.Machine.{bytes_of}
 
 -- ---- statuses
 

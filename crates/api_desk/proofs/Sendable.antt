@@ -28,14 +28,14 @@ use Rattle.snapshot_hub.proofs.hub.Hub.TheSendSync as OfHub
 use Rattle.snapshot_hub.proofs.session.Session.TheSendSync as OfSession
 use Rattle.snapshot_hub.proofs.shown.Shown.TheSendSync as OfShown
 use Rattle.user_table.proofs.tables.UserTable.TheSendSync as OfUserTable
-use Rattle.api_desk.specs.contracts.machine.MapMachine as MapMachine
-use Rattle.api_desk.specs.contracts.machine.MapMachineMachine.TheImpl as machine
-use Rattle.api_desk.specs.contracts.machine.MapWorld as MapWorld
-use Rattle.api_desk.specs.contracts.plans.MapPlan as MapPlan
-use Rattle.api_desk.specs.contracts.requests.Asked as Asked
+use Rattle.map_machine.specs.contracts.machine.MapMachine as MapMachine
+use Rattle.map_machine.specs.contracts.machine.MapMachineMachine.TheImpl as machine
+use Rattle.map_machine.specs.contracts.machine.MapWorld as MapWorld
+use Rattle.map_machine.specs.contracts.plans.MapPlan as MapPlan
+use Rattle.map_machine.specs.contracts.plans.Asked as Asked
 use Rattle.api_desk.specs.contracts.hub_desk.HubDesk as HubDesk
 use Rattle.api_desk.specs.contracts.hub_desk.HubDesk.TheInside as Inside
-use Rattle.api_desk.proofs.machine.MapWorld.TheSendSync as OfMapWorld
+use Rattle.map_machine.proofs.machine.MapWorld.TheSendSync as OfMapWorld
 
 step : (T : S.Declared) (D : Type 0) (c : Coded D) (v : (S.row T).Denot → D) (h : (S.row T).Denot → Type 0) → FieldsHave IsSend T.parts → IsSend (View (S.row T) D c v h)
 step T D c v h s = view_send (S.row T) D c v h (declared_send T s)

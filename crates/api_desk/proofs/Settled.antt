@@ -8,8 +8,8 @@ use Rattle.snapshot_hub.specs.Known.{Known, caught_up}
 use Rattle.session_desk.specs.Rows.{Request, Place, IsRow}
 use Rattle.session_desk.specs.Rows.Request.{Refused, Does, Reads}
 use Rattle.session_desk.specs.Steps.{place_at, Answers}
-use Rattle.api_desk.specs.Machine.{map_rules}
-use Rattle.api_desk.specs.declared.requests.Asked.{Asked}
+use Rattle.map_machine.specs.Machine.{map_rules}
+use Rattle.map_machine.specs.declared.plans.Asked.{Asked}
 use Rattle.api_desk.specs.HubDesk.{IsSettled, IsFresh}
 use Rattle.api_desk.proofs.Fronts.{prefix_self, prefix_trans, prefix_length}
 

@@ -3,9 +3,6 @@ pub mod Bodies
 pub mod Request
 pub mod Feed
 pub mod Answered
-pub mod Judging
-pub mod Machine
-pub mod Laws
 pub mod Answers
 pub mod Gives
 pub mod MachineRows

@@ -14,7 +14,7 @@ use Rattle.workload.specs.Users.{AreUsersOf}
 use Rattle.api_desk.specs.Request.{Ask, of_map, of_feed, request_of}
 use Rattle.api_desk.specs.declared.load_faults.LoadFault.{LoadFault}
 use Rattle.api_desk.specs.declared.load_faults.LoadFault.TheVariants.{Memory, NoCommand}
-use Rattle.api_desk.specs.declared.requests.Asked.{Asked}
+use Rattle.map_machine.specs.declared.plans.Asked.{Asked}
 
 -- ---- the command of one request
 

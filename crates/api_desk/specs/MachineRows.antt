@@ -10,8 +10,8 @@ use Rattle.session_desk.specs.Rows.Request.{Refused, Does, Reads}
 use Rattle.http_link.specs.declared.desk.Reply.{Reply}
 use Rattle.api_desk.specs.Answers.{reply_of}
 use Rattle.api_desk.specs.Feed.{says}
-use Rattle.api_desk.specs.Machine.{bytes_of}
-use Rattle.api_desk.specs.declared.requests.Asked.{Asked}
+use Rattle.map_machine.specs.Machine.{bytes_of}
+use Rattle.map_machine.specs.declared.plans.Asked.{Asked}
 
 -- a request of the map as one of its machine, which tells a refusal by its bytes
 abbrev pub asked_of : Request → Call Asked Query

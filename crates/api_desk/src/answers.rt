@@ -1,7 +1,4 @@
-//! An answer as bytes, the two of its status, high byte first, and then its body; and as a reply.
-//!
-//! An answer's bytes begin with its status, and the desk takes the two off in place. The status is
-//! put before the body by moving it, so the body is never held twice.
+//! An answer of the map as a reply.
 ghost use Rattle.std.specs.Prelude.{◌≡◌, ℕ, ◌+◌, ◌*◌, ◌/◌, ◌%◌, ◌≤◌, ◌∷◌, List, length, drop, slice_index, Some, Err, IfOk};
 ghost use Rattle.osm_base.specs.Status.{IsStatus};
 ghost use Rattle.osm_change.specs.Moments.{HasShownMoments};
@@ -14,7 +11,6 @@ ghost use Rattle.api_desk.specs.Answers.{reply_of, Answers};
 ghost use Rattle.api_desk.specs.Feed.{says};
 ghost use Rattle.desk_parts.specs.Faults.{HasShownFault};
 ghost use Rattle.api_desk.specs.Gives.{GivesRequest, TellsFault};
-ghost use Rattle.api_desk.specs.Machine.{bytes_of};
 ghost use Rattle.api_desk.specs.Request.{request_of};
 
 use desk_parts::RequestFault;
@@ -23,25 +19,6 @@ use osm_base::{Bytes, Memory};
 use osm_change::Answer;
 use osm_json::{answer_body, answer_status};
 use std::alloc::Global;
-
-/// The bytes of an answer.
-pub(crate) fn bytes_of(alloc: Global, answer: &Answer<'_>) -> Result<Bytes, Memory>
-    requires { HasShownMoments answer.now }
-    ensures { IfOk result (λ bytes. bytes ≡ bytes_of answer.now) }
-{
-    let body = answer_body(alloc, answer)?;
-    with_status(answer_status(answer), body)
-}
-
-fn with_status(status: u16, body: Bytes) -> Result<Bytes, Memory>
-    ensures { IfOk result (λ bytes. bytes ≡ (status / 256) ∷ (status % 256) ∷ body) }
-{
-    let mut bytes = body.into_vec();
-    bytes.reserve(2)?;
-    bytes.insert(0, (status % 256) as u8)?;
-    bytes.insert(0, (status / 256) as u8)?;
-    Ok(Bytes::from_vec(bytes))
-}
 
 /// The reply that the bytes of an answer tell. It takes no memory.
 pub fn reply_from(answer: Bytes) -> Reply

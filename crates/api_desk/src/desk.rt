@@ -20,12 +20,12 @@ ghost use Rattle.api_desk.specs.Request.{request_of};
 
 use crate::answers::{refuse, reply_from};
 use crate::feed::feed_reply;
-use crate::machine::MapMachine;
-use crate::requests::{Asked, Request, request_of};
+use crate::requests::{Request, request_of};
 use http_link::{Desk, Reply};
 use http_wire::Message;
 use hub_core::{Book, NoOutlet};
 use machine_law::{Machine, Tag};
+use map_machine::{Asked, MapMachine, book_law, commits_are_the_maps, next_call};
 use osm_base::{Memory, Steps};
 use osm_model::{Entry, Query};
 use osm_world::World;
@@ -58,23 +58,8 @@ fn change<L: Ledger>(
     };
     let plan = MapMachine::plan(alloc, book.world(), asked, steps)?;
     let done = book.commit(plan, moment, tag, &mut NoOutlet, steps)?;
+    commits_are_the_maps();
     Ok(reply_from(done.answer))
-}
-
-/// The number of a session's next call.
-pub fn next_call(book: &Book<MapMachine>, session: u32) -> u64
-    ensures { result ≡ calls_of session book.now + 1 }
-{
-    one_more(book.calls(session), book.journal())
-}
-
-/// A number of some of these entries, and one.
-fn one_more(calls: u64, entries: &[Entry]) -> u64
-    requires { calls ≤ length entries.now }
-    ensures { result ≡ calls + 1 }
-{
-    let _all = entries.len();
-    calls + 1
 }
 
 /// The reply to a query by all of the journal.
@@ -91,13 +76,6 @@ pub fn query_reply<L: Ledger>(
 {
     let answer = MapMachine::ask(alloc, book.world(), &query, moment, steps)?;
     Ok(reply_from(answer))
-}
-
-/// A law: what a book keeps is a legal journal.
-fn laws(book: &Book<MapMachine>)
-    ensures { IsLegal book.now }
-{
-    let _entries = book.journal();
 }
 
 /// Answers one request of a session, on a ledger of its own.
@@ -142,7 +120,7 @@ fn answer_request<L: Ledger>(
         Request::Change(asked) => change(book, alloc, session, asked, moment, steps),
         Request::Read(query) => query_reply(book, alloc, query, moment, steps),
         Request::Feed(call) => {
-            laws(book);
+            book_law(book);
             feed_reply(alloc, book.journal(), call)
         }
     }
@@ -194,6 +172,7 @@ impl<'a> OneDesk<'a> {
         ensures journal { result.now ≡ entries_of self.now }
         ensures legal { IsLegal (entries_of self.now) }
     {
+        book_law(self.book);
         self.book.journal()
     }
 
@@ -221,7 +200,7 @@ impl Desk for OneDesk<'_> {
             moment,
             Blank::new(1),
         );
-        laws(self.book);
+        book_law(self.book);
         reply
     }
 }

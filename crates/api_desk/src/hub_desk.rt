@@ -13,22 +13,22 @@ ghost use Rattle.http_link.specs.Desk.{counted_reply};
 ghost use Rattle.user_table.specs.Users.{Users};
 ghost use Rattle.session_desk.specs.Steps.{told, Answers};
 ghost use Rattle.api_desk.specs.Gives.{shown_request};
-ghost use Rattle.api_desk.specs.Machine.{map_rules};
+ghost use Rattle.map_machine.specs.Machine.{map_rules};
 ghost use Rattle.api_desk.specs.MachineRows.{asked_of, TellsBytes};
 ghost use Rattle.api_desk.specs.Request.{request_of};
 ghost use Rattle.api_desk.specs.HubDesk.{Replies, IsSettled, IsFresh};
 
 use crate::answers::{refuse, reply_from};
 use crate::hub_feed::answer_feed;
-use crate::machine::MapMachine;
-use crate::requests::{Asked, Request, request_of};
+use crate::requests::{Request, request_of};
 use http_link::{Desk, Reply};
 use http_wire::Message;
-use session_desk::{answer_command, answer_query};
+use map_machine::{Asked, MapMachine, fronts_are_the_maps};
 use osm_base::{Bytes, Memory, Steps};
 use osm_model::Query;
 use osm_outside::{Gate, Point};
 use route_table::Routes;
+use session_desk::{answer_command, answer_query};
 use shared_front::HubName;
 use snapshot_hub::{Hub, Session, Shown, Snapshot};
 use std::alloc::Global;
@@ -185,6 +185,7 @@ pub(crate) fn map_law<N: HubName, S: Snapshot<N, MapMachine>>(session: &Session<
     ensures legal { is_legal_from empty session.now.front ≡ true }
     ensures consistent { (point : ℕ) → IsConsistent (map_at session.now.front point).elements }
 {
+    fronts_are_the_maps();
     session.law();
 }
 

@@ -2,9 +2,7 @@
 ghost use Rattle.std.specs.Prelude.{◌≡◌, ◌≤◌, ◌++◌, ℕ, List, Option, length};
 ghost use mathlib.Core.List.{IsPrefix};
 ghost use Rattle.osm_model.specs.Answered.{Place, Request};
-ghost use Rattle.osm_model.specs.Journal.{IsLegal};
 ghost use Rattle.osm_model.specs.declared.commands.Entry.{Entry};
-ghost use Rattle.hub_core.specs.Journal.{IsJournal};
 ghost use Rattle.http_wire.specs.declared.message.Message.{Message};
 ghost use Rattle.http_link.specs.declared.desk.Reply.{Reply};
 ghost use Rattle.http_link.specs.Exchange.{Exchange, Chain};
@@ -14,7 +12,7 @@ ghost use Rattle.session_desk.specs.Rows.{Place as Step, IsRow};
 ghost use Rattle.session_desk.specs.Steps.{Answers};
 ghost use Rattle.api_desk.specs.Answered.{SessionRow, IsAnswered};
 ghost use Rattle.api_desk.specs.Answers.{AreAnswered};
-ghost use Rattle.api_desk.specs.Machine.{map_rules};
+ghost use Rattle.map_machine.specs.Machine.{map_rules};
 ghost use Rattle.api_desk.specs.MachineRows.{asked_of, place_of, HasRow, TellsBytes};
 ghost use Rattle.api_desk.specs.Request.{request_of, of_map};
 ghost use Rattle.api_desk.specs.HubDesk.{AtDesk, Allows, HasServed, Replies, stands_at};
@@ -66,9 +64,4 @@ pub fn served_stay()
     ensures { (users : Users) (old new : Known Entry) (point : ℕ) (exchanges : List Exchange) (front : List Entry)
         → (served : HasServed users old point exchanges new) → IsPrefix new.front front
         → AreAnswered users old.number front (stands_at old point) exchanges (stands_at new served.last) }
-{}
-
-/// A law: what is a journal by the rules of the map's machine is a legal journal of the map.
-pub fn journals_are_the_maps()
-    ensures { (journal : List Entry) → IsJournal map_rules journal → IsLegal journal }
 {}

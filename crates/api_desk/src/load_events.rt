@@ -9,10 +9,11 @@ ghost use Rattle.api_desk.specs.Request.{request_of};
 ghost use Rattle.api_desk.specs.Loads.{GivesCommand, GivesWork, events_by, AreEventsOf, FailsBy, AreEvents, FailsAt};
 
 use crate::load_faults::LoadFault;
-use crate::requests::{Asked, Request, request_of};
+use crate::requests::{Request, request_of};
 use desk_parts::RequestFault;
 use http_wire::Message;
 use hub_core::Event;
+use map_machine::Asked;
 use osm_base::{Bytes, Memory, SESSION_LIMIT};
 use osm_model::Query;
 use route_table::Routes;

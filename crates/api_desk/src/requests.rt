@@ -21,19 +21,13 @@ use crate::feed::FeedCall;
 use crate::tasks::{Edit, Task, task_of};
 use desk_parts::{RequestFault, caller_of, is_xml};
 use http_wire::Message;
+use map_machine::Asked;
 use osm_base::{TryCopy, User};
 use osm_change::Refusal;
-use osm_model::{Command, Query};
+use osm_model::Query;
 use route_table::Routes;
 use std::alloc::Global;
 use user_table::UserTable;
-
-/// A command and the user who asks for it.
-#[derive(Drop)]
-pub struct Asked {
-    pub user: User,
-    pub command: Command,
-}
 
 /// What a message asks of the map, or of the feed.
 #[derive(Drop)]

@@ -1,8 +1,9 @@
 //! A generated load as events of the map on one thread.
 ghost use Rattle.std.specs.Prelude.{◌≡◌, ◌<◌, ◌≤◌};
 
-use api_desk::{LoadFault, MapMachine, events};
+use api_desk::{LoadFault, events};
 use hub_core::{Done, Path, Run, Seen, interleave};
+use map_machine::MapMachine;
 use osm_base::{Coord, SESSION_LIMIT, Steps};
 use osm_change::Op;
 use osm_element::Content;

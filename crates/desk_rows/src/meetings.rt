@@ -1,17 +1,18 @@
 //! Sessions that plan and commit by turns: as events of the map on one thread, and by the plain
 //! program, which judges each command anew when it is committed.
 ghost use Rattle.std.specs.Prelude.{◌≡◌, ◌<◌, IfOk};
-ghost use Rattle.api_desk.specs.Machine.{map_rules};
+ghost use Rattle.map_machine.specs.Machine.{map_rules};
 ghost use Rattle.hub_core.specs.Journal.{IsJournal};
 
 use crate::desks::{Sender, message_of};
 use crate::faults::Fault;
 use crate::plain::PlainDesk;
-use api_desk::{Asked, MapMachine, Request, journals_are_the_maps, request_of};
+use api_desk::{Request, request_of};
 use desk_parts::RequestFault;
 use http_link::Reply;
 use hub_core::{Done, Event, Path, Run, Seen, interleave};
 use journal_text::journal_text;
+use map_machine::{Asked, MapMachine, journals_are_the_maps};
 use osm_base::{Key, Kind, Memory, Steps};
 use osm_model::{Entry, Query};
 use plain_model::Journal;

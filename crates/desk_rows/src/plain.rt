@@ -10,10 +10,11 @@ ghost use Rattle.api_desk.specs.Answers.{reply_of};
 ghost use Rattle.api_desk.specs.Feed.{says, fed};
 
 use crate::desks::Sender;
-use api_desk::{Asked, FeedCall, Request, feed_reply, request_of};
+use api_desk::{FeedCall, Request, feed_reply, request_of};
 use desk_parts::RequestFault;
 use http_link::Reply;
 use http_wire::Message;
+use map_machine::Asked;
 use osm_base::Memory;
 use osm_change::Answer;
 use osm_json::{answer_body, answer_status};

@@ -1,7 +1,8 @@
 //! Where commands are committed and queries asked: a book that one session has for itself, or a hub.
-use api_desk::{Asked, MapHub, MapMachine, MapSession};
+use api_desk::{MapHub, MapSession};
 use hub_core::{Book, Done, NoOutlet};
 use machine_law::{Machine, Tag};
+use map_machine::{Asked, MapMachine};
 use osm_base::{Memory, Steps};
 use osm_model::Query;
 use osm_outside::NoGate;

@@ -10,10 +10,9 @@ ghost use Rattle.journal_follower.specs.Taken.{is_same, taken, kept_with, after_
 ghost use Rattle.journal_follower.specs.declared.answers.Taken.TheVariants.{Old, Differs, Folded, Illegal};
 
 use crate::answers::Taken;
-use api_desk::MapMachine;
-use book_keeper::BookKeeper;
 use hub_core::Book;
 use journal_text::{Keeper, entry_line, lines_tell_entries};
+use map_machine::{BookKeeper, MapMachine};
 use osm_base::Memory;
 use osm_model::Entry;
 use replication_feed::Piece;

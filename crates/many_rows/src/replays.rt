@@ -1,10 +1,11 @@
 //! A journal, made again by one desk over a book.
 use crate::jobs::MOMENT;
 use crate::notes::Told;
-use api_desk::{MapMachine, OneDesk};
+use api_desk::OneDesk;
 use http_link::Desk;
 use hub_core::Book;
 use journal_text::entry_line;
+use map_machine::MapMachine;
 use osm_base::Memory;
 use osm_model::Entry;
 use std::alloc::Global;

@@ -1,13 +1,13 @@
 //! One map with its journal, on which orders are followed.
-ghost use Rattle.api_desk.specs.Machine.{map_rules};
+ghost use Rattle.map_machine.specs.Machine.{map_rules};
 ghost use Rattle.hub_core.specs.Journal.{IsMadeBefore};
 
 use crate::orders::{Order, Reading, Work};
 use crate::reads::{query_of, rows_of};
 use crate::replays::replay;
-use api_desk::{Asked, MapMachine};
 use hub_core::{Book, Done, NoOutlet};
 use machine_law::{Machine, Tag};
+use map_machine::{Asked, MapMachine};
 use osm_base::{CHANGE_LIMIT, Kind, Memory, Steps, Text, TryCopy, User};
 use osm_change::Change;
 use osm_element::Tags;

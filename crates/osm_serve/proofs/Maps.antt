@@ -15,11 +15,11 @@ use Rattle.desk_serve.specs.Link.{IsSound as AnySound, HasEnded as AnyEnded, Ser
 use Rattle.desk_serve.specs.Ports.{EndsAs as EndsAsAny, EndEach as EndEachAny, HasClosed as HasClosedAny}
 use Rattle.api_desk.specs.Answers.{AreAnswered}
 use Rattle.api_desk.specs.HubDesk.{AtDesk, IsFresh, HasServed}
-use Rattle.api_desk.specs.Machine.{map_rules}
+use Rattle.map_machine.specs.Machine.{map_rules}
 use Rattle.api_desk.specs.MachineRows.{place_of}
 use Rattle.api_desk.specs.Request.{request_of}
 use Rattle.api_desk.specs.SessionDesk.{map_row}
-use Rattle.api_desk.proofs.Journals.{legal_front, legal_of}
+use Rattle.map_machine.proofs.Journals.{legal_front, legal_of}
 use Rattle.osm_serve.specs.Serve.{IsSound, HasEnded, ServesLink}
 use Rattle.osm_serve.specs.ServeAll.{EndsAs, EndEach, HasClosed}
 use Rattle.osm_serve.proofs.Closing.{PointsConsistent}

@@ -6,8 +6,8 @@ ghost use Rattle.osm_serve.specs.Tell.{Tells};
 
 use crate::play::journal_of_load;
 use crate::tell::tell;
-use api_desk::MapMachine;
 use hub_core::Book;
+use map_machine::MapMachine;
 use osm_outside::{Link, Outside};
 use osm_words::LoadOptions;
 use std::alloc::Global;

@@ -1,8 +1,9 @@
 //! Serving one link by one session of a hub of the map.
 ghost use Rattle.osm_serve.specs.Serve.{ServesLink};
 
-use api_desk::{HubDesk, MapMachine};
+use api_desk::HubDesk;
 use http_link::LinkEnd;
+use map_machine::MapMachine;
 use osm_outside::{Gate, Link, Outside};
 use shared_front::HubName;
 use snapshot_hub::Shown;

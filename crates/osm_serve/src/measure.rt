@@ -6,9 +6,9 @@ ghost use Rattle.osm_serve.specs.Tell.{Tells};
 
 use crate::play::run_load;
 use crate::tell::tell;
-use api_desk::MapMachine;
 use hub_core::Book;
 use load_summary::{Run, summary};
+use map_machine::MapMachine;
 use osm_base::{Memory, Text};
 use osm_outside::{Link, Outside};
 use osm_words::LoadOptions;

@@ -11,10 +11,11 @@ ghost use Rattle.osm_serve.specs.declared.sending.Replies.{Replies};
 ghost use Rattle.osm_serve.specs.Export.{IsExport};
 
 use crate::sending::{Replies, send_each};
-use api_desk::{MapMachine, OneDesk};
+use api_desk::OneDesk;
 use hub_core::Book;
 use journal_text::journal_text;
 use load_summary::{Figures, figures_of};
+use map_machine::MapMachine;
 use osm_base::{Bytes, Memory, SESSION_LIMIT};
 use std::alloc::Global;
 use user_table::UserTable;

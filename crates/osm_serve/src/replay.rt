@@ -7,12 +7,11 @@ ghost use Rattle.osm_serve.specs.Replay.{AreReplayLines, Replays, status_of_inpu
 ghost use Rattle.osm_serve.specs.Tell.{Tells};
 
 use crate::tell::tell;
-use api_desk::MapMachine;
-use book_keeper::BookKeeper;
 use hub_core::Book;
 use journal_input::{InputFault, read_entries};
 use journal_text::JournalFault;
 use load_summary::{figures_of, replay_summary};
+use map_machine::{BookKeeper, MapMachine};
 use osm_base::{Memory, Text};
 use osm_outside::{Link, Outside};
 use std::alloc::Global;

@@ -2,8 +2,7 @@ use Rattle.std.proofs.Common.{[], append-nil, ◌∙◌, subst}
 use Rattle.osm_model.specs.Act.{act}
 use Rattle.osm_model.specs.Journal.{replay}
 use Rattle.osm_model.specs.declared.states.State.{State}
-use Rattle.api_desk.specs.Machine.{IsPlannedAs}
-use Rattle.api_desk.proofs.Journals.{extended_after}
+use Rattle.map_machine.specs.Machine.{IsPlannedAs}
 use Rattle.api_desk.proofs.ReplyBytes.{bytes_long, read_back, read_status}
 use Rattle.api_desk.proofs.desk.change.Goals as goal
 
@@ -35,7 +34,7 @@ returns-clause-journal g c =
     let es = c.args.book.now in
     let asked = c.args.asked in
     let acts = c.in_ok-done.ensures.acts es asked ([], append-nil es) (subst (λ (P : State). IsPlannedAs P c.args.asked c.in_ok-plan.plan) c.world.ensures.world c.in_ok-plan.ensures.0) in
-    acts.entered ∙ extended_after es c.args.session c.next_call.result asked.user c.args.moment asked.command c.next_call.ensures
+    acts.entered ∙ c.commits_are_the_maps.ensures es (record { session = c.args.session; call = c.next_call.result }) c.args.moment asked c.next_call.ensures
 
 pub returns-clause-status : goal.returns-clause-status
 returns-clause-status g c =

@@ -2,7 +2,7 @@ use Rattle.std.proofs.Common.{ap, ◌∙◌}
 use Rattle.osm_model.specs.Ask.{ask}
 use Rattle.osm_model.specs.Journal.{replay}
 use Rattle.osm_model.specs.declared.states.State.{State}
-use Rattle.api_desk.specs.Machine.{bytes_of}
+use Rattle.map_machine.specs.Machine.{bytes_of}
 use Rattle.api_desk.proofs.ReplyBytes.{bytes_long, read_back, read_status}
 use Rattle.api_desk.proofs.desk.query_reply.Goals as goal
 

@@ -1,6 +1,6 @@
 use Rattle.std.proofs.Common.{[], append-nil, subst}
 use Rattle.osm_model.specs.declared.states.State.{State}
-use Rattle.api_desk.specs.Machine.{IsPlannedAs}
+use Rattle.map_machine.specs.Machine.{IsPlannedAs}
 use Rattle.map_bench.proofs.benches.Bench.plan.Goals as goal
 
 -- it was made for this command, after all of the journal

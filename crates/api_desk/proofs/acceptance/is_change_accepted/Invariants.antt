@@ -1,4 +1,0 @@
-use Rattle.api_desk.proofs.acceptance.is_change_accepted.Given as goal
-
-abbrev pub ghosts-count_accepted : goal.ghosts-count_accepted
-ghosts-count_accepted a = record { name = a.blank.name; parts = a.blank.parts }

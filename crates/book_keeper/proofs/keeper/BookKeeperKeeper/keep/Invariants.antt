@@ -1,4 +1,0 @@
-use Rattle.book_keeper.proofs.keeper.BookKeeperKeeper.keep.Given as goal
-
-abbrev pub ghosts-take : goal.ghosts-take
-ghosts-take a = record { name = a.blank.name; parts = a.blank.parts }

@@ -1,0 +1,5 @@
+pub mod Journals
+pub mod RowSteps
+pub mod Told
+pub mod PlanSteps
+pub mod KeepLemmas
