@@ -24,13 +24,15 @@ use Rattle.http_link.specs.Desk.{counted_reply}
 use Rattle.http_wire.specs.declared.message.Message.{Message}
 use Rattle.user_table.specs.Users.{Users}
 use Rattle.snapshot_hub.specs.Known.{Known, caught_up}
+use Rattle.session_desk.specs.Steps.{place_at}
 use Rattle.replication_feed.specs.Text.{state_text}
 use Rattle.api_desk.specs.declared.feed.FeedCall.{FeedCall}
 use Rattle.api_desk.specs.declared.feed.FeedCall.TheVariants as feed
 use Rattle.api_desk.specs.Answered.{IsRow}
 use Rattle.api_desk.specs.Answers.{reply_of}
 use Rattle.api_desk.specs.Feed.{shows, last_stamp, piece_told, fed}
-use Rattle.api_desk.specs.HubDesk.{GoesOn, ShowsFeed, Replies, stands_at}
+use Rattle.api_desk.specs.HubDesk.{GoesOn, ShowsFeed, MapReplies}
+use Rattle.api_desk.specs.MachineRows.{place_of}
 use Rattle.api_desk.specs.Request.{Ask, of_feed, request_of}
 use Rattle.api_desk.proofs.Answered.{lacks}
 use Rattle.api_desk.proofs.Fronts.{prefix_self, prefix_trans, prefix_length}
@@ -184,7 +186,7 @@ piece_shown old new number place last part entry (Ok reply) on place_is part_is 
 pub feed_replied : (users : Users) (old new : Known Entry) (message : Message) (moment : ℕ) (call : FeedCall) (result : Result Reply Memory)
     → request_of users message ≡ of_feed call
     → IfOk result (λ reply. ShowsFeed old call reply new) → OnErr result (GoesOn old new)
-    → Replies users old message moment (counted_reply result) new
+    → MapReplies users old message moment (counted_reply result) new
 feed_replied users old new message moment call (Ok reply) asks shown lacking = record {
   number = shown.goes_on.number;
   begins = shown.goes_on.begins;
@@ -194,7 +196,7 @@ feed_replied users old new message moment call (Ok reply) asks shown lacking = r
     record {
       answer = Some (fed (take shown.point new.front) call);
       row = subst
-          (λ (q : Ask). IsRow new.front old.number (stands_at old point) q moment (Some (fed (take shown.point new.front) call)) (stands_at new shown.point))
+          (λ (q : Ask). IsRow new.front old.number (place_of (place_at old point)) q moment (Some (fed (take shown.point new.front) call)) (place_of (place_at new shown.point)))
           (sym asks)
           (inl (record { later = omega (arith, le, shown.later); told = refl; calls = shown.goes_on.calls; debts = shown.goes_on.debts }));
       text = shown.told;
@@ -205,13 +207,13 @@ feed_replied users old new message moment call (Err memory) asks shown on = reco
   number = on.number;
   begins = on.begins;
   answers = λ point le.
-      let stays : stands_at new point ≡ stands_at old point = λ i. record { point = point; calls = on.calls i; debts = on.debts i } in (
+      let stays : place_of (place_at new point) ≡ place_of (place_at old point) = λ i. record { point = point; calls = on.calls i; debts = on.debts i } in (
         point,
         omega (arith, le, prefix_length old.front new.front on.begins),
         record {
           answer = None;
-          row = subst (λ (p : Place). IsRow new.front old.number (stands_at old point) (request_of users message) moment None p) (sym stays)
-              (lacks new.front old.number (stands_at old point) (request_of users message) moment);
+          row = subst (λ (p : Place). IsRow new.front old.number (place_of (place_at old point)) (request_of users message) moment None p) (sym stays)
+              (lacks new.front old.number (place_of (place_at old point)) (request_of users message) moment);
           text = refl;
         },
       );

@@ -8,7 +8,5 @@ pub mod FeedAlone
 pub mod Sessions
 pub mod MachineRows
 pub mod HubReplies
-pub mod HubSessions
-pub mod Settled
 pub mod Loads
 pub mod Sendable

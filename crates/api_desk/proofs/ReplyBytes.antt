@@ -1,8 +1,9 @@
 -- What the bytes of an answer tell.
-use Rattle.std.proofs.Common.{◌≡◌, ℕ, ◌+◌, ◌*◌, ◌≤◌, List, length, drop, suc, Some, refl, sym, ap, ◌∙◌, subst, arith}
-use Rattle.std.specs.Prelude.{slice_index}
+use Rattle.std.proofs.Common.{◌≡◌, ℕ, List, Some, Result, Ok, Err, refl, ap, ◌∙◌}
+use Rattle.std.specs.Prelude.{IfOk}
 use Rattle.std.proofs.lemmas.Nat.{div-add-mod'}
 use Rattle.osm_base.specs.Status.{IsStatus}
+use Rattle.osm_base.specs.declared.memory.Memory.{Memory}
 use Rattle.osm_change.specs.declared.answers.Answer.{Answer}
 use Rattle.osm_change.specs.declared.answers.Answer.TheVariants as answers
 use Rattle.osm_change.specs.declared.refusals.Refusal.{Refusal}
@@ -10,8 +11,11 @@ use Rattle.osm_change.specs.declared.refusals.Refusal.TheVariants as refusals
 use Rattle.osm_json.specs.Answered.{status_of, body_of}
 use Rattle.osm_json.specs.Refused.{refusal_status}
 use Rattle.http_link.specs.declared.desk.Reply.{Reply}
+use Rattle.desk_parts.specs.declared.faults.RequestFault.TheVariants as fault
+use Rattle.desk_parts.specs.Replies.{reply_of as reply_by, refusal_bytes, TellsStatus}
 use Rattle.api_desk.specs.Answers.{reply_of}
 use Rattle.api_desk.specs.Feed.{says}
+use Rattle.api_desk.specs.Gives.{TellsFault}
 use Rattle.map_machine.specs.Machine.{bytes_of}
 
 -- ---- statuses
@@ -68,36 +72,26 @@ listed (answers.Changesets rows) = refl
 
 -- ---- bytes
 
--- they are two at least
-pub bytes_long : (a : Answer) (bytes : List ℕ) → bytes ≡ bytes_of a → 2 ≤ length bytes
-bytes_long a bytes is = let long : length bytes ≡ length (body_of a) + 2 = ap length is ∙ two_more _ in omega (arith, long) where
-  two_more : (n : ℕ) → suc (suc n) ≡ n + 2
-  two_more n = omega arith
+-- the bytes of an answer tell its status
+pub tells_status : (a : Answer) (bytes : List ℕ) → bytes ≡ bytes_of a → TellsStatus bytes
+tells_status a bytes is = record { status = status_of a; body = body_of a; listed = listed a; bytes_are = is }
 
--- what the status and the body of an answer's bytes tell
-pub read_back :
-    (a : Answer) (bytes : List ℕ) (reply : Reply)
-    → bytes ≡ bytes_of a
-    → reply.status ≡ slice_index bytes 0 * 256 + slice_index bytes 1
-    → reply.body ≡ drop 2 bytes
-    → reply ≡ reply_of (Some (says a))
-read_back a bytes reply is status body =
-    let status_is : reply.status ≡ status_of a =
-    status ∙ ap (λ (bs : List ℕ). slice_index bs 0 * 256 + slice_index bs 1) is ∙ div-add-mod' (status_of a) 256
-    in
-    let body_is : reply.body ≡ body_of a = body ∙ ap (λ (bs : List ℕ). drop 2 bs) is in
-    λ i. record { status = status_is i; body = body_is i }
+-- and its reply
+pub read_back : (a : Answer) (bytes : List ℕ) → bytes ≡ bytes_of a → reply_by (Some bytes) ≡ reply_of (Some (says a))
+read_back a bytes is =
+    let whole : reply_by (Some (bytes_of a)) ≡ reply_of (Some (says a)) = λ i. record { status = div-add-mod' (status_of a) 256 i; body = body_of a } in
+    ap (λ (bs : List ℕ). reply_by (Some bs)) is ∙ whole
 
-pub told_status : (a : Answer) (bytes : List ℕ) → bytes ≡ bytes_of a → IsStatus (slice_index bytes 0 * 256 + slice_index bytes 1)
-told_status a bytes is =
-    subst
-    IsStatus
-    (sym (ap (λ (bs : List ℕ). slice_index bs 0 * 256 + slice_index bs 1) is ∙ div-add-mod' (status_of a) 256))
-    (listed a)
+refusal_read : (r : Refusal) (reply : Reply) → reply ≡ reply_by (Some (refusal_bytes r)) → reply ≡ reply_of (Some (says (answers.Refused r)))
+refusal_read r reply told = told ∙ read_back (answers.Refused r) (refusal_bytes r) refl
 
-pub read_status :
-    (a : Answer) (bytes : List ℕ) (reply : Reply)
-    → bytes ≡ bytes_of a
-    → reply.status ≡ slice_index bytes 0 * 256 + slice_index bytes 1
-    → IsStatus reply.status
-read_status a bytes reply is status = subst IsStatus (sym status) (told_status a bytes is)
+-- and those of a refusal, unless memory ran out
+pub refusal_said : (r : Refusal) (result : Result Reply Memory) → IfOk result (λ reply. reply ≡ reply_by (Some (refusal_bytes r)))
+    → IfOk result (λ reply. reply ≡ reply_of (Some (says (answers.Refused r))))
+refusal_said r (Ok reply) told = refusal_read r reply told
+refusal_said r (Err memory) told = tt
+
+pub refusal_told : (r : Refusal) (result : Result Reply Memory) → IfOk result (λ reply. reply ≡ reply_by (Some (refusal_bytes r)))
+    → TellsFault (fault.Refused r) result
+refusal_told r (Ok reply) told = refusal_read r reply told
+refusal_told r (Err memory) told = tt

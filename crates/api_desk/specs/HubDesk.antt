@@ -1,63 +1,42 @@
--- A desk for a session of a hub, and what it answers against the session's own front.
-use Rattle.std.specs.Prelude.{◌≡◌, ℕ, ◌≤◌, false, Some, List, take, length}
+-- A desk for a session of a hub of the map: what it answers is told as for any machine. Beside the commands and the queries of its
+-- machine it answers the calls of the feed, so what one message may be answered is told by the map's own rows.
+use Rattle.std.specs.Prelude.{◌≡◌, ℕ, ◌≤◌, Some, List, take, length}
+use Rattle.std.proofs.Common.{subst}
 use mathlib.Core.List.{IsPrefix}
-use Rattle.osm_model.specs.Answered.{Place}
-use Rattle.osm_model.specs.Journal.{calls_of}
 use Rattle.osm_model.specs.declared.commands.Entry.{Entry}
 use Rattle.http_wire.specs.declared.message.Message.{Message}
 use Rattle.http_link.specs.declared.desk.Reply.{Reply}
-use Rattle.http_link.specs.Exchange.{Exchange}
 use Rattle.user_table.specs.Users.{Users}
-use Rattle.snapshot_hub.specs.Known.{Known, caught_up}
+use Rattle.snapshot_hub.specs.Known.{Known}
+use Rattle.session_desk.specs.Answered.{AtDesk, RowOf, RowsStay, Replies, Allows}
 use Rattle.api_desk.specs.declared.feed.FeedCall.{FeedCall}
-use Rattle.api_desk.specs.Answers.{Answers, AreAnswered, reply_of}
+use Rattle.api_desk.specs.Answered.{IsRow}
+use Rattle.api_desk.specs.Answers.{Answers, reply_of}
 use Rattle.api_desk.specs.Feed.{fed}
+use Rattle.api_desk.specs.Longer.{row-longer}
+use Rattle.api_desk.specs.MachineRows.{place_of}
+use Rattle.api_desk.specs.Request.{request_of}
 
--- how far a session has come that was last answered at this point of its front
-abbrev pub stands_at : Known Entry → ℕ → Place
-stands_at it point = record { point = point; calls = it.calls; debts = it.debts }
+-- what one message may be answered
+abbrev pub map_row : RowOf Entry
+map_row users session F before message moment reply after = Answers users session F (place_of before) message moment reply (place_of after)
 
--- One message was answered: wherever in its old front the session was last answered, this is a row of "answered" on its new front,
--- at a point of it that is no earlier. Nothing of the old front is lost.
-pub record Replies (users : Users) (old : Known Entry) (message : Message) (moment : ℕ) (reply : Reply) (new : Known Entry) : Type 0 where
-  pub number : new.number ≡ old.number
-  pub begins : IsPrefix old.front new.front
-  pub answers : (point : ℕ) → point ≤ length old.front
-      → (next : ℕ) × (next ≤ length new.front) × Answers users old.number new.front (stands_at old point) message moment reply (stands_at new next)
+abbrev pub MapReplies : Users → Known Entry → Message → ℕ → Reply → Known Entry → Type 0
+MapReplies users old message moment reply new = Replies map_row users old message moment reply new
 
--- what a desk works with: the users, and what its session knows
-pub record AtDesk : Type 0 where
-  pub users : Users
-  pub known : Known Entry
+abbrev pub AllowsMap : AtDesk Entry → Message → ℕ → Reply → AtDesk Entry → Type 0
+AllowsMap old message moment reply new = Allows map_row old message moment reply new
 
--- What the desk may answer, from what it was to what it is then.
-pub record Allows (old : AtDesk) (message : Message) (moment : ℕ) (reply : Reply) (new : AtDesk) : Type 0 where
-  pub users : new.users ≡ old.users
-  pub replies : Replies old.users old.known message moment reply new.known
-
--- All exchanges are answered on the front that the session has then.
-pub record HasServed (users : Users) (old : Known Entry) (point : ℕ) (exchanges : List Exchange) (new : Known Entry) : Type 0 where
-  pub number : new.number ≡ old.number
-  pub begins : IsPrefix old.front new.front
-  pub last : ℕ
-  pub within : last ≤ length new.front
-  pub answered : AreAnswered users old.number new.front (stands_at old point) exchanges (stands_at new last)
-
--- The session has seen the journal that was found under the lock, with all its calls, and owes nothing.
-pub record IsFresh (old new : Known Entry) : Type 0 where
-  pub begins : IsPrefix old.front new.front
-  pub comes_to : new ≡ caught_up old new.front old.calls
-  pub calls : old.calls ≡ calls_of old.number new.front
+-- what is answered against entries is so against more
+pub map_rows_stay : RowsStay map_row
+map_rows_stay users session F G before after message moment reply longer within row = record {
+  answer = row.answer;
+  row = subst (λ (H : List Entry). IsRow H session (place_of before) (request_of users message) moment row.answer (place_of after)) longer.1
+      (row-longer F longer.0 session (place_of before) (place_of after) (request_of users message) moment row.answer within row.row);
+  text = row.text;
+}
 
 -- ---- for private clauses
-
--- The session owes nothing, and no request was answered: its front may be longer.
-pub record IsSettled (old new : Known Entry) : Type 0 where
-  pub begins : IsPrefix old.front new.front
-  pub number : new.number ≡ old.number
-  pub calls : new.calls ≡ old.calls
-  pub debts : new.debts ≡ old.debts
-  pub owes : new.owes ≡ false
 
 -- The session has used no call number, and owes no more: its front may be longer.
 pub record GoesOn (old new : Known Entry) : Type 0 where

@@ -7,7 +7,6 @@ pub mod Answers
 pub mod Gives
 pub mod MachineRows
 pub mod Desk
-pub mod HubDesk
 pub mod Loads
 pub mod Longer
-pub mod SessionDesk
+pub mod HubDesk

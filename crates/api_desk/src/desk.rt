@@ -18,9 +18,10 @@ ghost use Rattle.api_desk.specs.Feed.{says};
 ghost use Rattle.api_desk.specs.Gives.{shown_request};
 ghost use Rattle.api_desk.specs.Request.{request_of};
 
-use crate::answers::{refuse, reply_from};
+use crate::answers::refuse;
 use crate::feed::feed_reply;
 use crate::requests::{Request, request_of};
+use desk_parts::reply_from;
 use http_link::{Desk, Reply};
 use http_wire::Message;
 use hub_core::{Book, NoOutlet};

@@ -7,10 +7,10 @@ ghost use Rattle.replication_feed.specs.Text.{state_text};
 ghost use Rattle.api_desk.specs.Answers.{reply_of};
 ghost use Rattle.api_desk.specs.Feed.{shows, last_stamp, piece_told, fed};
 
-use crate::answers::reply_to;
+use desk_parts::refusal_reply;
 use http_link::Reply;
 use osm_base::{Bytes, Memory, Stamp};
-use osm_change::{Answer, Refusal};
+use osm_change::Refusal;
 use osm_model::Entry;
 use replication_feed::{entry_text, state_text};
 use std::alloc::Global;
@@ -67,7 +67,7 @@ pub(crate) fn piece_reply(
 {
     match entry {
         Some(entry) => Ok(shown(entry_text(alloc, number, entry)?)),
-        None => reply_to(alloc, &Answer::Refused(Refusal::NoPiece { last, number })),
+        None => refusal_reply(alloc, Refusal::NoPiece { last, number }),
     }
 }
 

@@ -2,33 +2,33 @@
 //!
 //! The gate is told of a reply to a command or a query, also where that is want of memory, and not
 //! of a message that is neither.
-ghost use Rattle.std.specs.Prelude.{◌≡◌, ◌<◌, ◌≤◌, ◌+◌, ◌*◌, ℕ, false, true, List, length, slice_index, IfOk, OnOk, OnErr};
+ghost use Rattle.std.specs.Prelude.{◌≡◌, ◌<◌, ℕ, true, IfOk};
 ghost use Rattle.osm_base.specs.Status.{IsStatus};
 ghost use Rattle.osm_element.specs.Elements.{IsConsistent};
-ghost use Rattle.osm_model.specs.Answered.{map_at, does, reads};
+ghost use Rattle.osm_model.specs.Answered.{map_at};
 ghost use Rattle.osm_model.specs.Journal.{is_legal_from};
 ghost use Rattle.osm_model.specs.State.{empty};
 ghost use Rattle.http_wire.specs.declared.message.Message.{Message};
 ghost use Rattle.http_link.specs.Desk.{counted_reply};
 ghost use Rattle.user_table.specs.Users.{Users};
-ghost use Rattle.session_desk.specs.Steps.{told, Answers};
+ghost use Rattle.session_desk.specs.Steps.{told};
+ghost use Rattle.desk_parts.specs.Replies.{TellsStatus};
 ghost use Rattle.api_desk.specs.Gives.{shown_request};
-ghost use Rattle.map_machine.specs.Machine.{map_rules};
-ghost use Rattle.api_desk.specs.MachineRows.{asked_of, TellsBytes};
+ghost use Rattle.api_desk.specs.MachineRows.{TellsBytes};
 ghost use Rattle.api_desk.specs.Request.{request_of};
-ghost use Rattle.api_desk.specs.HubDesk.{Replies, IsSettled, IsFresh};
+ghost use Rattle.api_desk.specs.HubDesk.{MapReplies};
 
-use crate::answers::{refuse, reply_from};
+use crate::answers::refuse;
 use crate::hub_feed::answer_feed;
 use crate::requests::{Request, request_of};
+use desk_parts::reply_from;
 use http_link::{Desk, Reply};
 use http_wire::Message;
-use map_machine::{Asked, MapMachine, fronts_are_the_maps};
+use map_machine::{MapMachine, fronts_are_the_maps};
 use osm_base::{Bytes, Memory, Steps};
-use osm_model::Query;
 use osm_outside::{Gate, Point};
 use route_table::Routes;
-use session_desk::{answer_command, answer_query};
+use session_desk::{SessionDesk, command_bytes, freshen, query_bytes};
 use shared_front::HubName;
 use snapshot_hub::{Hub, Session, Shown, Snapshot};
 use std::alloc::Global;
@@ -43,63 +43,12 @@ pub type MapHub<N, G, R> = Hub<N, MapMachine, Shown<N, MapMachine>, G, R>;
 /// A session of it.
 pub type MapSession<N> = Session<N, MapMachine, Shown<N, MapMachine>>;
 
-/// Publishes what the session owes, if it owes a commit.
-#[tactic(auto, using(crate::proofs::Settled::settled_of, crate::proofs::Settled::rested))]
-fn settle_first<N: HubName, G: Gate + Drop, R: Wait + Drop, W: Wait>(
-    rt: &W,
-    hub: &MapHub<N, G, R>,
-    session: &mut MapSession<N>,
-) -> Result<(), Memory>
-    ensures ok { OnOk result (IsSettled session.old session.new) }
-    ensures err { OnErr result (session.new ≡ session.old) }
-{
-    if session.owes() {
-        hub.settle(rt, session)
-    } else {
-        Ok(())
-    }
-}
-
-/// Does a command, once the session owes nothing.
-fn answer_change<N: HubName, G: Gate + Drop, R: Wait + Drop, W: Wait, L: Ledger>(
-    rt: &W,
-    hub: &MapHub<N, G, R>,
-    session: &mut MapSession<N>,
-    asked: Asked,
-    moment: u64,
-    steps: &mut Steps<L>,
-) -> Result<Bytes, Memory>
-    ensures { Answers map_rules session.old (asked_of (does asked.user asked.command)) moment (told result) session.new }
-{
-    match settle_first(rt, hub, session) {
-        Ok(()) => answer_command(rt, hub, session, asked, moment, steps),
-        Err(memory) => Err(memory),
-    }
-}
-
-/// Answers a query, once the session owes nothing.
-fn answer_read<N: HubName, G: Gate + Drop, R: Wait + Drop, W: Wait, L: Ledger>(
-    rt: &W,
-    hub: &MapHub<N, G, R>,
-    session: &mut MapSession<N>,
-    query: Query,
-    moment: u64,
-    steps: &mut Steps<L>,
-) -> Result<Bytes, Memory>
-    ensures { Answers map_rules session.old (asked_of (reads query)) moment (told result) session.new }
-{
-    match settle_first(rt, hub, session) {
-        Ok(()) => answer_query(session, &query, moment, steps),
-        Err(memory) => Err(memory),
-    }
-}
-
 /// The reply that tells the bytes of an answer. It takes no memory, so a command that stands and is
 /// published has its own reply.
 fn reply_told(answer: Result<Bytes, Memory>) -> Result<Reply, Memory>
-    requires { IfOk answer (λ bytes. 2 ≤ length bytes) }
+    requires { IfOk answer TellsStatus }
     ensures tells { TellsBytes (told answer) (counted_reply result) }
-    ensures status { IfOk answer (λ bytes. IsStatus (slice_index bytes 0 * 256 + slice_index bytes 1)) → IfOk result (λ reply. IsStatus reply.status) }
+    ensures status { IfOk result (λ reply. IsStatus reply.status) }
 {
     match answer {
         Ok(bytes) => Ok(reply_from(bytes)),
@@ -118,16 +67,16 @@ fn answer_request<N: HubName, G: Gate + Drop, R: Wait + Drop, W: Wait, L: Ledger
     steps: &mut Steps<L>,
 ) -> Result<Reply, Memory>
     ensures answers { (users : Users) (message : Message) → request_of users message ≡ shown_request request
-        → Replies users session.old message moment (counted_reply result) session.new }
+        → MapReplies users session.old message moment (counted_reply result) session.new }
     ensures status { IfOk result (λ reply. IsStatus reply.status) }
 {
     match request {
         Request::Change(asked) => {
-            let answer = answer_change(rt, hub, session, asked, moment, steps);
+            let answer = command_bytes(rt, hub, session, asked, moment, steps);
             reply_told(answer)
         }
         Request::Read(query) => {
-            let answer = answer_read(rt, hub, session, query, moment, steps);
+            let answer = query_bytes(rt, hub, session, &query, moment, steps);
             reply_told(answer)
         }
         Request::Feed(call) => answer_feed(rt, hub, session, alloc, call),
@@ -150,7 +99,7 @@ fn answer_on<N: HubName, G: Gate + Drop, R: Wait + Drop, W: Wait, L: Ledger>(
     requires name { blank.name ≡ L.name }
     requires parts { blank.parts ≡ L.parts }
     requires some { 0 < blank.parts }
-    ensures answers { Replies users.now session.old message.now moment (counted_reply result) session.new }
+    ensures answers { MapReplies users.now session.old message.now moment (counted_reply result) session.new }
     ensures status { IfOk result (λ reply. IsStatus reply.status) }
 {
     let (ledger, share) = blank.open::<L>();
@@ -165,19 +114,6 @@ fn answer_on<N: HubName, G: Gate + Drop, R: Wait + Drop, W: Wait, L: Ledger>(
         }
         Err(fault) => refuse(alloc, fault),
     }
-}
-
-/// Lets the session see the journal that is found under the lock.
-#[tactic(auto, using(crate::proofs::Settled::fresh_of))]
-fn freshen<N: HubName, G: Gate + Drop, R: Wait + Drop, W: Wait>(
-    rt: &W,
-    hub: &MapHub<N, G, R>,
-    session: &mut MapSession<N>,
-) -> Result<(), Memory>
-    ensures ok { OnOk result (IsFresh session.old session.new) }
-    ensures err { OnErr result (session.new ≡ session.old) }
-{
-    hub.freshen(rt, session)
 }
 
 /// A law: the front of a session is legal, and every beginning of it leaves a consistent map.
@@ -203,9 +139,10 @@ pub struct HubDesk<'a, N: HubName, G: Gate + Drop, R: Wait + Drop, W: Wait> {
 }
 
 impl<'a, N: HubName, G: Gate + Drop, R: Wait + Drop, W: Wait> Model for HubDesk<'a, N, G, R, W> {
-    ghost use Rattle.api_desk.specs.HubDesk.{AtDesk};
+    ghost use Rattle.session_desk.specs.Answered.{AtDesk};
+    ghost use Rattle.osm_model.specs.declared.commands.Entry.{Entry};
 
-    ghost Value = { AtDesk };
+    ghost Value = { AtDesk Entry };
 
     ghost view = { λ d. record { users = d.users.now; known = d.session } };
 }
@@ -231,42 +168,18 @@ impl<'a, N: HubName, G: Gate + Drop, R: Wait + Drop, W: Wait> HubDesk<'a, N, G, 
         })
     }
 
-    /// Publishes the journal that is found under the lock, and lets the session see it.
-    pub fn freshen(&mut self) -> Result<(), Memory>
-        ensures users { self.new.users ≡ self.old.users }
-        ensures ok { OnOk result (IsFresh self.old.known self.new.known) }
-        ensures err { OnErr result (self.new ≡ self.old) }
-    {
-        freshen(self.rt, self.hub, &mut self.session)
-    }
-
-    /// A law: the front of its session is legal, and every beginning of it leaves a consistent map.
-    pub fn law(&self)
-        ensures legal { is_legal_from empty self.now.known.front ≡ true }
-        ensures consistent { (point : ℕ) → IsConsistent (map_at self.now.known.front point).elements }
-    {
-        map_law(&self.session);
-    }
-
     /// Its session.
     pub fn session(&self) -> &MapSession<N>
         ensures { result.now ≡ self.now.known }
     {
         &self.session
     }
-
-    /// The session, when the desk is done. It takes no memory.
-    pub fn into_session(self) -> MapSession<N>
-        ensures { result ≡ self.entry.known }
-    {
-        self.session
-    }
 }
 
 impl<'a, N: HubName, G: Gate + Drop, R: Wait + Drop, W: Wait> Desk for HubDesk<'a, N, G, R, W> {
-    ghost use Rattle.api_desk.specs.HubDesk.{Allows};
+    ghost use Rattle.api_desk.specs.HubDesk.{AllowsMap};
 
-    ghost allows = { λ old message moment reply new. Allows old message moment reply new };
+    ghost allows = { λ old message moment reply new. AllowsMap old message moment reply new };
 
     fn answer(&mut self, alloc: Global, message: Message, moment: u64) -> Result<Reply, Memory> {
         answer_on::<N, G, R, W, Brand>(
@@ -280,5 +193,33 @@ impl<'a, N: HubName, G: Gate + Drop, R: Wait + Drop, W: Wait> Desk for HubDesk<'
             moment,
             Blank::new(1),
         )
+    }
+}
+
+impl<'a, N: HubName, G: Gate + Drop, R: Wait + Drop, W: Wait> SessionDesk<
+    N,
+    MapMachine,
+    Shown<N, MapMachine>,
+> for HubDesk<'a, N, G, R, W> {
+    ghost use Rattle.api_desk.specs.HubDesk.{map_row, map_rows_stay};
+
+    ghost keeps = { λ d. d };
+
+    ghost answers = { map_row };
+
+    ghost allowed = { λ old new message moment reply h. h };
+
+    ghost rows_stay = { map_rows_stay };
+
+    fn freshen(&mut self) -> Result<(), Memory> {
+        freshen(self.rt, self.hub, &mut self.session)
+    }
+
+    fn law(&self) {
+        self.session.law();
+    }
+
+    fn into_session(self) -> MapSession<N> {
+        self.session
     }
 }

@@ -3,27 +3,21 @@
 #![tactic(auto)]
 
 mod answers;
-mod any_desk;
 mod bodies;
 mod desk;
 mod feed;
 mod hub_desk;
 mod hub_feed;
-mod hub_law;
 mod law;
 mod load_events;
 mod load_faults;
 mod requests;
 mod tasks;
 
-pub use answers::{refuse, reply_from};
+pub use answers::refuse;
 pub use desk::{OneDesk, query_reply};
 pub use feed::{FeedCall, feed_reply};
 pub use hub_desk::{HubDesk, MapHub, MapSession};
-pub use hub_law::{
-    answers_append, exchanges_chain, links_chain, replies_are_the_maps, rows_are_the_maps,
-    rows_stay, served_stay,
-};
 pub use law::desk_answers;
 pub use load_events::events;
 pub use load_faults::LoadFault;

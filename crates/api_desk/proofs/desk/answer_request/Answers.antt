@@ -26,7 +26,7 @@ returns-in-Read-clause-answers g c users message asks =
     query_answers users c.args.session c.args.book.now message c.args.moment c.in-Read.query c.query_reply.result (rw c.in-Read.is at asks) c.query_reply.ensures.reply
 
 pub feed_reply-requires : goal.feed_reply-requires
-feed_reply-requires g c = subst IsLegal (sym c.journal.ensures.journal) c.laws.ensures
+feed_reply-requires g c = subst IsLegal (sym c.journal.ensures.journal) c.book_law.ensures
 
 pub returns-in-Feed-clause-answers : goal.returns-in-Feed-clause-answers
 returns-in-Feed-clause-answers g c users message asks =
