@@ -1,6 +1,6 @@
 -- What the feed shows has its moments, and what a session of a hub is told of the feed is a row of its front.
 use Rattle.std.proofs.Common.{◌≡◌, ℕ, zero, suc, ◌-◌, ◌<◌, ◌≤◌, min, inl, List, [], ◌∷◌, length, take, drop, true, Option, Some, None, Result, Ok, Err, refl, sym, ap, ◌∙◌, subst, arith}
-use Rattle.std.specs.Prelude.{slice_get, is_ok, ◌==◌, IfOk, OnErr}
+use Rattle.std.specs.Prelude.{slice_get, is_ok, fold, ◌==◌, IfOk, OnErr}
 use Rattle.std.specs.Option.{option_map_or}
 use Rattle.std.proofs.lemmas.Bool.{and_parts, eqb-true}
 use Rattle.std.proofs.lemmas.List.{length-take-le}
@@ -10,9 +10,10 @@ use Rattle.osm_base.specs.Stamp.{stamp_after}
 use Rattle.osm_base.specs.declared.memory.Memory.{Memory}
 use Rattle.osm_change.specs.Moments.{IsShownMoment}
 use Rattle.changeset_core.specs.Timely.{IsTimelyMoment}
-use Rattle.osm_model.specs.Act.{judge}
+use Rattle.osm_change.specs.declared.refusals.Refusal.{Refusal}
+use Rattle.osm_model.specs.Act.{Effect, judge, settle}
 use Rattle.osm_model.specs.Answered.{Place}
-use Rattle.osm_model.specs.Journal.{is_legal_from, takes, after}
+use Rattle.osm_model.specs.Journal.{is_legal_from, takes, after, replay}
 use Rattle.osm_model.specs.State.{empty}
 use Rattle.osm_model.specs.Timely.{IsTimely}
 use Rattle.osm_model.specs.declared.commands.Entry.{Entry}
@@ -23,7 +24,7 @@ use Rattle.http_link.specs.declared.desk.Reply.{Reply}
 use Rattle.http_link.specs.Desk.{counted_reply}
 use Rattle.http_wire.specs.declared.message.Message.{Message}
 use Rattle.user_table.specs.Users.{Users}
-use Rattle.snapshot_hub.specs.Known.{Known, caught_up}
+use Rattle.snapshot_hub.specs.Known.{Known, caught_up, seeing}
 use Rattle.session_desk.specs.Steps.{place_at}
 use Rattle.replication_feed.specs.Text.{state_text}
 use Rattle.api_desk.specs.declared.feed.FeedCall.{FeedCall}
@@ -69,7 +70,18 @@ shown_at es n legal = go (slice_get es n) refl where
 pub last_shown : (es : List Entry) → is_legal_from empty es ≡ true → IsShownMoment (last_stamp es)
 last_shown es legal = shown_at es (length es - 1) legal
 
--- ---- the last of the first entries
+-- ---- the last stamp of the map
+
+settled_last : (P : State) (t : ℕ) (judged : Result Effect Refusal) → is_ok judged ≡ true → (settle P t judged).0.last ≡ t
+settled_last P t (Ok done) ok = refl
+settled_last P t (Err r) ok = cc
+
+taken_last : (P : State) (e : Entry) → takes P e ≡ true → (after P e).last ≡ e.stamp
+taken_last P e taken =
+    let parts = and_parts (is_ok (judge P e.user e.stamp e.command)) (stamp_after P.last e.stamp == e.stamp) taken in
+    let same : stamp_after P.last e.stamp ≡ e.stamp = eqb-true (stamp_after P.last e.stamp) e.stamp parts.1 in
+    let t : ℕ = stamp_after P.last e.stamp in
+    settled_last P t (judge P e.user t e.command) (subst (λ (t : ℕ). is_ok (judge P e.user t e.command) ≡ true) (sym same) parts.0) ∙ same
 
 last_more : (x y : Entry) (ys : List Entry) → last_stamp (x ∷ y ∷ ys) ≡ last_stamp (y ∷ ys)
 last_more x y ys =
@@ -77,22 +89,17 @@ last_more x y ys =
     let rest : length (y ∷ ys) - 1 ≡ length ys = omega arith in
     ap (last_at (x ∷ y ∷ ys)) whole ∙ sym (ap (last_at (y ∷ ys)) rest)
 
-one_last : (F : List Entry) (m : ℕ) → m < length F → last_stamp (take 1 (drop m F)) ≡ last_stamp (take (suc m) F)
-one_last [] m within = absurd (omega (arith, within))
-one_last (x ∷ F) zero within = refl
-one_last (x ∷ []) (suc m) within = absurd (omega (arith, within))
-one_last (x ∷ y ∷ F) (suc m) within = one_last (y ∷ F) m (omega (arith, within)) ∙ sym (last_more x y (take m F))
+folded_last : (P : State) (e : Entry) (es : List Entry) → is_legal_from P (e ∷ es) ≡ true → (fold after P (e ∷ es)).last ≡ last_stamp (e ∷ es)
+folded_last P e [] legal = taken_last P e (and_parts (takes P e) true legal).0
+folded_last P e (f ∷ es) legal =
+    folded_last (after P e) f es (and_parts (takes P e) (is_legal_from (after P e) (f ∷ es)) legal).1 ∙ sym (last_more e f es)
 
-abbrev last_of : List Entry → ℕ → ℕ → ℕ
-last_of F count from = last_stamp (take count (drop from F))
+-- it is that of the last entry
+pub replayed_last : (es : List Entry) → is_legal_from empty es ≡ true → (replay es).last ≡ last_stamp es
+replayed_last [] legal = refl
+replayed_last (e ∷ es) legal = folded_last empty e es legal
 
--- the last of the first entries, or none where there are none
-pub part_stamp : (F : List Entry) (n : ℕ) → n ≤ length F → last_stamp (take (min n 1) (drop (n - min n 1) F)) ≡ last_stamp (take n F)
-part_stamp F zero within = refl
-part_stamp F (suc m) within =
-    let one : min (suc m) 1 ≡ 1 = omega arith in
-    let place : suc m - min (suc m) 1 ≡ m = omega arith in
-    ap (λ (count : ℕ). last_of F count (suc m - min (suc m) 1)) one ∙ ap (last_of F 1) place ∙ one_last F m (omega (arith, within))
+-- ---- the first of some entries
 
 first_of : (F : List Entry) (k : ℕ) → slice_get (take 1 (drop k F)) 0 ≡ slice_get F k
 first_of [] zero = refl
@@ -100,24 +107,9 @@ first_of [] (suc k) = refl
 first_of (x ∷ F) zero = refl
 first_of (x ∷ F) (suc k) = first_of F k
 
-one_at : (F : List Entry) (k : ℕ) → last_stamp (take 1 (drop k F)) ≡ last_at F k
-one_at [] zero = refl
-one_at [] (suc k) = refl
-one_at (x ∷ F) zero = refl
-one_at (x ∷ F) (suc k) = one_at F k
-
-pub part_shown : (F : List Entry) (n : ℕ) → is_legal_from empty F ≡ true → IsShownMoment (last_stamp (take (min n 1) (drop (n - min n 1) F)))
-part_shown F zero legal = omega arith
-part_shown F (suc m) legal =
-    let one : min (suc m) 1 ≡ 1 = omega arith in
-    let place : suc m - min (suc m) 1 ≡ m = omega arith in
-    let is : last_of F (min (suc m) 1) (suc m - min (suc m) 1) ≡ last_at F m =
-    ap (λ (count : ℕ). last_of F count (suc m - min (suc m) 1)) one ∙ ap (last_of F 1) place ∙ one_at F m in
-    subst IsShownMoment (sym is) (shown_at F m legal)
-
 -- ---- replies
 
--- what `Hub::freshen` and `Hub::part` say
+-- what `Hub::part` says
 pub goes_on_of : (old new : Known Entry) → IsPrefix old.front new.front → new ≡ caught_up old new.front old.calls → GoesOn old new
 goes_on_of old new longer is = record {
   begins = longer;
@@ -126,41 +118,35 @@ goes_on_of old new longer is = record {
   debts = ap (λ (k : Known Entry). k.debts) is;
 }
 
--- the session stands where it stood, or sees more
+-- and `Session::read`
+pub goes_seeing : (old new : Known Entry) → IsPrefix old.front new.front → new ≡ seeing old new.front → GoesOn old new
+goes_seeing old new longer is = record {
+  begins = longer;
+  number = ap (λ (k : Known Entry). k.number) is;
+  calls = ap (λ (k : Known Entry). k.calls) is;
+  debts = ap (λ (k : Known Entry). k.debts) is;
+}
+
+-- the session stands where it stood
 pub goes_same : (old new : Known Entry) → new ≡ old → GoesOn old new
 goes_same old new same = subst (λ (n : Known Entry). GoesOn old n) (sym same) (record { begins = prefix_self old.front; number = refl; calls = refl; debts = refl })
 
-pub goes_further : (old mid new : Known Entry) → GoesOn old mid → GoesOn mid new → GoesOn old new
-goes_further old mid new first second = record {
-  begins = prefix_trans old.front mid.front new.front first.begins second.begins;
-  number = second.number ∙ first.number;
-  calls = second.calls ∙ first.calls;
-  debts = second.debts ∙ first.debts;
-}
-
--- the state is shown of the front as it was before the part was copied
-pub state_shown : (old mid new : Known Entry) (n count : ℕ) (part : List Entry) (last : ℕ) (result : Result Reply Memory)
-    → GoesOn old mid → GoesOn mid new → n ≡ length mid.front → count ≡ min n 1 → part ≡ take count (drop (n - count) new.front) → last ≡ last_stamp part
+-- the state is that of all of the front
+pub state_shown : (old new : Known Entry) (n last : ℕ) (result : Result Reply Memory)
+    → GoesOn old new → n ≡ length new.front → last ≡ last_stamp new.front
     → IfOk result (λ reply. reply ≡ reply_of (Some (shows (state_text n last))))
     → IfOk result (λ reply. ShowsFeed old feed.State reply new)
-state_shown old mid new n count part last (Err memory) first second is count_is part_is last_is told = told
-state_shown old mid new n count part last (Ok reply) first second is count_is part_is last_is told =
-    let within : n ≤ length new.front = omega (arith, is, prefix_length mid.front new.front second.begins) in
-    let stamp : last ≡ last_stamp (take n new.front) = last_is ∙ ap last_stamp part_is ∙ ap (λ (k : ℕ). last_of new.front k (n - k)) count_is ∙ part_stamp new.front n within in
-    let pieces : n ≡ length (take n new.front) = sym (length-take-le n new.front within) in
-    record {
-      goes_on = goes_further old mid new first second;
-      point = n;
-      later = omega (arith, is, prefix_length old.front mid.front first.begins);
-      within = within;
-      told = told ∙ ap (λ (stamp : ℕ). reply_of (Some (shows (state_text n stamp)))) stamp
-          ∙ ap (λ (k : ℕ). reply_of (Some (shows (state_text k (last_stamp (take n new.front)))))) pieces;
-    }
-
-pub state_last : (new : Known Entry) (n count : ℕ) (part : List Entry) (last : ℕ) → is_legal_from empty new.front ≡ true
-    → count ≡ min n 1 → part ≡ take count (drop (n - count) new.front) → last ≡ last_stamp part → IsShownMoment last
-state_last new n count part last legal count_is part_is last_is =
-    subst IsShownMoment (sym (last_is ∙ ap last_stamp part_is ∙ ap (λ (k : ℕ). last_of new.front k (n - k)) count_is)) (part_shown new.front n legal)
+state_shown old new n last (Err memory) on is last_is told = told
+state_shown old new n last (Ok reply) on is last_is told = record {
+  goes_on = on;
+  point = length new.front;
+  later = prefix_length old.front new.front on.begins;
+  within = omega arith;
+  told = told
+      ∙ ap (λ (k : ℕ). reply_of (Some (shows (state_text k last)))) is
+      ∙ ap (λ (stamp : ℕ). reply_of (Some (shows (state_text (length new.front) stamp)))) last_is
+      ∙ ap (λ (es : List Entry). reply_of (Some (fed es feed.State))) (sym (take-length new.front));
+}
 
 -- the piece is one of all of the front
 pub piece_shown : (old new : Known Entry) (number place last : ℕ) (part : List Entry) (entry : Option Entry) (result : Result Reply Memory)

@@ -1,4 +1,7 @@
 //! Why a message is no request, as a reply.
+//!
+//! A message that is no request is told so by one function for both desks, whose clause names no
+//! journal: the session stays at whatever place it stands.
 ghost use Rattle.std.specs.Prelude.{ℕ, List, Err, IfOk};
 ghost use Rattle.osm_base.specs.Status.{IsStatus};
 ghost use Rattle.osm_model.specs.Answered.{Place};

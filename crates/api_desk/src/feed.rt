@@ -36,7 +36,7 @@ fn shown(text: Bytes) -> Reply
 }
 
 /// The stamp of the last entry, or 0 where there is none.
-pub(crate) fn last_stamp(entries: &[Entry]) -> Stamp
+fn last_stamp(entries: &[Entry]) -> Stamp
     ensures { result ≡ last_stamp entries.now }
 {
     match entries.last() {

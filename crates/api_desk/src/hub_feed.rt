@@ -8,33 +8,42 @@ ghost use Rattle.api_desk.specs.HubDesk.{Replies, GoesOn, ShowsFeed};
 ghost use Rattle.api_desk.specs.Request.{request_of, of_feed};
 ghost use Rattle.api_desk.specs.declared.feed.FeedCall.TheVariants as feed;
 
-use crate::feed::{FeedCall, last_stamp, piece_reply, state_reply};
+use crate::feed::{FeedCall, piece_reply, state_reply};
 use crate::hub_desk::{MapHub, MapSession, map_law};
 use http_link::Reply;
-use osm_base::Memory;
+use map_machine::{MapMachine, MapWorld};
+use osm_base::{Memory, Stamp};
 use osm_outside::Gate;
 use shared_front::HubName;
+use snapshot_hub::Reading;
 use std::alloc::Global;
 use std::sync::Wait;
 
-/// The reply to a call for the state, by the journal that is found under the lock.
-fn answer_state<N: HubName, G: Gate + Drop, R: Wait + Drop, W: Wait>(
-    rt: &W,
-    hub: &MapHub<N, G, R>,
-    session: &mut MapSession<N>,
-    alloc: Global,
-) -> Result<Reply, Memory>
+/// The stamp of the map's last entry, or 0 before the first.
+struct LastStamp;
+
+impl Reading<MapMachine> for LastStamp {
+    ghost use Rattle.osm_model.specs.declared.states.State.{State};
+
+    type Read = Stamp;
+
+    ghost of = { λ (P : State). P.last };
+
+    fn read(world: &MapWorld) -> Stamp {
+        world.world().last_stamp()
+    }
+}
+
+/// The reply to a call for the state, by the map that is published. All that any session was told of
+/// is in it.
+fn answer_state<N: HubName>(session: &mut MapSession<N>, alloc: Global) -> Result<Reply, Memory>
     ensures ok { IfOk result (λ reply. ShowsFeed session.old feed.State reply session.new) }
     ensures err { OnErr result (GoesOn session.old session.new) }
     ensures status { IfOk result (λ reply. IsStatus reply.status) }
 {
-    hub.freshen(rt, session)?;
-    let length = session.seen();
-    // The last entry, or none of an empty journal. Others may be behind it by now.
-    let count = length.min(1);
-    let last = hub.part(rt, session, length - count, count)?;
+    let last = session.read::<LastStamp>()?;
     map_law(session);
-    state_reply(alloc, length, last_stamp(&last))
+    state_reply(alloc, session.seen(), last)
 }
 
 /// The reply to a call for a piece, by the journal that is found under the lock.
@@ -53,7 +62,7 @@ fn answer_piece<N: HubName, G: Gate + Drop, R: Wait + Drop, W: Wait>(
     piece_reply(alloc, session.seen(), number, found.first())
 }
 
-/// The reply to a call of the feed. What the session owes is published by this.
+/// The reply to a call of the feed. A call for a piece publishes what the session owes.
 pub(crate) fn answer_feed<N: HubName, G: Gate + Drop, R: Wait + Drop, W: Wait>(
     rt: &W,
     hub: &MapHub<N, G, R>,
@@ -66,7 +75,7 @@ pub(crate) fn answer_feed<N: HubName, G: Gate + Drop, R: Wait + Drop, W: Wait>(
     ensures status { IfOk result (λ reply. IsStatus reply.status) }
 {
     match call {
-        FeedCall::State => answer_state(rt, hub, session, alloc),
+        FeedCall::State => answer_state(session, alloc),
         FeedCall::Piece { number } => answer_piece(rt, hub, session, alloc, number),
     }
 }

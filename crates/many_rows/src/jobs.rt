@@ -6,6 +6,7 @@ use api_desk::{HubDesk, MapHub, MapSession};
 use http_link::Desk;
 use osm_base::{Bytes, SESSION_LIMIT};
 use row_lines::{RowFault, number};
+use session_desk::SessionDesk;
 use shared_front::HubName;
 use std::alloc::Global;
 use std::sync::Wait;

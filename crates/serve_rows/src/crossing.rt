@@ -16,6 +16,7 @@ use osm_model::Entry;
 use osm_outside::{Link, MemPort, Outside};
 use osm_serve::serve_link;
 use row_tally::Tally;
+use session_desk::SessionDesk;
 use shared_front::HubName;
 use snapshot_hub::Seats;
 use std::alloc::Global;

@@ -23,7 +23,7 @@ pub use held::Held;
 pub use hub::Hub;
 pub use press::Press;
 pub use seats::Seats;
-pub use session::Session;
+pub use session::{Reading, Session};
 pub use shown::Shown;
 pub use snapshot::Snapshot;
 pub use standing::Standing;

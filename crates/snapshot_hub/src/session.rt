@@ -19,6 +19,19 @@ use std::alloc::Global;
 use std::marker::Model;
 use std::sync::ledger::Ledger;
 
+/// What may be read off a world that is no query of its machine, as how far it has come.
+pub trait Reading<M: Machine> {
+    /// What is read.
+    type Read;
+
+    // What it is on each state.
+    ghost of: { M.State → Self.Read };
+
+    /// Reads it. It takes no memory.
+    fn read(world: &M::World) -> Self::Read
+        ensures { result ≡ of (M.state world.now) };
+}
+
 /// One caller of a hub, with its own place among the readers. Contracts see it as what it knows.
 ///
 /// It asks and plans on the copy that is published, and waits for nobody.
@@ -131,6 +144,24 @@ impl<N: HubName, M: Machine, S: Snapshot<N, M>> Session<N, M, S> {
         }
         self.standing.see(shown.front().again());
         M::ask(self.alloc, shown.world(), query, moment, steps)
+    }
+
+    /// What is read off the world after the entries that are then published. They begin with all that
+    /// was seen before, and are seen then. What the session owes isn't among them.
+    pub fn read<V: Reading<M>>(&mut self) -> Result<V::Read, Memory>
+        ensures begins { IsPrefix self.old.front self.new.front }
+        ensures read { IfOk result (λ r. r ≡ V.of (replay M.rules self.new.front)) }
+        ensures same { self.new ≡ seeing self.old self.new.front }
+    {
+        let Some(reading) = self.reader.enter() else {
+            return Err(Memory);
+        };
+        let shown: &S = &reading;
+        if !self.standing.front().begins(shown.front()) {
+            return Err(Memory);
+        }
+        self.standing.see(shown.front().again());
+        Ok(V::read(shown.world()))
     }
 
     /// A plan made after the entries that are then published. They begin with all that was seen

@@ -1,44 +1,30 @@
-use Rattle.std.proofs.Common.{◌∙◌}
-use Rattle.api_desk.proofs.Feeds.{goes_on_of, goes_same, goes_further, state_shown, state_last, at_err}
+use Rattle.std.proofs.Common.{sym, subst, ◌∙◌}
+use Rattle.osm_change.specs.Moments.{IsShownMoment}
+use Rattle.api_desk.proofs.Feeds.{goes_seeing, last_shown, replayed_last, state_shown, at_err}
 use Rattle.api_desk.proofs.hub_feed.answer_state.Goals as goal
 
 pub state_reply-requires : goal.state_reply-requires
 state_reply-requires g c =
-    state_last c.part.new.session c.seen-length.result c.min-count.result c.deref.result.now c.last_stamp.result c.map_law.ensures.legal c.min-count.ensures (c.deref.ensures.value ∙ c.in_ok-last.ensures.part) c.last_stamp.ensures
+    let front = c.read.new.session.front in
+    subst IsShownMoment (sym (c.in_ok-last.ensures.read ∙ replayed_last front c.map_law.ensures.legal)) (last_shown front c.map_law.ensures.legal)
 
 pub returns-clause-ok : goal.returns-clause-ok
 returns-clause-ok g c =
     state_shown
     c.args.session.now
-    c.freshen.new.session
-    c.part.new.session
-    c.seen-length.result
-    c.min-count.result
-    c.deref.result.now
-    c.last_stamp.result
+    c.read.new.session
+    c.seen.result
+    c.in_ok-last.last
     c.state_reply.result
-    (goes_on_of c.args.session.now c.freshen.new.session c.in_ok-freshen.ensures.begins c.in_ok-freshen.ensures.ok)
-    (goes_on_of c.freshen.new.session c.part.new.session c.in_ok-last.ensures.begins c.in_ok-last.ensures.ok)
-    c.seen-length.ensures
-    c.min-count.ensures
-    (c.deref.ensures.value ∙ c.in_ok-last.ensures.part)
-    c.last_stamp.ensures
+    (goes_seeing c.args.session.now c.read.new.session c.in_ok-last.ensures.begins c.in_ok-last.ensures.same)
+    c.seen.ensures
+    (c.in_ok-last.ensures.read ∙ replayed_last c.read.new.session.front c.map_law.ensures.legal)
     c.state_reply.ensures.reply
 
 pub returns-clause-err : goal.returns-clause-err
 returns-clause-err g c =
-    at_err c.state_reply.result _
-    (goes_further c.args.session.now c.freshen.new.session c.part.new.session
-    (goes_on_of c.args.session.now c.freshen.new.session c.in_ok-freshen.ensures.begins c.in_ok-freshen.ensures.ok)
-    (goes_on_of c.freshen.new.session c.part.new.session c.in_ok-last.ensures.begins c.in_ok-last.ensures.ok))
+    at_err c.state_reply.result _ (goes_seeing c.args.session.now c.read.new.session c.in_ok-last.ensures.begins c.in_ok-last.ensures.same)
 
 pub returns-in_err-last-clause-err : goal.returns-in_err-last-clause-err
 returns-in_err-last-clause-err g c =
-    at_err c.from_residual-in_err-last.result _
-    (goes_further c.args.session.now c.freshen.new.session c.part.new.session
-    (goes_on_of c.args.session.now c.freshen.new.session c.in_ok-freshen.ensures.begins c.in_ok-freshen.ensures.ok)
-    (goes_same c.freshen.new.session c.part.new.session c.in_err-last.ensures.err))
-
-pub returns-in_err-freshen-clause-err : goal.returns-in_err-freshen-clause-err
-returns-in_err-freshen-clause-err g c =
-    at_err c.from_residual.result _ (goes_same c.args.session.now c.freshen.new.session c.in_err-freshen.ensures.err)
+    at_err c.from_residual.result _ (goes_seeing c.args.session.now c.read.new.session c.in_err-last.ensures.begins c.in_err-last.ensures.same)
