@@ -135,7 +135,7 @@ pub struct HubDesk<'a, N: HubName, G: Gate + Drop, R: Wait + Drop, W: Wait> {
     hub: &'a MapHub<N, G, R>,
     session: MapSession<N>,
     users: &'a UserTable,
-    routes: Routes,
+    routes: &'a Routes,
 }
 
 impl<'a, N: HubName, G: Gate + Drop, R: Wait + Drop, W: Wait> Model for HubDesk<'a, N, G, R, W> {
@@ -148,24 +148,23 @@ impl<'a, N: HubName, G: Gate + Drop, R: Wait + Drop, W: Wait> Model for HubDesk<
 }
 
 impl<'a, N: HubName, G: Gate + Drop, R: Wait + Drop, W: Wait> HubDesk<'a, N, G, R, W> {
-    /// A desk of that session, with a table of the routes.
+    /// A desk of that session, which finds calls in that table of the routes. It takes no memory.
     pub fn new(
-        alloc: Global,
         rt: &'a W,
         hub: &'a MapHub<N, G, R>,
         session: MapSession<N>,
         users: &'a UserTable,
-    ) -> Result<HubDesk<'a, N, G, R, W>, Memory>
-        ensures { IfOk result (λ desk. desk ≡ record { users = users.now; known = session }) }
+        routes: &'a Routes,
+    ) -> HubDesk<'a, N, G, R, W>
+        ensures { result ≡ record { users = users.now; known = session } }
     {
-        let routes = Routes::new(alloc)?;
-        Ok(HubDesk {
+        HubDesk {
             rt,
             hub,
             session,
             users,
             routes,
-        })
+        }
     }
 
     /// Its session.
@@ -187,7 +186,7 @@ impl<'a, N: HubName, G: Gate + Drop, R: Wait + Drop, W: Wait> Desk for HubDesk<'
             self.hub,
             &mut self.session,
             alloc,
-            &self.routes,
+            self.routes,
             self.users,
             &message,
             moment,

@@ -1,7 +1,6 @@
--- The end of a session, and what its links come to with it.
-use Rattle.std.proofs.Common.{◌≡◌, ℕ, zero, suc, ◌+◌, ◌≤◌, ◌<◌, ◌==◌, Bool, true, false, cond, List, [], ◌∷◌, ◌++◌, length, take, reverse, refl, sym, ap, ◌∙◌, subst, arith, append-nil}
-use Rattle.std.proofs.lemmas.Bool.{eq-eqb}
-use Rattle.std.proofs.lemmas.List.{reverse-append}
+-- The one list of a hub that was closed, and what the link of its one session comes to.
+use Rattle.std.proofs.Common.{◌≡◌, ℕ, zero, suc, ◌+◌, ◌≤◌, ◌==◌, cond, List, [], ◌∷◌, ◌++◌, length, take, drop, refl, sym, ap, subst, arith}
+use Rattle.std.proofs.lemmas.List.{take-append-drop}
 use Rattle.std.proofs.lemmas.List.Sums.{sum_by-append}
 use Rattle.std.specs.Prelude.{IfSome, slice_get}
 use mathlib.Core.List.{IsPrefix}
@@ -9,50 +8,19 @@ use Rattle.osm_outside.specs.Told.{Told}
 use Rattle.http_link.specs.declared.end.LinkEnd.{LinkEnd}
 use Rattle.http_link.specs.declared.end.LinkEnd.TheVariants.{Memory}
 use Rattle.machine_law.specs.Rules.{Rules, replay}
-use Rattle.machine_law.specs.declared.tags.Tag.{Tag}
 use Rattle.hub_core.specs.Journal.{calls_of}
-use Rattle.snapshot_hub.specs.Known.{Known, newcomer, seeing, owed}
-use Rattle.snapshot_hub.specs.Ends.{MatchEnd}
+use Rattle.snapshot_hub.specs.Known.{Known, newcomer, seeing, IsKnown}
+use Rattle.snapshot_hub.specs.Closings.{IsFront}
+use Rattle.snapshot_hub.specs.Closed.{EndsAs, EndEach, HasClosed}
 use Rattle.snapshot_hub.specs.declared.ends.End.{End}
 use Rattle.snapshot_hub.specs.declared.ends.End.TheVariants.{Matched, Unmatched}
 use Rattle.user_table.specs.Users.{Users}
 use Rattle.session_desk.specs.Answered.{AtDesk, RowOf, HasServed}
-use Rattle.desk_serve.specs.Link.{IsSound, ServesLink, ServesPipe}
+use Rattle.desk_serve.specs.Link.{IsListOf, HasItsCalls, ServesLink, ServesPipe}
 use Rattle.desk_serve.specs.Desks.{at_desk}
-use Rattle.desk_serve.specs.Ports.{EndsAs, EndEach, HaveEnded, HasClosed}
 use Rattle.desk_serve.proofs.Sound.{PointsConsistent, sound_of}
 use Rattle.desk_serve.proofs.Serving.{LinksLeftAlone, nothing_served}
 use Rattle.desk_serve.proofs.Joined.{ServedStay, seen_at_last, link_served, served_at}
-
--- ---- a journal of one session
-
-module _ {E : Type 0} (tag_of : E → Tag) where
-  -- an entry in front is one call more of its session, and none of another's
-  calls_first : (session : ℕ) (e : E) (es : List E) → calls_of tag_of session (e ∷ es) ≡ cond ((tag_of e).session == session) 1 0 + calls_of tag_of session es
-  calls_first session e es = let all = sum_by-append (λ (x : E). cond ((tag_of x).session == session) 1 0) (e ∷ []) es in omega (arith, all)
-
-  not_first : (n : ℕ) → (n == 0) ≡ false → 1 ≤ n
-  not_first zero is = absurd (cc is)
-  not_first (suc n) is = omega arith
-
-  one_session : (e : E) (es : List E) → ((session : ℕ) → 1 ≤ session → calls_of tag_of session (e ∷ es) ≡ 0) → (b : Bool) → ((tag_of e).session == 0) ≡ b → b ≡ true
-  one_session e es own true is = refl
-  one_session e es own false is =
-      let some : 1 ≤ (tag_of e).session = not_first (tag_of e).session is in
-      let none : calls_of tag_of (tag_of e).session (e ∷ es) ≡ 0 = own (tag_of e).session some in
-      let same : ◌≡◌ {A = ℕ} (cond ((tag_of e).session == (tag_of e).session) 1 0) 1 = ap (λ (b : Bool). cond {A = ℕ} b 1 0) (eq-eqb (tag_of e).session (tag_of e).session refl) in
-      let no : ⊥ = omega (arith, none, calls_first (tag_of e).session e es, same) in
-      absurd no
-
-  -- no entry but those of the first session
-  pub own_entries : (journal : List E) → ((session : ℕ) → 1 ≤ session → calls_of tag_of session journal ≡ 0) → calls_of tag_of 0 journal ≡ length journal
-  own_entries [] own = refl
-  own_entries (e ∷ es) own =
-      let first : ((tag_of e).session == 0) ≡ true = one_session e es own ((tag_of e).session == 0) refl in
-      let rest : calls_of tag_of 0 es ≡ length es = own_entries es (λ session le. omega (arith, own session le, calls_first session e es)) in
-      let count = calls_first 0 e es in
-      let one : ◌≡◌ {A = ℕ} (cond ((tag_of e).session == 0) 1 0) 1 = ap (λ (b : Bool). cond {A = ℕ} b 1 0) first in
-      omega (arith, rest, count, one)
 
 -- the one session of a new hub
 pub first_is : {E : Type 0} (items : List (Known E)) (session : Known E) → items ≡ session ∷ []
@@ -60,72 +28,36 @@ pub first_is : {E : Type 0} (items : List (Known E)) (session : Known E) → ite
 first_is {E} items session is fresh = subst (λ (l : List (Known E)). IfSome (slice_get l 0) (λ s. s ≡ newcomer 0)) is (fresh 0)
 
 module _ {S C Q P E K : Type 0} (rules : Rules S C Q P E K) where
-  -- ---- one session
+  -- ---- the one list
 
-  -- what a closer says of a session that it ends
-  abbrev pub ToldEnd : List E → Known E → Known E → End → Type 0
-  ToldEnd journal old new ended =
-      MatchEnd ended ((new ≡ seeing old journal) × IsPrefix old.front journal)
-      (λ seen entries. (new ≡ old) × (seen ≡ length old.front) × (entries ≡ length journal) × (entries < seen))
+  -- what holds of a front that all begin is what the one list is
+  pub list_of : PointsConsistent rules → (sessions : ℕ) (one : List E) → IsFront rules sessions one → IsListOf rules sessions one
+  list_of consistent sessions one front = record {
+    sound = sound_of rules consistent one front.kept.legal;
+    numbered = front.kept.numbered;
+    own = front.seated;
+  }
 
-  abbrev pub ToldCalls : List E → Known E → End → Type 0
-  ToldCalls journal old ended = MatchEnd ended (old.calls ≤ calls_of rules.tag_of old.number journal + owed old.owes) (λ seen entries. Unit {0})
+  -- what a session has seen at last begins the list that begins with the journal and with what it had seen before
+  pub within_at_last : (one journal : List E) (old new : Known E) (ended : End) → EndsAs rules journal old new ended
+      → IsPrefix journal one → IsPrefix old.front one → IsPrefix new.front one
+  within_at_last one journal old new Matched ends begins before = subst (λ (es : List E). IsPrefix es one) (sym ends.ends.0) begins
+  within_at_last one journal old new (Unmatched seen entries) ends begins before = subst (λ (k : Known E). IsPrefix k.front one) (sym ends.stays) before
 
-  matched_as : (journal : List E) (old new : Known E) → new ≡ seeing old journal → IsPrefix old.front journal
-      → old.calls ≤ calls_of rules.tag_of old.number journal + owed old.owes → EndsAs rules journal old new Matched
-  matched_as journal old new is begins calls = subst (λ (k : Known E). EndsAs rules journal old k Matched) (sym is) (record {
-    seen = refl;
-    begins = begins;
-    ends = (refl, calls);
-    stays = tt;
-  })
+  -- it has its calls then, as it had before
+  more_calls : (session : ℕ) (xs ys : List E) → IsPrefix xs ys → calls_of rules.tag_of session xs ≤ calls_of rules.tag_of session ys
+  more_calls session xs ys p =
+      omega (arith, sum_by-append (λ (e : E). cond ((rules.tag_of e).session == session) 1 0) xs p.0, ap (calls_of rules.tag_of session) p.1)
 
-  unmatched_as : (journal : List E) (old new : Known E) (seen entries : ℕ) → new ≡ old
-      → seen ≡ length old.front → entries ≡ length journal → entries < seen → EndsAs rules journal old new (Unmatched seen entries)
-  unmatched_as journal old new seen entries is seen_is entries_is longer = subst (λ (k : Known E). EndsAs rules journal old k (Unmatched seen entries)) (sym is) (record {
-    seen = refl;
-    begins = ([], append-nil old.front);
-    ends = (seen_is, entries_is, longer);
-    stays = refl;
-  })
+  has_its_calls : (it : Known E) → IsKnown rules it → HasItsCalls rules it
+  has_its_calls it known =
+      omega (arith, known.enough, more_calls it.number (take it.anchor it.front) it.front (drop it.anchor it.front, take-append-drop it.anchor it.front))
 
-  pub ends_as : (journal : List E) (old new : Known E) (ended : End) → ToldEnd journal old new ended → ToldCalls journal old ended → EndsAs rules journal old new ended
-  ends_as journal old new Matched told calls = matched_as journal old new told.0 told.1 calls
-  ends_as journal old new (Unmatched seen entries) told calls = unmatched_as journal old new seen entries told.0 told.1 told.2 told.3
+  pub calls_at_last : (old new : Known E) → new ≡ seeing old new.front → IsPrefix old.front new.front → IsKnown rules old → HasItsCalls rules new
+  calls_at_last old new seen begins known = subst (HasItsCalls rules) (sym seen) (omega (arith, has_its_calls old known, more_calls old.number old.front new.front begins))
 
-  -- what a session has seen at last is sound, where what it had seen before is, and the journal
-  pub sound_at_last : (journal : List E) (old new : Known E) (ended : End) → EndsAs rules journal old new ended
-      → IsSound rules journal → IsSound rules old.front → IsSound rules new.front
-  sound_at_last journal old new Matched ends sound before = subst (λ (es : List E). IsSound rules es) (sym ends.ends.0) sound
-  sound_at_last journal old new (Unmatched seen entries) ends sound before = subst (λ (k : Known E). IsSound rules k.front) (sym ends.stays) before
+  -- ---- a list of one session
 
-  -- ---- sessions in turn
-
-  -- one session more in front
-  end_first : (journal : List E) (old new : Known E) (ended : End) (olds news : List (Known E)) (ends : List End)
-      → EndsAs rules journal old new ended → EndEach rules journal olds news ends → EndEach rules journal (old ∷ olds) (new ∷ news) (ended ∷ ends)
-  end_first journal old new ended olds news ends h rest = (h, rest)
-
-  -- what the sessions that are left come to makes up what all of them come to
-  abbrev pub MakesUp : List E → List (Known E) → List (Known E) → Type 0
-  MakesUp journal left all = (news : List (Known E)) (ends : List End) → EndEach rules journal (reverse left) news ends → HaveEnded rules journal all
-
-  -- the same session, of a closer with that journal
-  pub ended_in : (found journal : List E) (old new : Known E) (ended : End) → found ≡ journal → ToldEnd found old new ended → ToldCalls found old ended → EndsAs rules journal old new ended
-  ended_in found journal old new ended same told calls = subst (λ (es : List E). EndsAs rules es old new ended) same (ends_as found old new ended told calls)
-
-  -- the next session of those that are left
-  pub end_step : (journal : List E) (all left popped : List (Known E)) (session new : Known E) (ended : End) → left ≡ popped ++ session ∷ []
-      → MakesUp journal left all → EndsAs rules journal session new ended → MakesUp journal popped all
-  end_step journal all left popped session new ended is goes h news ends rest =
-      let turned : reverse left ≡ session ∷ reverse popped = ap (λ (l : List (Known E)). reverse l) is ∙ reverse-append popped (session ∷ []) in
-      goes (new ∷ news) (ended ∷ ends)
-      (subst (λ (l : List (Known E)). EndEach rules journal l (new ∷ news) (ended ∷ ends)) (sym turned) (end_first journal session new ended (reverse popped) news ends h rest))
-
-  pub all_ended : (journal : List E) (all left : List (Known E)) → left ≡ [] → MakesUp journal left all → HaveEnded rules journal all
-  all_ended journal all left empty goes = goes [] [] (subst (λ (l : List (Known E)). EndEach rules journal (reverse l) [] []) (sym empty) tt)
-
-  -- a list of one session
   pub end_of_one : (journal : List E) (old : Known E) (news : List (Known E)) (ends : List End)
       → EndEach rules journal (old ∷ []) news ends → (new : Known E) × (ended : End) × EndsAs rules journal old new ended
   end_of_one journal old [] ends h = absurd h
@@ -141,20 +73,20 @@ module _ {S C Q P E K : Type 0} (rules : Rules S C Q P E K) (row : RowOf E) wher
       let last = end_of_one rules closed.journal new closed.each.0 closed.each.1 closed.each.2 in
       let known = last.0 in
       let ends = last.2 in
-      let journal_sound : IsSound rules closed.journal = sound_of rules consistent closed.journal closed.kept.legal in
       let all : HasServed row users old 0 served.exchanges new =
       link_served rules row (at_desk users old) (at_desk users new) (record { came = before; went = after; end = end }) served 0 (omega arith) in record {
         exchanges = served.exchanges;
         link = served.link;
-        journal = closed.journal;
-        kept = closed.kept;
-        own = own_entries rules.tag_of closed.journal closed.own;
-        sound = journal_sound;
+        one = closed.one;
+        list = list_of rules consistent 1 closed.one closed.front;
         session = known;
+        within = within_at_last rules closed.one closed.journal new known last.1 ends closed.begins closed.seen.0;
+        calls = calls_at_last rules new known ends.seen ends.begins closed.known.0;
+        served = subst (λ (k : Known E). HasServed row users k 0 served.exchanges known) fresh (seen_at_last row users old new known 0 served.exchanges stay ends.seen ends.begins all);
+        journal = closed.journal;
+        begins = closed.begins;
         ended = last.1;
         ends = ends.ends;
-        front = sound_at_last rules closed.journal new known last.1 ends journal_sound served.front;
-        served = subst (λ (k : Known E). HasServed row users k 0 served.exchanges known) fresh (seen_at_last row users old new known 0 served.exchanges stay ends.seen ends.begins all);
       }
 
   -- the same of the only session of a list, and the desk that was made of it
@@ -172,15 +104,16 @@ module _ {S C Q P E K : Type 0} (rules : Rules S C Q P E K) (row : RowOf E) wher
   pipe_unserved users before alone consistent = record {
     exchanges = [];
     link = alone before;
-    journal = [];
-    kept = record { legal = refl; numbered = refl; consistent = consistent };
-    own = refl;
-    sound = record { legal = refl; consistent = nowhere };
+    one = [];
+    list = record { sound = record { legal = refl; consistent = nowhere }; numbered = refl; own = λ session le. refl };
     session = newcomer 0;
+    within = ([], refl);
+    calls = omega arith;
+    served = nothing_served rules row users (newcomer 0) 0 (omega arith);
+    journal = [];
+    begins = ([], refl);
     ended = Matched;
     ends = (refl, omega arith);
-    front = record { legal = refl; consistent = nowhere };
-    served = nothing_served rules row users (newcomer 0) 0 (omega arith);
   } where
     nowhere : (point : ℕ) → rules.consistent (replay rules (take point []))
     nowhere zero = consistent

@@ -3,6 +3,7 @@ use Rattle.std.proofs.Common.{◌≡◌, ℕ, zero, suc, ◌+◌, ◌||◌, Bool
 use Rattle.std.proofs.lemmas.List.{length-map, map-append, reverse-append}
 use Rattle.std.specs.List.{AllByRecursion, AllZip, list_any, range_with_len}
 use Rattle.std.specs.Prelude.{IfSome, slice_get}
+use mathlib.Core.List.{IsPrefix}
 use Rattle.osm_outside.specs.Port.{PortTold}
 use Rattle.osm_outside.specs.Told.{Told}
 use Rattle.http_link.specs.declared.end.LinkEnd.{LinkEnd}
@@ -13,15 +14,16 @@ use Rattle.link_workers.specs.Seats.{seated, sessions_of, ports_of}
 use Rattle.link_workers.specs.Workers.{Works}
 use Rattle.machine_law.specs.Rules.{Rules}
 use Rattle.user_table.specs.Users.{Users}
-use Rattle.snapshot_hub.specs.Known.{Known, newcomer}
+use Rattle.snapshot_hub.specs.Known.{Known, newcomer, IsKnown}
+use Rattle.snapshot_hub.specs.Closed.{EndsAs, EndEach, HasClosed}
 use Rattle.snapshot_hub.specs.declared.ends.End.{End}
 use Rattle.session_desk.specs.Answered.{AtDesk, RowOf}
-use Rattle.desk_serve.specs.Link.{IsSound, ServesLink}
+use Rattle.desk_serve.specs.Link.{IsListOf, ServesLink}
 use Rattle.desk_serve.specs.Desks.{at_desk}
-use Rattle.desk_serve.specs.Ports.{Shift, HasServedPort, Work, HasWorked, ServesAll, HaveServed, EndsAs, EndEach, HasClosed}
+use Rattle.desk_serve.specs.Ports.{Shift, HasServedPort, Work, HasWorked, ServesAll, HaveServed}
 use Rattle.desk_serve.proofs.Joined.{LinksChain, ServedStay, Joins, joined, seen_at_last, desk_is}
-use Rattle.desk_serve.proofs.Closing.{sound_at_last}
-use Rattle.desk_serve.proofs.Sound.{PointsConsistent, sound_of}
+use Rattle.desk_serve.proofs.Closing.{list_of, within_at_last, calls_at_last}
+use Rattle.desk_serve.proofs.Sound.{PointsConsistent}
 
 cons_same : {A : Type 0} (x y : A) (xs ys : List A) → x ∷ xs ≡ y ∷ ys → (x ≡ y) × (xs ≡ ys)
 cons_same x y xs ys same =
@@ -192,42 +194,42 @@ module _ {S C Q P E K : Type 0} (rules : Rules S C Q P E K) (row : RowOf E) wher
 
   -- ---- sessions that served ports, and then ended
 
-  stopped_sound : (old new : AtDesk E) (visits : List Visit) → ServesEach (ServesLink rules row) old visits new → IsSound rules old.known.front → IsSound rules new.known.front
-  stopped_sound old new [] same sound = subst (λ (d : AtDesk E). IsSound rules d.known.front) (sym same) sound
-  stopped_sound old new (v ∷ visits) h sound = stopped_sound h.0 new visits h.2 h.1.front
-
-  pub has_worked : (users : Users) (journal : List E) (shift : Shift E) (known : Known E) (ended : End) → LinksChain row → ServedStay row → PointsConsistent rules → IsSound rules journal
-      → HasServedPort rules row users shift → EndsAs rules journal shift.stopped known ended → HasWorked rules row users journal (record { shift = shift; known = known; ended = ended })
-  has_worked users journal shift known ended chain stay consistent sound served ends =
+  pub has_worked : (users : Users) (one journal : List E) (shift : Shift E) (known : Known E) (ended : End) → LinksChain row → ServedStay row
+      → HasServedPort rules row users shift → EndsAs rules journal shift.stopped known ended
+      → IsPrefix journal one → IsPrefix shift.stopped.front one → IsKnown rules shift.stopped
+      → HasWorked rules row users one journal (record { shift = shift; known = known; ended = ended })
+  has_worked users one journal shift known ended chain stay served ends begins before held =
       let old : AtDesk E = at_desk users (newcomer shift.number) in
       let new : AtDesk E = at_desk users shift.stopped in
-      let all : Joins rules row old new served.links.visits 0 = joined rules row old new served.links.visits 0 chain (omega arith) served.links.served in
-      let nothing : IsSound rules [] = sound_of rules consistent [] refl in record {
+      let all : Joins rules row old new served.links.visits 0 = joined rules row old new served.links.visits 0 chain (omega arith) served.links.served in record {
         links = served;
-        ends = ends;
-        front = sound_at_last rules journal shift.stopped known ended ends sound (stopped_sound old new served.links.visits served.links.served nothing);
+        within = within_at_last rules one journal shift.stopped known ended ends begins before;
+        calls = calls_at_last rules shift.stopped known ends.seen ends.begins held;
         exchanges = all.exchanges;
         each = all.each;
         joined = seen_at_last row users (newcomer shift.number) shift.stopped known 0 (all_of all.exchanges) stay ends.seen ends.begins all.served;
+        ends = ends;
       }
 
   -- all of them
-  pub record AllWorked (users : Users) (journal : List E) (shifts : List (Shift E)) : Type 0 where
+  pub record AllWorked (users : Users) (one journal : List E) (shifts : List (Shift E)) : Type 0 where
     pub works : List (Work E)
-    pub worked : AllByRecursion (HasWorked rules row users journal) works
+    pub worked : AllByRecursion (HasWorked rules row users one journal) works
     pub shifts_are : map (λ work. work.shift) works ≡ shifts
 
-  all_worked : (users : Users) (journal : List E) (shifts : List (Shift E)) (known : List (Known E)) (ends : List End) → LinksChain row → ServedStay row → PointsConsistent rules → IsSound rules journal
-      → AllByRecursion (HasServedPort rules row users) shifts → EndEach rules journal (map (λ shift. shift.stopped) shifts) known ends → AllWorked users journal shifts
-  all_worked users journal [] [] [] chain stay consistent sound served each = record { works = []; worked = tt; shifts_are = refl }
-  all_worked users journal [] [] (e ∷ ends) chain stay consistent sound served each = absurd each
-  all_worked users journal [] (k ∷ known) ends chain stay consistent sound served each = absurd each
-  all_worked users journal (s ∷ shifts) [] ends chain stay consistent sound served each = absurd each
-  all_worked users journal (s ∷ shifts) (k ∷ known) [] chain stay consistent sound served each = absurd each
-  all_worked users journal (s ∷ shifts) (k ∷ known) (e ∷ ends) chain stay consistent sound served each =
-      let rest = all_worked users journal shifts known ends chain stay consistent sound served.1 each.1 in record {
+  all_worked : (users : Users) (one journal : List E) (shifts : List (Shift E)) (known : List (Known E)) (ends : List End) → LinksChain row → ServedStay row
+      → AllByRecursion (HasServedPort rules row users) shifts → EndEach rules journal (map (λ shift. shift.stopped) shifts) known ends → IsPrefix journal one
+      → AllByRecursion (λ session. IsPrefix session.front one) (map (λ shift. shift.stopped) shifts)
+      → AllByRecursion (IsKnown rules) (map (λ shift. shift.stopped) shifts) → AllWorked users one journal shifts
+  all_worked users one journal [] [] [] chain stay served each begins seen held = record { works = []; worked = tt; shifts_are = refl }
+  all_worked users one journal [] [] (e ∷ ends) chain stay served each begins seen held = absurd each
+  all_worked users one journal [] (k ∷ known) ends chain stay served each begins seen held = absurd each
+  all_worked users one journal (s ∷ shifts) [] ends chain stay served each begins seen held = absurd each
+  all_worked users one journal (s ∷ shifts) (k ∷ known) [] chain stay served each begins seen held = absurd each
+  all_worked users one journal (s ∷ shifts) (k ∷ known) (e ∷ ends) chain stay served each begins seen held =
+      let rest = all_worked users one journal shifts known ends chain stay served.1 each.1 begins seen.1 held.1 in record {
         works = record { shift = s; known = k; ended = e } ∷ rest.works;
-        worked = (has_worked users journal s k e chain stay consistent sound served.0 each.0, rest.worked);
+        worked = (has_worked users one journal s k e chain stay served.0 each.0 begins seen.0 held.0, rest.worked);
         shifts_are = ap (λ (l : List (Shift E)). s ∷ l) rest.shifts_are;
       }
 
@@ -236,20 +238,20 @@ module _ {S C Q P E K : Type 0} (rules : Rules S C Q P E K) (row : RowOf E) wher
       → LinksChain row → ServedStay row → PointsConsistent rules → length before ≡ count
       → HaveServed rules row users (range_with_len 0 count) stopped before after failed → HasClosed rules count stopped → ServesAll rules row users before after failed
   serves_all users count before after stopped failed chain stay consistent counted served closed =
-      let sound : IsSound rules closed.journal = sound_of rules consistent closed.journal closed.kept.legal in
-      let each : EndEach rules closed.journal (map (λ shift. shift.stopped) served.shifts) closed.each.0 closed.each.1 =
-      subst (λ (l : List (Known E)). EndEach rules closed.journal l closed.each.0 closed.each.1) (sym served.stopped_are) closed.each.2 in
-      let all = all_worked users closed.journal served.shifts closed.each.0 closed.each.1 chain stay consistent sound served.served each in record {
+      let all = all_worked users closed.one closed.journal served.shifts closed.each.0 closed.each.1 chain stay served.served
+          (subst (λ (l : List (Known E)). EndEach rules closed.journal l closed.each.0 closed.each.1) (sym served.stopped_are) closed.each.2) closed.begins
+          (subst (λ (l : List (Known E)). AllByRecursion (λ session. IsPrefix session.front closed.one) l) (sym served.stopped_are) closed.seen)
+          (subst (λ (l : List (Known E)). AllByRecursion (IsKnown rules) l) (sym served.stopped_are) closed.known) in record {
+        one = closed.one;
+        list = subst (λ (n : ℕ). IsListOf rules n closed.one) (sym counted) (list_of rules consistent count closed.one closed.front);
         journal = closed.journal;
-        kept = closed.kept;
-        sound = sound;
+        begins = closed.begins;
         works = all.works;
         worked = all.worked;
         numbers = ap (λ (l : List (Shift E)). map (λ shift. shift.number) l) all.shifts_are ∙ (served.numbers_are ∙ ap (range_with_len 0) (sym counted));
         handed = ap (λ (l : List (Shift E)). map (λ shift. shift.before) l) all.shifts_are ∙ served.handed;
         back = ap (λ (l : List (Shift E)). map (λ shift. shift.after) l) all.shifts_are ∙ served.back;
         some_failed = served.some_failed ∙ ap (λ (l : List (Shift E)). list_any (λ shift. shift.failed) l) (sym all.shifts_are);
-        own = λ session le. closed.own session (omega (arith, le, counted));
       }
 
   -- what `serve_ports` says, where the workers' sessions came back

@@ -1,13 +1,14 @@
 -- What serving one link by a session of a hub does, for any machine; and what serving a link by a new hub does.
-use Rattle.std.specs.Prelude.{◌≡◌, ℕ, ◌+◌, ◌<◌, ◌≤◌, ◌⊎◌, true, List, [], length, take}
+use Rattle.std.specs.Prelude.{◌≡◌, ℕ, ◌+◌, ◌≤◌, ◌⊎◌, true, List, [], length, take}
+use mathlib.Core.List.{IsPrefix}
 use Rattle.osm_outside.specs.Told.{Told}
 use Rattle.http_link.specs.declared.end.LinkEnd.{LinkEnd}
 use Rattle.http_link.specs.declared.end.LinkEnd.TheVariants.{Memory}
 use Rattle.http_link.specs.Exchange.{Exchange}
 use Rattle.machine_law.specs.Rules.{Rules, replay, is_legal}
-use Rattle.hub_core.specs.Journal.{IsJournal, calls_of}
+use Rattle.hub_core.specs.Journal.{calls_of, is_numbered}
 use Rattle.snapshot_hub.specs.Known.{Known, newcomer, owed}
-use Rattle.snapshot_hub.specs.Ends.{MatchEnd}
+use Rattle.snapshot_hub.specs.Closed.{HasEnded}
 use Rattle.snapshot_hub.specs.declared.ends.End.{End}
 use Rattle.server_frame.specs.OnLink.{OnLink}
 use Rattle.user_table.specs.Users.{Users}
@@ -26,13 +27,16 @@ module _ {S C Q P E K : Type 0} (rules : Rules S C Q P E K) where
     pub legal : is_legal rules entries ≡ true
     pub consistent : (point : ℕ) → rules.consistent (replay rules (take point entries))
 
-  -- What the end of a session says of all that it knows then: it has seen the whole journal of the closed hub, with all its calls
-  -- but for one that it owes; or it had seen more than the journal has, of which no run is known.
-  abbrev pub HasEnded : List E → Known E → End → Type 0
-  HasEnded journal session ended =
-      MatchEnd ended
-      ((session.front ≡ journal) × (session.calls ≤ calls_of rules.tag_of session.number journal + owed session.owes))
-      (λ seen entries. (seen ≡ length session.front) × (entries ≡ length journal) × (entries < seen))
+  -- The one list of a hub of so many sessions, numbered from 0: it is sound, the calls of each session stand in it numbered 1, 2, 3 and
+  -- so on, and it has no entry but those of these sessions.
+  pub record IsListOf (sessions : ℕ) (entries : List E) : Type 0 where
+    pub sound : IsSound entries
+    pub numbered : is_numbered rules.tag_of [] entries ≡ true
+    pub own : (session : ℕ) → sessions ≤ session → calls_of rules.tag_of session entries ≡ 0
+
+  -- the session has seen all its calls, but for one that it owes
+  abbrev pub HasItsCalls : Known E → Type 0
+  HasItsCalls it = it.calls ≤ calls_of rules.tag_of it.number it.front + owed it.owes
 
 -- over the rules of a machine, and what one message may be answered
 module _ {S C Q P E K : Type 0} (rules : Rules S C Q P E K) (row : RowOf E) where
@@ -42,7 +46,7 @@ module _ {S C Q P E K : Type 0} (rules : Rules S C Q P E K) (row : RowOf E) wher
     pub exchanges : List Exchange
     pub link : OnLink before after exchanges end
     pub users : new.users ≡ old.users
-    -- what the session knew before the first message: it had seen the journal that was found under the lock
+    -- what the session knew before the first message: it had been freshened, or there was no memory for that
     pub start : Known E
     pub started : IsFresh rules old.known start ⊎ LacksStart old.known start before after exchanges end
     -- Wherever in the front of its start it was last answered, up to the whole of it: each message has a row at a point of the session's
@@ -55,16 +59,17 @@ module _ {S C Q P E K : Type 0} (rules : Rules S C Q P E K) (row : RowOf E) wher
     -- the messages that were answered, with their moments and replies
     pub exchanges : List Exchange
     pub link : OnLink before after exchanges end
-    -- there is one journal that replays as one thread's, and in which each call of a session stands once and in order
-    pub journal : List E
-    pub kept : IsJournal rules journal
-    -- no entry but those of the one session
-    pub own : calls_of rules.tag_of 0 journal ≡ length journal
-    pub sound : IsSound rules journal
-    -- what the session knew at last: it had seen that whole journal
+    -- one list, with no entry but those of the one session
+    pub one : List E
+    pub list : IsListOf rules 1 one
+    -- what the session knew at last: all that it has seen begins that list, and has its calls
     pub session : Known E
+    pub within : IsPrefix session.front one
+    pub calls : HasItsCalls rules session
+    -- each message has a row at a point of what it has seen; the points never go back
+    pub served : HasServed row users (newcomer 0) 0 exchanges session
+    -- the journal of the closed hub begins that list too, and how the session ended there
+    pub journal : List E
+    pub begins : IsPrefix journal one
     pub ended : End
     pub ends : HasEnded rules journal session ended
-    pub front : IsSound rules session.front
-    -- each message has a row at a point of it; the points never go back
-    pub served : HasServed row users (newcomer 0) 0 exchanges session

@@ -1,5 +1,5 @@
 -- What serving the links of ports by the sessions of one hub does, for any machine.
-use Rattle.std.specs.Prelude.{◌≡◌, ℕ, ◌≤◌, Bool, true, false, List, [], ◌∷◌, map, length}
+use Rattle.std.specs.Prelude.{◌≡◌, ℕ, Bool, true, false, List, [], ◌∷◌, map, length}
 use Rattle.std.specs.List.{AllByRecursion, AllZip, list_any, range_with_len}
 use mathlib.Core.List.{IsPrefix}
 use Rattle.osm_outside.specs.Port.{PortTold}
@@ -7,15 +7,14 @@ use Rattle.http_link.specs.Exchange.{Exchange}
 use Rattle.link_workers.specs.Port.{ServesPort}
 use Rattle.link_workers.specs.Joined.{all_of}
 use Rattle.machine_law.specs.Rules.{Rules}
-use Rattle.hub_core.specs.Journal.{IsJournal, calls_of}
-use Rattle.snapshot_hub.specs.Known.{Known, newcomer, seeing}
-use Rattle.snapshot_hub.specs.Ends.{MatchEnd}
+use Rattle.snapshot_hub.specs.Known.{Known, newcomer}
+use Rattle.snapshot_hub.specs.Closed.{EndsAs}
 use Rattle.snapshot_hub.specs.declared.ends.End.{End}
 use Rattle.user_table.specs.Users.{Users}
 use Rattle.session_desk.specs.Answered.{RowOf, HasServed}
 use Rattle.desk_serve.specs.Desks.{at_desk}
 use Rattle.server_frame.specs.OnLink.{OnLink}
-use Rattle.desk_serve.specs.Link.{IsSound, ServesLink, HasEnded}
+use Rattle.desk_serve.specs.Link.{IsListOf, HasItsCalls, ServesLink}
 use Rattle.server_frame.specs.declared.listening.Outcome.{Outcome}
 use Rattle.server_frame.specs.declared.listening.Outcome.TheVariants.{Served, Failed, LacksMemory}
 
@@ -27,14 +26,6 @@ pub record Shift (E : Type 0) : Type 0 where
   pub before : PortTold
   pub after : PortTold
   pub failed : Bool
-
-module _ {S C Q P E K : Type 0} (rules : Rules S C Q P E K) where
-  -- A worker's session ended so, where this is the journal of the hub: nothing but what it has seen is new.
-  pub record EndsAs (journal : List E) (old new : Known E) (ended : End) : Type 0 where
-    pub seen : new ≡ seeing old new.front
-    pub begins : IsPrefix old.front new.front
-    pub ends : HasEnded rules journal new ended
-    pub stays : MatchEnd ended (Unit {0}) (λ seen entries. new ≡ old)
 
 -- What a worker did, and how its session ended.
 pub record Work (E : Type 0) : Type 0 where
@@ -52,32 +43,35 @@ module _ {S C Q P E K : Type 0} (rules : Rules S C Q P E K) (row : RowOf E) wher
   abbrev pub HasServedPort : Users → Shift E → Type 0
   HasServedPort users shift = ServesPort (ServesLink rules row) (at_desk users (newcomer shift.number)) (at_desk users shift.stopped) shift.before shift.after shift.failed
 
-  -- A worker served the links of its port by the session of that number, of a hub whose closing journal this is.
-  pub record HasWorked (users : Users) (journal : List E) (work : Work E) : Type 0 where
+  -- A worker served the links of its port by the session of that number, of a hub with that one list and that closing journal.
+  pub record HasWorked (users : Users) (one journal : List E) (work : Work E) : Type 0 where
     pub links : HasServedPort users work.shift
-    pub ends : EndsAs rules journal work.shift.stopped work.known work.ended
-    pub front : IsSound rules work.known.front
-    -- The messages of all these links, one link after another: each has a row at a point of the front that the session has then; the
-    -- points never go back, from one link to the next neither.
+    -- all that its session has seen at last begins the one list, and has its calls
+    pub within : IsPrefix work.known.front one
+    pub calls : HasItsCalls rules work.known
+    -- The messages of all these links, one link after another: each has a row at a point of what the session has seen; the points never
+    -- go back, from one link to the next neither.
     pub exchanges : List (List Exchange)
     pub each : AllZip (λ visit exchanges. OnLink visit.came visit.went exchanges visit.end) links.links.visits exchanges
     pub joined : HasServed row users (newcomer work.shift.number) 0 (all_of exchanges) work.known
+    -- how its session ended, on that journal
+    pub ends : EndsAs rules journal work.shift.stopped work.known work.ended
 
   -- The links of these ports were served by the sessions of a new hub, which was then closed.
   pub record ServesAll (users : Users) (before after : List PortTold) (failed : Bool) : Type 0 where
-    -- there is one journal that replays as one thread's, and in which the calls of each session stand once and in order
+    -- one list, with no entry but those of a session for each port
+    pub one : List E
+    pub list : IsListOf rules (length before) one
+    -- the journal of the closed hub begins it
     pub journal : List E
-    pub kept : IsJournal rules journal
-    pub sound : IsSound rules journal
+    pub begins : IsPrefix journal one
     -- one worker for each port, with a new session of its number
     pub works : List (Work E)
-    pub worked : AllByRecursion (HasWorked users journal) works
+    pub worked : AllByRecursion (HasWorked users one journal) works
     pub numbers : map (λ shift. shift.number) (shifts_of works) ≡ range_with_len 0 (length before)
     pub handed : map (λ shift. shift.before) (shifts_of works) ≡ before
     pub back : map (λ shift. shift.after) (shifts_of works) ≡ after
     pub some_failed : failed ≡ list_any (λ shift. shift.failed) (shifts_of works)
-    -- no entry but those of these sessions
-    pub own : (session : ℕ) → length before ≤ session → calls_of rules.tag_of session journal ≡ 0
 
   -- what serving ports comes to: want of memory leaves them as they were
   abbrev pub ServesPorts : Users → List PortTold → List PortTold → Outcome → Type 0
@@ -96,21 +90,3 @@ module _ {S C Q P E K : Type 0} (rules : Rules S C Q P E K) (row : RowOf E) wher
     pub handed : map (λ shift. shift.before) shifts ≡ before
     pub back : map (λ shift. shift.after) shifts ≡ after
     pub some_failed : failed ≡ list_any (λ shift. shift.failed) shifts
-
-module _ {S C Q P E K : Type 0} (rules : Rules S C Q P E K) where
-  -- Sessions ended so, in the order of the three lists.
-  abbrev pub EndEach : List E → List (Known E) → List (Known E) → List End → Type 0
-  EndEach journal [] [] [] = Unit {0}
-  EndEach journal (old ∷ olds) (new ∷ news) (ended ∷ ends) = EndsAs rules journal old new ended × EndEach journal olds news ends
-  EndEach journal _ _ _ = ⊥
-
-  -- These sessions ended, each somehow.
-  abbrev pub HaveEnded : List E → List (Known E) → Type 0
-  HaveEnded journal sessions = (known : List (Known E)) × (ends : List End) × EndEach journal sessions known ends
-
-  -- A hub of so many sessions was closed, and these ended.
-  pub record HasClosed (count : ℕ) (sessions : List (Known E)) : Type 0 where
-    pub journal : List E
-    pub kept : IsJournal rules journal
-    pub own : (session : ℕ) → count ≤ session → calls_of rules.tag_of session journal ≡ 0
-    pub each : HaveEnded journal sessions

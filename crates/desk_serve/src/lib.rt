@@ -1,15 +1,13 @@
 //! Serving links by the sessions of a hub, for any machine and its desk: one link, the one link of a
-//! new hub, the links of many ports by as many workers, and the end of the hub.
+//! new hub, and the links of many ports by as many workers.
 #![tactic(auto)]
 
-mod close;
 mod laws;
 mod link;
 mod makers;
 mod pipe;
 mod workers;
 
-pub use close::close_hub;
 pub use laws::{pipe_left_alone, points_are_consistent};
 pub use link::serve_link;
 pub use makers::DeskMaker;

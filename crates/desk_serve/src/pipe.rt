@@ -1,8 +1,8 @@
 //! One link, served by the one session of a new hub.
 ghost use Rattle.std.specs.Prelude.{◌≡◌, ℕ, map, vec_len, IfOk, IfSome, OnErr, slice_get};
 ghost use Rattle.snapshot_hub.specs.Known.{newcomer};
+ghost use Rattle.snapshot_hub.specs.Closed.{HasClosed};
 ghost use Rattle.desk_serve.specs.Link.{ServesPipe};
-ghost use Rattle.desk_serve.specs.Ports.{HasClosed};
 
 use crate::laws::points_are_consistent;
 use crate::link::serve_link;
@@ -38,7 +38,7 @@ pub fn serve_by_one<
     ensures count { IfOk result (λ r. vec_len r.0 ≡ 1) }
     ensures err { OnErr result (L.told link.new ≡ L.told link.old) }
 {
-    // What of a session stands on the closing journal, and what the machine keeps.
+    // What of a session stands on a longer front, and what the machine keeps.
     served_stay::<N, M, S, D>();
     points_are_consistent::<M>();
     let Some(session) = sessions.pop() else {

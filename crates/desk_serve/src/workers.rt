@@ -1,11 +1,12 @@
 //! Many workers over one new hub.
 ghost use Rattle.std.specs.Prelude.{◌≡◌, ◌+◌, ◌++◌, ◌≤◌, ℕ, map, vec_len, vec_capacity, IfOk, IfSome, OnErr, slice_get};
 ghost use Rattle.snapshot_hub.specs.Known.{newcomer};
+ghost use Rattle.snapshot_hub.specs.Closed.{HasClosed};
 ghost use Rattle.osm_outside.specs.Told.{Told};
 ghost use Rattle.http_link.specs.declared.end.LinkEnd.{LinkEnd};
 ghost use Rattle.desk_serve.specs.Desks.{at_desk};
 ghost use Rattle.desk_serve.specs.Link.{ServesLink};
-ghost use Rattle.desk_serve.specs.Ports.{HasClosed, ServesAll};
+ghost use Rattle.desk_serve.specs.Ports.{ServesAll};
 
 use crate::laws::points_are_consistent;
 use crate::makers::DeskMaker;
@@ -82,7 +83,7 @@ where
     ensures count { IfOk result (λ r. vec_len ports.new ≡ vec_len ports.old) }
     ensures err { OnErr result (ports.new.items ≡ ports.old.items) }
 {
-    // How the links of a session join, what of it stands on the closing journal, and what the machine keeps.
+    // How the links of a session join, what of it stands on a longer front, and what the machine keeps.
     links_chain::<N, M, S, D>();
     served_stay::<N, M, S, D>();
     points_are_consistent::<M>();

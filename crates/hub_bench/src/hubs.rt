@@ -11,6 +11,7 @@ use hub_core::Book;
 use map_machine::MapMachine;
 use osm_model::Entry;
 use osm_outside::NoGate;
+use route_table::Routes;
 use shared_front::HubName;
 use snapshot_hub::Seats;
 use std::alloc::Global;
@@ -184,7 +185,8 @@ fn follow<N: HubName + Send + Sync, R: Threads + Wait + Sync + Clock + Input + P
     hub: &MapHub<N, NoGate, &R>,
     mut sessions: Vec<MapSession<N>>,
 ) -> Option<io::Result<bool>> {
-    let desk = HubDesk::new(alloc, rt, hub, sessions.pop()?, users).ok()?;
+    let routes = Routes::new(alloc).ok()?;
+    let desk = HubDesk::new(rt, hub, sessions.pop()?, users, &routes);
     let lane = Lane::new(alloc, desk)?;
     let keepers = keepers_of(alloc, rt, hub, sessions)?;
     follow_by(rt, alloc, users, keepers, lane)

@@ -5,6 +5,7 @@ use crate::rows::{Phase, Step};
 use api_desk::{HubDesk, MapHub, MapSession};
 use http_link::Desk;
 use osm_base::{Bytes, SESSION_LIMIT};
+use route_table::Routes;
 use row_lines::{RowFault, number};
 use session_desk::SessionDesk;
 use shared_front::HubName;
@@ -146,9 +147,10 @@ pub fn play_job<N: HubName, R: Wait + Drop, W: Wait>(
         sessions,
         mut notes,
     } = job;
+    let routes = Routes::new(alloc)?;
     let mut desks = Vec::new(alloc);
     for session in sessions {
-        desks.push(HubDesk::new(alloc, rt, hub, session, users)?)?;
+        desks.push(HubDesk::new(rt, hub, session, users, &routes))?;
     }
     play_rounds(alloc, desks.as_mut_slice(), &mut notes, phase)?;
     let mut sessions = Vec::new(alloc);

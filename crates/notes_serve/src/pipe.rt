@@ -3,11 +3,11 @@ ghost use Rattle.std.specs.Prelude.{◌≡◌, ℕ, vec_len, IfOk, IfSome, OnErr
 ghost use Rattle.notes_core.specs.Machine.{note_rules};
 ghost use Rattle.notes_desk.specs.Desk.{note_row};
 ghost use Rattle.snapshot_hub.specs.Known.{newcomer};
+ghost use Rattle.snapshot_hub.specs.Closed.{HasClosed};
 ghost use Rattle.desk_serve.specs.Link.{ServesPipe};
-ghost use Rattle.desk_serve.specs.Ports.{HasClosed};
 
 use crate::makers::NotesDesks;
-use desk_serve::{close_hub, pipe_left_alone, serve_by_one};
+use desk_serve::{pipe_left_alone, serve_by_one};
 use http_link::LinkEnd;
 use notes_core::{NoteEntry, NotesMachine};
 use notes_desk::{NotesDesk, NotesHub, NotesSession};
@@ -67,7 +67,7 @@ pub fn serve_notes<N: HubName, R: Wait, L: Link>(
     };
     match serve_by_session(alloc, rt, &hub, users, sessions, link) {
         Ok((sessions, end)) => {
-            close_hub(&mut hub, sessions);
+            hub.close_with(sessions);
             end
         }
         Err(Memory) => LinkEnd::Memory,

@@ -3,10 +3,11 @@ ghost use Rattle.std.specs.Prelude.{◌≡◌, ℕ, map, vec_len, IfOk, IfSome, 
 ghost use Rattle.notes_core.specs.Machine.{note_rules};
 ghost use Rattle.notes_desk.specs.Desk.{note_row};
 ghost use Rattle.snapshot_hub.specs.Known.{newcomer};
-ghost use Rattle.desk_serve.specs.Ports.{HasClosed, ServesAll, ServesPorts};
+ghost use Rattle.snapshot_hub.specs.Closed.{HasClosed};
+ghost use Rattle.desk_serve.specs.Ports.{ServesAll, ServesPorts};
 
 use crate::makers::NotesDesks;
-use desk_serve::{close_hub, serve_by};
+use desk_serve::serve_by;
 use notes_core::{NoteEntry, NotesMachine};
 use notes_desk::{NotesDesk, NotesHub, NotesSession};
 use osm_base::Memory;
@@ -70,7 +71,7 @@ pub fn notes_all<N: HubName + Send + Sync, R: Threads + Wait + Sync, P: Port + D
     };
     match serve_by_sessions(rt, alloc, &hub, users, sessions, ports) {
         Ok((sessions, failed)) => {
-            close_hub(&mut hub, sessions);
+            hub.close_with(sessions);
             if failed {
                 Outcome::Failed
             } else {

@@ -1,8 +1,3 @@
-pub mod Serving
-pub mod Joined
-pub mod Closing
-pub mod Maps
-pub mod Working
 pub mod Measuring
 pub mod SentLemmas
 pub mod DoneLemmas

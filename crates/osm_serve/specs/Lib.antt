@@ -1,5 +1,3 @@
-pub mod Serve
-pub mod ServeAll
 pub mod Tell
 pub mod Sending
 pub mod OneThread

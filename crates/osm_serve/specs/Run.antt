@@ -6,21 +6,28 @@ use Rattle.server_frame.specs.Standard.{RunsStandard, IsUnserved}
 use Rattle.server_frame.specs.Listening.{RunsListening}
 use Rattle.osm_words.specs.declared.words.LoadOptions.{LoadOptions}
 use Rattle.osm_words.specs.Words.{Reading, pipe, serve, measure, export, replay, notes, serve_notes}
+use Rattle.map_machine.specs.Machine.{map_rules}
+use Rattle.api_desk.specs.HubDesk.{map_row}
+use Rattle.desk_serve.specs.Link.{ServesPipe}
+use Rattle.desk_serve.specs.Ports.{ServesPorts}
 use Rattle.notes_serve.specs.Run.{RunsNotes, RunsServeNotes}
-use Rattle.osm_serve.specs.Serve.{ServesPipe}
-use Rattle.osm_serve.specs.ServeAll.{ServesPorts}
 use Rattle.osm_serve.specs.Measure.{AreLines}
 use Rattle.osm_serve.specs.Export.{IsExport}
 use Rattle.osm_serve.specs.Replay.{Replays}
 use Rattle.osm_serve.specs.Tell.{Tells}
 
+-- What serving links of the map comes to is told as for any machine, by the rules of the map and the rows of its desk: a list is sound
+-- where the rules take each of its entries, and where after every entry visible ways and relations refer only to visible elements; each
+-- reply is what the rules answer at a point of what the session has seen, or a call of the feed is answered there; what is accepted
+-- stands there once and whole, what is refused not at all, and a want of memory that may have an entry is a debt.
+
 -- what `pipe` comes to: the standard link is served by a new hub
 abbrev pub RunsPipe : List ℕ → Option ℕ → HostTold → HostTold → Told → Told → ℕ → Type 0
-RunsPipe = RunsStandard ServesPipe
+RunsPipe = RunsStandard (ServesPipe map_rules map_row)
 
 -- what `serve` comes to: the links of so many ports at that address are served by a new hub
 abbrev pub RunsServe : List ℕ → List ℕ → ℕ → HostTold → HostTold → Told → Told → ℕ → Type 0
-RunsServe = RunsListening ServesPorts
+RunsServe = RunsListening (ServesPorts map_rules map_row)
 
 -- what `measure` comes to, with the host left alone
 pub record RunsMeasure (load : LoadOptions) (host host' : HostTold) (before after : Told) (status : ℕ) : Type 0 where

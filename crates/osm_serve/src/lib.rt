@@ -5,6 +5,7 @@
 
 mod export;
 mod link;
+mod makers;
 mod measure;
 mod pipe;
 mod play;

@@ -2,8 +2,10 @@
 //! ports.
 ghost use Rattle.std.specs.Prelude.{◌≡◌, ◌<◌, ◌≤◌, map, vec_len};
 ghost use Rattle.osm_base.specs.declared.limits.TheConstants.{SESSION_LIMIT};
+ghost use Rattle.map_machine.specs.Machine.{map_rules};
+ghost use Rattle.api_desk.specs.HubDesk.{map_row};
+ghost use Rattle.desk_serve.specs.Ports.{ServesPorts};
 ghost use Rattle.osm_serve.specs.Run.{RunsServe};
-ghost use Rattle.osm_serve.specs.ServeAll.{ServesPorts};
 
 use crate::pipe::serve_pipe;
 use crate::workers::serve_ports;
@@ -21,9 +23,11 @@ use user_table::UserTable;
 pub struct MapServer;
 
 impl LinkServer for MapServer {
-    ghost use Rattle.osm_serve.specs.Serve.{ServesPipe};
+    ghost use Rattle.map_machine.specs.Machine.{map_rules};
+    ghost use Rattle.api_desk.specs.HubDesk.{map_row};
+    ghost use Rattle.desk_serve.specs.Link.{ServesPipe};
 
-    ghost serves = { ServesPipe };
+    ghost serves = { ServesPipe map_rules map_row };
 
     fn serve<R: Wait, L: Link>(rt: &R, alloc: Global, users: &UserTable, link: &mut L) -> LinkEnd {
         serve_pipe::<Brand, R, L>(alloc, rt, Seats::new(1), users, link)
@@ -39,7 +43,7 @@ fn serve_handed<R: Threads + Wait + Sync, P: Port + Drop + Send>(
 ) -> Outcome
     requires some { 0 < vec_len ports.old }
     requires few { vec_len ports.old ≤ SESSION_LIMIT }
-    ensures serves { ServesPorts users.now (map P.told ports.old.items) (map P.told ports.new.items) result }
+    ensures serves { ServesPorts map_rules map_row users.now (map P.told ports.old.items) (map P.told ports.new.items) result }
     ensures count { vec_len ports.new ≡ vec_len ports.old }
 {
     let seats = Seats::new(ports.len() as u32);

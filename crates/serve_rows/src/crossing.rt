@@ -15,6 +15,7 @@ use osm_base::Memory;
 use osm_model::Entry;
 use osm_outside::{Link, MemPort, Outside};
 use osm_serve::serve_link;
+use route_table::Routes;
 use row_tally::Tally;
 use session_desk::SessionDesk;
 use shared_front::HubName;
@@ -120,17 +121,16 @@ fn serve_at<N: HubName, R: Wait + Drop, W: Wait, L: Link>(
     seat: &mut Option<MapSession<N>>,
     link: &mut L,
 ) -> LinkEnd {
+    let Ok(routes) = Routes::new(alloc) else {
+        return LinkEnd::Memory;
+    };
     let Some(session) = seat.take() else {
         return LinkEnd::Memory;
     };
-    match HubDesk::new(alloc, rt, hub, session, users) {
-        Ok(mut desk) => {
-            let end = serve_link(alloc, &mut desk, link);
-            *seat = Some(desk.into_session());
-            end
-        }
-        Err(Memory) => LinkEnd::Memory,
-    }
+    let mut desk = HubDesk::new(rt, hub, session, users, &routes);
+    let end = serve_link(alloc, &mut desk, link);
+    *seat = Some(desk.into_session());
+    end
 }
 
 /// A request, and the status and the body of the reply that it must get.

@@ -11,6 +11,7 @@ use osm_base::{Bytes, Memory};
 use osm_model::{Command, Entry};
 use osm_outside::{BadSink, Link, MemLink, NoGate, Outside};
 use osm_serve::serve_link;
+use route_table::Routes;
 use row_tally::Tally;
 use shared_front::HubName;
 use snapshot_hub::Seats;
@@ -134,7 +135,8 @@ fn serve_by<N: HubName, R: Wait + Drop, W: Wait, L: Link>(
     session: MapSession<N>,
     link: &mut L,
 ) -> Result<LinkEnd, Memory> {
-    let mut desk = HubDesk::new(alloc, rt, hub, session, users)?;
+    let routes = Routes::new(alloc)?;
+    let mut desk = HubDesk::new(rt, hub, session, users, &routes);
     Ok(serve_link(alloc, &mut desk, link))
 }
 

@@ -10,7 +10,7 @@ use Rattle.session_desk.specs.Answered.{IsFresh, IsSettled}
 use Rattle.session_desk.proofs.Lists.{prefix_self, prefix_trans, prefix_length}
 
 module _ {E : Type 0} where
-  -- what `Hub::settle` says
+  -- what `Hub::freshen` says of a session that owed
   pub settled_of : (old new : Known E) → IsPrefix old.front new.front → new ≡ caught_up old new.front old.calls → IsSettled old new
   settled_of old new longer is = record {
     begins = longer;
@@ -24,7 +24,7 @@ module _ {E : Type 0} where
   rested it owes = record { begins = prefix_self it.front; number = refl; calls = refl; debts = refl; owes = owes }
 
 module _ {S C Q P E K : Type 0} (rules : Rules S C Q P E K) where
-  -- what `Hub::freshen` says
+  -- and all that it says
   pub fresh_of : (old new : Known E) → IsPrefix old.front new.front → new ≡ caught_up old new.front old.calls → old.calls ≡ calls_of rules.tag_of old.number new.front → IsFresh rules old new
   fresh_of old new longer is calls = record { begins = longer; comes_to = is; calls = calls }
 

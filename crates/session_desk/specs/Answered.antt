@@ -16,7 +16,7 @@ pub record AtDesk (E : Type 0) : Type 0 where
   pub users : Users
   pub known : Known E
 
--- The session has seen the journal that was found under the lock, with all its calls, and owes nothing.
+-- The session owes nothing, and has seen all that it had seen before, and all its calls.
 pub record IsFresh {S C Q P E K : Type 0} (rules : Rules S C Q P E K) (old new : Known E) : Type 0 where
   pub begins : IsPrefix old.front new.front
   pub comes_to : new ≡ caught_up old new.front old.calls

@@ -24,7 +24,7 @@ fn settle_first<N: HubName, M: Machine, S: Snapshot<N, M>, G: Gate + Drop, R: Wa
     ensures err { OnErr result (session.new ≡ session.old) }
 {
     if session.owes() {
-        hub.settle(rt, session)
+        hub.freshen(rt, session)
     } else {
         Ok(())
     }

@@ -1,5 +1,5 @@
 -- What a longer journal has of a session's calls.
-use Rattle.std.proofs.Common.{ℕ, ◌+◌, ◌≤◌, List, arith}
+use Rattle.std.proofs.Common.{◌+◌, ◌≤◌, List, arith}
 use mathlib.Core.List.{IsPrefix}
 use Rattle.machine_law.specs.Rules.{Rules}
 use Rattle.hub_core.specs.Journal.{calls_of}

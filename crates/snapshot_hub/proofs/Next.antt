@@ -4,9 +4,8 @@ use Rattle.std.proofs.lemmas.List.Sums.{fold_push}
 use Rattle.std.proofs.Math.Seq.{drop-append_seam}
 use Rattle.std.proofs.lemmas.Bool.{eq-eqb}
 use mathlib.Core.List.{IsPrefix}
-use Rattle.machine_law.specs.Rules.{Rules, replay, is_legal}
+use Rattle.machine_law.specs.Rules.{Rules, replay}
 use Rattle.snapshot_hub.specs.Follow.{is_next, follow}
-use Rattle.snapshot_hub.proofs.Legal.{legal_push}
 
 module _ {E : Type 0} where
   last_alone : (xs ys before : List E) (e : E) → xs ++ ys ≡ before ++ e ∷ [] → length ys ≡ 1 → xs ≡ before
@@ -23,9 +22,6 @@ module _ {E : Type 0} where
 module _ {S C Q P E K : Type 0} (rules : Rules S C Q P E K) where
   pub next_state : (xs all : List E) (e : E) → all ≡ xs ++ e ∷ [] → replay rules all ≡ rules.after (replay rules xs) e
   next_state xs all e is = ap (replay rules) is ∙ fold_push rules.after rules.start xs e
-
-  pub next_legal : (xs all : List E) (e : E) → all ≡ xs ++ e ∷ [] → is_legal rules xs ≡ true → rules.takes (replay rules xs) e ≡ true → is_legal rules all ≡ true
-  next_legal xs all e is legal taken = ap (is_legal rules) is ∙ legal_push rules rules.start xs e legal taken
 
   alone : (s : Bool) → s && true ≡ s
   alone true = refl

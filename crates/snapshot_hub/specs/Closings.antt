@@ -2,7 +2,8 @@
 use Rattle.std.specs.Prelude.{◌≡◌, ℕ, ◌+◌, ◌≤◌, ◌==◌, List, [], ◌∷◌, if◌then◌else◌}
 use Rattle.std.proofs.Common.{zero, suc}
 use Rattle.machine_law.specs.declared.tags.Tag.{Tag}
-use Rattle.hub_core.specs.Journal.{calls_of}
+use Rattle.machine_law.specs.Rules.{Rules}
+use Rattle.hub_core.specs.Journal.{calls_of, IsJournal}
 use Rattle.snapshot_hub.specs.Ends.{Ends}
 
 -- the journal, and how the sessions ended so far
@@ -31,3 +32,8 @@ EachOnce tag_of journal = (session : ℕ) → numbers_of tag_of session journal 
 -- no entry but those of so many sessions, whose numbers begin with 0
 abbrev pub AreSeated : {E : Type 0} → (E → Tag) → ℕ → List E → Type 0
 AreSeated tag_of sessions journal = (session : ℕ) → sessions ≤ session → calls_of tag_of session journal ≡ 0
+
+-- What holds of each beginning of a hub's journal that is seen: it is a journal of the machine, with no entry but those of so many sessions.
+pub record IsFront {S C Q P E K : Type 0} (rules : Rules S C Q P E K) (sessions : ℕ) (entries : List E) : Type 0 where
+  pub kept : IsJournal rules entries
+  pub seated : AreSeated rules.tag_of sessions entries

@@ -2,11 +2,13 @@
 //!
 //! An end is never want of memory. The closer has the whole journal and takes no look at a copy,
 //! so `Unmatched` tells the length of the journal.
-ghost use Rattle.std.specs.Prelude.{◌≡◌, ◌+◌, ◌≤◌, ◌<◌, ◌++◌, ◌∷◌, [], length};
+ghost use Rattle.std.specs.Prelude.{◌≡◌, ◌+◌, ◌≤◌, ◌<◌, ◌++◌, ◌∷◌, [], length, vec_len};
+ghost use Rattle.std.specs.List.{AllByRecursion};
 ghost use mathlib.Core.List.{IsPrefix};
 ghost use Rattle.hub_core.specs.Journal.{calls_of, IsJournal};
-ghost use Rattle.snapshot_hub.specs.Known.{seeing, owed};
-ghost use Rattle.snapshot_hub.specs.Closings.{close, AreSeated, EachOnce};
+ghost use Rattle.snapshot_hub.specs.Known.{seeing, owed, IsKnown};
+ghost use Rattle.snapshot_hub.specs.Closings.{close, AreSeated, EachOnce, IsFront};
+ghost use Rattle.snapshot_hub.specs.Closed.{HasClosed, HaveEnded};
 ghost use Rattle.snapshot_hub.specs.Ends.{noting, MatchEnd};
 
 use crate::ends::{End, EndList};
@@ -14,7 +16,7 @@ use crate::held::Held;
 use crate::session::Session;
 use crate::snapshot::Snapshot;
 use machine_law::Machine;
-use shared_front::HubName;
+use shared_front::{Front, HubName};
 use std::marker::Model;
 use std::sync::Wait;
 
@@ -50,13 +52,21 @@ impl<'a, N: HubName, M: Machine, S: Snapshot<N, M>, R: Wait + Drop> Closer<'a, N
         ensures noted { self.new ≡ close self.old.journal (noting self.old.ends result) }
         ensures told { MatchEnd result ((session.new ≡ seeing session.old self.old.journal) × IsPrefix session.old.front self.old.journal)
             (λ seen journal. (session.new ≡ session.old) × (seen ≡ length session.old.front) × (journal ≡ length self.old.journal)
-            × (journal < seen)) }
+            × (journal < seen) × IsPrefix self.old.journal session.old.front) }
         ensures calls { MatchEnd result (session.old.calls ≤ calls_of M.rules.tag_of session.old.number self.old.journal + owed session.old.owes)
             (λ seen journal. Unit {0}) }
     {
         let end = match_journal(self.held, session);
         self.ends.note(end);
         end
+    }
+
+    /// The front of the journal.
+    pub fn front(&self) -> &Front<N, M::Entry>
+        ensures front { result.now ≡ self.now.journal }
+        ensures kept { IsFront M.rules N.sessions self.now.journal }
+    {
+        self.held.front()
     }
 
     /// The journal, and the ends. It takes no memory.
@@ -81,13 +91,14 @@ fn match_journal<N: HubName, M: Machine, S: Snapshot<N, M>, R: Wait + Drop>(
 ) -> End
     ensures told { MatchEnd result ((session.new ≡ seeing session.old held.now.journal) × IsPrefix session.old.front held.now.journal)
         (λ seen journal. (session.new ≡ session.old) × (seen ≡ length session.old.front) × (journal ≡ length held.now.journal)
-        × (journal < seen)) }
+        × (journal < seen) × IsPrefix held.now.journal session.old.front) }
     ensures calls { MatchEnd result (session.old.calls ≤ calls_of M.rules.tag_of session.old.number held.now.journal + owed session.old.owes)
         (λ seen journal. Unit {0}) }
 {
     session.standing.law();
     let journal = held.front();
     if !session.standing.front().begins(journal) {
+        let _begins = journal.begins(session.standing.front());
         return End::Unmatched {
             seen: session.seen(),
             journal: journal.len(),
@@ -95,4 +106,49 @@ fn match_journal<N: HubName, M: Machine, S: Snapshot<N, M>, R: Wait + Drop>(
     }
     session.standing.see(journal.again());
     End::Matched
+}
+
+// The longest front of the sessions and of this one, which all of them begin.
+fn longest<N: HubName, M: Machine, S: Snapshot<N, M>>(
+    first: &Front<N, M::Entry>,
+    sessions: &[Session<N, M, S>],
+) -> Front<N, M::Entry>
+    requires { IsFront M.rules N.sessions first.now }
+    ensures front { IsFront M.rules N.sessions result }
+    ensures first { IsPrefix first.now result }
+    ensures each { AllByRecursion (λ session. IsPrefix session.front result) sessions.now }
+    ensures known { AllByRecursion (IsKnown M.rules) sessions.now }
+{
+    let mut whole = first.again();
+    for session in sessions {
+        session.law();
+        whole = whole.longer(session.front());
+    }
+    whole
+}
+
+// Ends each session, in their order.
+fn end_each<N: HubName, M: Machine, S: Snapshot<N, M>, R: Wait + Drop>(
+    closer: &mut Closer<'_, N, M, S, R>,
+    mut sessions: Vec<Session<N, M, S>>,
+)
+    requires { length closer.old.ends.told + vec_len sessions ≤ closer.old.ends.sessions }
+    ensures { HaveEnded M.rules closer.old.journal sessions.items }
+{
+    sessions.reverse();
+    'sessions: while let Some(mut session) = sessions.pop() {
+        closer.end(&mut session);
+    }
+}
+
+// Ends each session, and finds the one list that the journal and all that they had seen begin.
+pub(crate) fn end_all<N: HubName, M: Machine, S: Snapshot<N, M>, R: Wait + Drop>(
+    closer: &mut Closer<'_, N, M, S, R>,
+    sessions: Vec<Session<N, M, S>>,
+)
+    requires { length closer.old.ends.told + vec_len sessions ≤ closer.old.ends.sessions }
+    ensures { HasClosed M.rules N.sessions sessions.items }
+{
+    let _one = longest(closer.front(), sessions.as_slice());
+    end_each(closer, sessions);
 }

@@ -1,13 +1,13 @@
 //! What lies under the hub's lock, and the steps that are made there.
 ghost use Rattle.std.specs.Prelude.{◌≡◌, ℕ, ◌⊎◌, ◌+◌, ◌≤◌, ◌<◌, ◌^◌, true, false, [], length, IfOk, OnOk, OnErr, IfSome, List, Option, IsTrue, ◌↔◌, slice_get, take, drop};
 ghost use mathlib.Core.List.{IsPrefix};
-ghost use Rattle.machine_law.specs.Rules.{replay, is_legal};
+ghost use Rattle.machine_law.specs.Rules.{replay};
 ghost use Rattle.hub_core.specs.Core.{tagged};
 ghost use Rattle.hub_core.specs.Journal.{calls_of, IsJournal, IsMadeBefore};
 ghost use Rattle.hub_core.specs.Paths.{MatchPath, IsPath, IsDone};
 ghost use Rattle.snapshot_hub.specs.Editions.{edition};
 ghost use Rattle.snapshot_hub.specs.Known.{newcomer, caught_up, owing};
-ghost use Rattle.snapshot_hub.specs.Closings.{AreSeated};
+ghost use Rattle.snapshot_hub.specs.Closings.{AreSeated, IsFront};
 ghost use Rattle.snapshot_hub.specs.Commits.{count_of, IsEntered, IsCommitted};
 
 use crate::press::Press;
@@ -111,7 +111,7 @@ impl<N: HubName, M: Machine, S: Snapshot<N, M>, R: Wait + Drop> Held<N, M, S, R>
     // The front of the journal.
     pub(crate) fn front(&self) -> &Front<N, M::Entry>
         ensures front { result.now ≡ self.now.journal }
-        ensures legal { is_legal M.rules self.now.journal ≡ true }
+        ensures kept { IsFront M.rules N.sessions self.now.journal }
     {
         self.press.front()
     }

@@ -4,16 +4,17 @@
 //! how many entries it has seen and holds none of them, so copies come from the book. They come
 //! first, so that want of memory leaves the session and what is published as they were. No more is
 //! copied than is asked for.
-ghost use Rattle.std.specs.Prelude.{◌≡◌, ℕ, ◌⊎◌, ◌+◌, ◌≤◌, ◌<◌, [], Some, false, true, length, List, IfOk, OnOk, OnErr, IfSome, slice_get, take, drop};
+ghost use Rattle.std.specs.Prelude.{◌≡◌, ℕ, ◌⊎◌, ◌+◌, ◌≤◌, ◌<◌, [], Some, None, false, true, length, vec_len, List, IfOk, OnOk, OnErr, IfSome, slice_get, take, drop};
 ghost use Rattle.std.specs.Sync.Mutex.{mutex_guard_value};
 ghost use mathlib.Core.List.{IsPrefix};
 ghost use Rattle.hub_core.specs.Journal.{calls_of, IsMadeBefore};
 ghost use Rattle.hub_core.specs.Paths.{MatchPath};
 ghost use Rattle.snapshot_hub.specs.Known.{newcomer, caught_up};
 ghost use Rattle.snapshot_hub.specs.Ends.{Ends};
+ghost use Rattle.snapshot_hub.specs.Closed.{HasClosed};
 ghost use Rattle.snapshot_hub.specs.Commits.{count_of, IsCommitted, IsOwing};
 
-use crate::closing::Closer;
+use crate::closing::{Closer, end_all};
 use crate::ends::EndList;
 use crate::held;
 use crate::held::Held;
@@ -148,8 +149,8 @@ impl<N: HubName, M: Machine, S: Snapshot<N, M>, G: Gate + Drop, R: Wait + Drop> 
         Ok(done)
     }
 
-    /// Publishes the journal that is found under the lock, and lets the session see it. The session
-    /// owes nothing then, and its front has all its calls.
+    /// Publishes the journal that is found under the lock, and lets the session see it. Clauses say what
+    /// the session knows then: it owes nothing, and its front has all its calls.
     pub fn freshen<W: Wait>(&self, rt: &W, session: &mut Session<N, M, S>) -> Result<(), Memory>
         ensures begins { IsPrefix session.old.front session.new.front }
         ensures ok { OnOk result (session.new ≡ caught_up session.old session.new.front session.old.calls) }
@@ -179,16 +180,6 @@ impl<N: HubName, M: Machine, S: Snapshot<N, M>, G: Gate + Drop, R: Wait + Drop> 
         held::part(&mut held, session, from, count)
     }
 
-    /// Publishes what a session owes. It owes nothing then, and has seen the journal.
-    pub fn settle<W: Wait>(&self, rt: &W, session: &mut Session<N, M, S>) -> Result<(), Memory>
-        ensures begins { IsPrefix session.old.front session.new.front }
-        ensures ok { OnOk result (session.new ≡ caught_up session.old session.new.front session.old.calls) }
-        ensures calls { OnOk result (session.old.calls ≡ calls_of M.rules.tag_of session.old.number session.new.front) }
-        ensures err { OnErr result (session.new ≡ session.old) }
-    {
-        self.freshen(rt, session)
-    }
-
     /// Ends the commits of the hub, once no thread shares it. It takes no memory.
     pub fn close(&mut self) -> Closer<'_, N, M, S, R>
         requires { (ends : Ends) × (self.old ≡ Some ends) }
@@ -206,5 +197,27 @@ impl<N: HubName, M: Machine, S: Snapshot<N, M>, G: Gate + Drop, R: Wait + Drop> 
             held: held.get_mut(),
             ends,
         }
+    }
+
+    /// Ends the commits of the hub, once no thread shares it, and ends these sessions of it, in their
+    /// order: each sees the whole journal, unless it has seen more. It takes no memory.
+    pub fn close_with(&mut self, sessions: Vec<Session<N, M, S>>)
+        requires { (ends : Ends) × (self.old ≡ Some ends) × (ends.told ≡ []) × (vec_len sessions ≤ ends.sessions) }
+        ensures closed { self.new ≡ None }
+        ensures ended { HasClosed M.rules N.sessions sessions.items }
+    {
+        let Hub {
+            held,
+            gate: _,
+            ends,
+        } = self;
+        let Some(left) = ends.take() else {
+            unreachable!()
+        };
+        let mut closer = Closer {
+            held: held.get_mut(),
+            ends: left,
+        };
+        end_all(&mut closer, sessions);
     }
 }

@@ -1,7 +1,7 @@
 //! Where entries are added to the journal, and published.
-ghost use Rattle.std.specs.Prelude.{◌≡◌, ◌++◌, [], ◌<◌, ◌^◌, true, None, IfOk, OnOk, MatchResult};
+ghost use Rattle.std.specs.Prelude.{◌≡◌, ◌++◌, [], ◌<◌, ◌^◌, None, IfOk, OnOk, MatchResult};
 ghost use Rattle.left_right.specs.Handles.{published, pending};
-ghost use Rattle.machine_law.specs.Rules.{is_legal};
+ghost use Rattle.snapshot_hub.specs.Closings.{IsFront};
 ghost use Rattle.snapshot_hub.specs.Editions.{edition, listed};
 
 use crate::snapshot::Snapshot;
@@ -31,8 +31,8 @@ pub struct Press<N: HubName, M: Machine, S: Snapshot<N, M>, R: Wait + Drop> {
 
 impl<N: HubName, M: Machine, S: Snapshot<N, M>, R: Wait + Drop> Model for Press<N, M, S, R> {
     ghost use Rattle.left_right.specs.Handles.{published, pending};
-    ghost use Rattle.std.specs.Prelude.{◌≡◌, ◌++◌, true, fold};
-    ghost use Rattle.machine_law.specs.Rules.{is_legal};
+    ghost use Rattle.std.specs.Prelude.{◌≡◌, ◌++◌, fold};
+    ghost use Rattle.snapshot_hub.specs.Closings.{IsFront};
     ghost use Rattle.snapshot_hub.specs.Follow.{follow};
     ghost use Rattle.snapshot_hub.specs.Editions.{Edition, edition, listed};
 
@@ -40,7 +40,7 @@ impl<N: HubName, M: Machine, S: Snapshot<N, M>, R: Wait + Drop> Model for Press<
 
     ghost view = { λ p. edition p.front (S.entries (published p.writer)) };
 
-    ghost invariant = { λ p. (is_legal M.rules p.front ≡ true)
+    ghost invariant = { λ p. IsFront M.rules N.sessions p.front
         × (fold (follow M.rules) (S.entries (published p.writer)) (pending p.writer ++ listed p.waiting) ≡ p.front) };
 }
 
@@ -76,7 +76,7 @@ impl<N: HubName, M: Machine, S: Snapshot<N, M>, R: Wait + Drop> Press<N, M, S, R
     /// The front of the whole journal.
     pub fn front(&self) -> &Front<N, M::Entry>
         ensures front { result.now ≡ self.now.journal }
-        ensures legal { is_legal M.rules self.now.journal ≡ true }
+        ensures kept { IsFront M.rules N.sessions self.now.journal }
     {
         &self.front
     }
@@ -94,14 +94,17 @@ impl<N: HubName, M: Machine, S: Snapshot<N, M>, R: Wait + Drop> Press<N, M, S, R
 
 impl<N: HubName, M: Machine, S: Snapshot<N, M>, R: Wait + Drop> Outlet<M::Entry>
     for Press<N, M, S, R> {
-    ghost use Rattle.std.specs.Prelude.{◌≡◌, ◌++◌, ◌∷◌, [], true, Some, refl};
+    ghost use Rattle.std.specs.Prelude.{◌≡◌, ◌+◌, ◌<◌, ◌++◌, ◌∷◌, [], true, Some, refl};
+    ghost use Rattle.hub_core.specs.Journal.{calls_of};
     ghost use Rattle.std.proofs.Common.{ap};
     ghost use Rattle.machine_law.specs.Rules.{replay};
     ghost use Rattle.snapshot_hub.specs.Editions.{edition};
 
     ghost holds = { λ press. Some press.journal };
 
-    ghost welcomes = { λ press entry. M.rules.takes (replay M.rules press.journal) entry ≡ true };
+    ghost welcomes = { λ press entry. (M.rules.takes (replay M.rules press.journal) entry ≡ true)
+        × ((M.rules.tag_of entry).call ≡ calls_of M.rules.tag_of (M.rules.tag_of entry).session press.journal + 1)
+        × ((M.rules.tag_of entry).session < N.sessions) };
 
     ghost offered = { λ before entry after. after ≡ edition (before.journal ++ entry ∷ []) before.published };
 

@@ -7,6 +7,7 @@ ghost use Rattle.std.specs.Prelude.{◌≡◌, ◌<◌, ◌+◌, ◌≤◌, [], 
 ghost use mathlib.Core.List.{IsPrefix};
 ghost use Rattle.machine_law.specs.Rules.{replay};
 ghost use Rattle.snapshot_hub.specs.Known.{newcomer, seeing, IsKnown};
+ghost use Rattle.snapshot_hub.specs.Closings.{IsFront};
 
 use crate::snapshot::Snapshot;
 use crate::standing::Standing;
@@ -83,6 +84,13 @@ impl<N: HubName, M: Machine, S: Snapshot<N, M>> Session<N, M, S> {
         self.standing.front().len()
     }
 
+    /// The beginning of the journal that it has seen.
+    pub fn front(&self) -> &Front<N, M::Entry>
+        ensures { result.now ≡ self.now.front }
+    {
+        self.standing.front()
+    }
+
     /// How many call numbers it has used.
     pub fn calls(&self) -> u64
         ensures { result ≡ self.now.calls }
@@ -117,6 +125,7 @@ impl<N: HubName, M: Machine, S: Snapshot<N, M>> Session<N, M, S> {
     pub fn law(&self)
         ensures known { IsKnown M.rules self.now }
         ensures seat { self.now.number < N.sessions }
+        ensures front { IsFront M.rules N.sessions self.now.front }
         ensures consistent { (point : List M.Entry) → IsPrefix point self.now.front → M.rules.consistent (replay M.rules point) }
     {
         self.standing.law();

@@ -22,14 +22,15 @@ pub struct Shown<N: HubName, M: Machine> {
 }
 
 impl<N: HubName, M: Machine> Model for Shown<N, M> {
-    ghost use Rattle.std.specs.Prelude.{◌≡◌, true, List};
-    ghost use Rattle.machine_law.specs.Rules.{replay, is_legal};
+    ghost use Rattle.std.specs.Prelude.{◌≡◌, List};
+    ghost use Rattle.machine_law.specs.Rules.{replay};
+    ghost use Rattle.snapshot_hub.specs.Closings.{IsFront};
 
     ghost Value = { List M.Entry };
 
     ghost view = { λ s. s.front };
 
-    ghost invariant = { λ s. (M.state s.world ≡ replay M.rules s.front) × (is_legal M.rules s.front ≡ true) };
+    ghost invariant = { λ s. (M.state s.world ≡ replay M.rules s.front) × IsFront M.rules N.sessions s.front };
 }
 
 /// A copy takes the step that is the next one, if its entry may come next there, and no other. The

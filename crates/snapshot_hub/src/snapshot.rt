@@ -1,6 +1,7 @@
 //! What a published copy is.
-ghost use Rattle.std.specs.Prelude.{◌≡◌, [], true, List, fold};
-ghost use Rattle.machine_law.specs.Rules.{replay, is_legal};
+ghost use Rattle.std.specs.Prelude.{◌≡◌, [], List, fold};
+ghost use Rattle.machine_law.specs.Rules.{replay};
+ghost use Rattle.snapshot_hub.specs.Closings.{IsFront};
 ghost use Rattle.snapshot_hub.specs.Follow.{follow};
 
 use crate::step::Step;
@@ -25,7 +26,7 @@ pub trait Snapshot<N: HubName, M: Machine>: Absorb<Step<N, M>> + Drop {
     /// The front.
     fn front(&self) -> &Front<N, M::Entry>
         ensures front { result.now ≡ entries self.now }
-        ensures legal { is_legal M.rules (entries self.now) ≡ true };
+        ensures kept { IsFront M.rules N.sessions (entries self.now) };
 
     /// The world after the front.
     fn world(&self) -> &M::World

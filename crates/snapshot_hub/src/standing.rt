@@ -4,9 +4,9 @@
 //! says by one equation what it made of it: what it doesn't name stays.
 ghost use Rattle.std.specs.Prelude.{◌≡◌, ◌⊎◌, ◌+◌, ◌<◌, ◌^◌, [], true, false, length};
 ghost use mathlib.Core.List.{IsPrefix};
-ghost use Rattle.machine_law.specs.Rules.{is_legal};
 ghost use Rattle.hub_core.specs.Journal.{calls_of};
 ghost use Rattle.snapshot_hub.specs.Known.{newcomer, seeing, caught_up, owing, IsKnown};
+ghost use Rattle.snapshot_hub.specs.Closings.{IsFront};
 
 use machine_law::Machine;
 use shared_front::{Front, HubName};
@@ -26,12 +26,14 @@ pub struct Standing<N: HubName, M: Machine> {
 impl<N: HubName, M: Machine> Model for Standing<N, M> {
     ghost use Rattle.std.specs.Prelude.{◌<◌};
     ghost use Rattle.snapshot_hub.specs.Known.{Known, known, IsKnown};
+    ghost use Rattle.snapshot_hub.specs.Closings.{IsFront};
 
     ghost Value = { Known M.Entry };
 
     ghost view = { λ s. known s.number s.front s.calls s.owes s.debts s.anchor };
 
-    ghost invariant = { λ s. IsKnown M.rules (known s.number s.front s.calls s.owes s.debts s.anchor) × (s.number < N.sessions) };
+    ghost invariant = { λ s. IsKnown M.rules (known s.number s.front s.calls s.owes s.debts s.anchor) × (s.number < N.sessions)
+        × IsFront M.rules N.sessions s.front };
 }
 
 impl<N: HubName, M: Machine> Standing<N, M> {
@@ -85,6 +87,7 @@ impl<N: HubName, M: Machine> Standing<N, M> {
     pub fn law(&self)
         ensures known { IsKnown M.rules self.now }
         ensures seat { self.now.number < N.sessions }
+        ensures front { IsFront M.rules N.sessions self.now.front }
     {
         let _number = self.number;
     }
@@ -92,7 +95,7 @@ impl<N: HubName, M: Machine> Standing<N, M> {
     /// Lets it see a longer front.
     pub fn see(&mut self, front: Front<N, M::Entry>)
         requires longer { IsPrefix self.old.front front }
-        requires legal { is_legal M.rules front ≡ true }
+        requires kept { IsFront M.rules N.sessions front }
         ensures { self.new ≡ seeing self.old front }
     {
         self.front = front;
@@ -100,7 +103,7 @@ impl<N: HubName, M: Machine> Standing<N, M> {
 
     /// Lets it go on from a front that has all its calls. It owes nothing then.
     pub fn catch_up(&mut self, front: Front<N, M::Entry>, calls: u64)
-        requires legal { is_legal M.rules front ≡ true }
+        requires kept { IsFront M.rules N.sessions front }
         requires calls { calls ≡ calls_of M.rules.tag_of self.old.number front }
         ensures { self.new ≡ caught_up self.old front calls }
     {

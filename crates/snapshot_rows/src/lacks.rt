@@ -67,13 +67,13 @@ pub fn a_lack_in_publishing_is_a_debt<N: HubName, R: Wait, L: Ledger>(
     right &= add(rt, &hub, first, 5, Lack::MakeRoom, steps).is_err();
     right &= standing_of(&hub, first) == owing(0, 1, 1);
     right &= reads(&hub, second, 0, None, steps)?;
-    hub.settle(rt, first)?;
+    hub.freshen(rt, first)?;
     right &= standing_of(&hub, first) == settled(1, 1, 1);
     right &= reads(&hub, second, 0, Some(5), steps)?;
     // the other copy refuses once more, and the entry after it waits with it
     right &= add(rt, &hub, first, 6, Lack::Nothing, steps).is_err();
     right &= standing_of(&hub, first) == owing(1, 2, 2);
-    hub.settle(rt, first)?;
+    hub.freshen(rt, first)?;
     right &= standing_of(&hub, first) == settled(2, 2, 2);
     right &= add(rt, &hub, first, 8, Lack::Nothing, steps)? == Given::Added { place: 2 };
     right &= reads(&hub, second, 1, Some(6), steps)? && reads(&hub, second, 2, Some(8), steps)?;

@@ -80,7 +80,7 @@ pub fn a_new_hub_is_settled<N: HubName, R: Wait>(
     let (hub, mut sessions) = ListHub::<N, &R>::new(alloc, rt, seats, NoGate)?;
     let mut right = sessions.len() == 2;
     for (number, session) in sessions.iter_mut().enumerate() {
-        hub.settle(rt, session)?;
+        hub.freshen(rt, session)?;
         right &= session.number() as usize == number;
         right &= standing_of(&hub, session) == at(0, 0);
     }

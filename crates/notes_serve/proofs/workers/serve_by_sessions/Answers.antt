@@ -3,7 +3,7 @@ use Rattle.std.proofs.lemmas.Result.{IfOk-weaker}
 use Rattle.notes_core.specs.Machine.{note_rules}
 use Rattle.notes_core.specs.declared.commands.NoteEntry.{NoteEntry}
 use Rattle.snapshot_hub.specs.Known.{Known}
-use Rattle.desk_serve.specs.Ports.{HasClosed}
+use Rattle.snapshot_hub.specs.Closed.{HasClosed}
 use Rattle.notes_serve.proofs.workers.serve_by_sessions.Goals as goal
 
 pub returns-clause-served : goal.returns-clause-served

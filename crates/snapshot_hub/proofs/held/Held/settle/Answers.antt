@@ -58,3 +58,10 @@ returns-clause-grows g c =
     let entry : IsEntered rules.tag_of tag journal c.commit.new.outlet.journal place =
     rw (← ap (λ e. e.journal) c.self.view_is) (entered rules.tag_of tag book c.commit.new.self c.self.inside.press c.commit.new.outlet place (rules.act (replay rules book) tag c.args.moment made.1).entry acts.placed c.self.invariant.0 c.in_ok-done.ensures.offers) in
     entered_grows rules.tag_of tag journal c.commit.new.outlet.journal place entry
+
+pub commit-requires-clause-welcome : goal.commit-requires-clause-welcome
+commit-requires-clause-welcome g c entry taken tagged = (
+  rw (← c.self.invariant.0) taken,
+  rw (tagged, ap (λ e. e.journal) c.self.view_is) c.requires.next,
+  rw tagged c.requires.seat,
+)

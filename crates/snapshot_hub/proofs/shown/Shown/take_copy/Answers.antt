@@ -1,6 +1,6 @@
 use Rattle.std.proofs.Common.{◌≡◌, ◌++◌, ◌∷◌, [], true, sym, ap, ◌∙◌}
 use Rattle.machine_law.specs.Rules.{replay}
-use Rattle.snapshot_hub.proofs.Next.{next_state, next_legal}
+use Rattle.snapshot_hub.proofs.Next.{next_state}
 use Rattle.snapshot_hub.proofs.shown.Shown.take_copy.Goals as goal
 
 pub invariant_of-self-2 : goal.invariant_of-self-2
@@ -13,5 +13,5 @@ invariant_of-self-2 g c =
     let taken : rules.takes (replay rules front) entry ≡ true = ap (λ s. rules.takes s entry) (sym c.self.invariant.0 ∙ sym c.make_ready.ensures.same) ∙ ready.1 in
     rw (c.again.ensures) (
       rw (c.apply.ensures, c.make_ready.ensures.same, c.in_ok-entry.ensures, c.self.invariant.0) (sym (next_state rules front c.step.inside.front entry next)),
-      next_legal rules front c.step.inside.front entry next c.self.invariant.1 taken,
+      c.step.invariant.1,
     )

@@ -1,6 +1,6 @@
 use Rattle.std.proofs.Common.{◌≡◌, ◌∷◌, [], ◌++◌, ap, ◌∙◌, length, arith, rules, length-append}
-use Rattle.desk_serve.proofs.Closing.{ended_in, end_step, all_ended}
-use Rattle.desk_serve.proofs.close.end_each.Goals as goal
+use Rattle.snapshot_hub.proofs.Ended.{ended_in, end_step, all_ended}
+use Rattle.snapshot_hub.proofs.closing.end_each.Goals as goal
 
 pub sessions-preserved : goal.sessions-preserved
 sessions-preserved g c =
@@ -17,7 +17,7 @@ sessions-preserved g c =
       end_step machine journal c.args.sessions.items c.sessions.sessions.items c.pop.new.self.items c.in-Some.session c.end.new.session c.end.result c.in-Some.ensures.items before.2 ends,
     )
 
-pub returns-clause-each : goal.returns-clause-each
-returns-clause-each g c =
+pub returns : goal.returns
+returns g c =
     let empty : c.sessions.sessions.items ≡ [] = search rules in
     all_ended g.M.Machine.rules c.args.closer.now.journal c.args.sessions.items c.sessions.sessions.items empty c.sessions.invariant.2

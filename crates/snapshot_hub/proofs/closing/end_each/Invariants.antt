@@ -1,6 +1,6 @@
 use Rattle.std.proofs.Common.{◌≡◌, ◌+◌, ◌≤◌, length, vec_len}
-use Rattle.desk_serve.proofs.Closing.{MakesUp}
-use Rattle.desk_serve.proofs.close.end_each.Given as goal
+use Rattle.snapshot_hub.proofs.Ended.{MakesUp}
+use Rattle.snapshot_hub.proofs.closing.end_each.Given as goal
 
 -- what the sessions that are left come to makes up what all of them come to
 abbrev pub invariant-sessions : goal.invariant-sessions
