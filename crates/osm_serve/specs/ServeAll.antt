@@ -16,8 +16,8 @@ use Rattle.snapshot_hub.specs.Ends.{MatchEnd}
 use Rattle.snapshot_hub.specs.declared.ends.End.{End}
 use Rattle.api_desk.specs.HubDesk.{AtDesk, HasServed}
 use Rattle.server_frame.specs.OnLink.{OnLink}
-use Rattle.server_frame.specs.declared.listening.Outcome.{Outcome}
-use Rattle.server_frame.specs.declared.listening.Outcome.TheVariants.{Served, Failed, LacksMemory}
+use Rattle.link_workers.specs.declared.outcome.Outcome.{Outcome}
+use Rattle.link_workers.specs.declared.outcome.Outcome.TheVariants.{Served, Failed, LacksMemory}
 use Rattle.osm_serve.specs.Serve.{IsSound, ServesLink, HasEnded}
 
 abbrev pub at_desk : Users → Known Entry → AtDesk
