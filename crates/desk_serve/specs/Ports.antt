@@ -15,8 +15,8 @@ use Rattle.session_desk.specs.Answered.{RowOf, HasServed}
 use Rattle.desk_serve.specs.Desks.{at_desk}
 use Rattle.server_frame.specs.OnLink.{OnLink}
 use Rattle.desk_serve.specs.Link.{IsListOf, HasItsCalls, ServesLink}
-use Rattle.server_frame.specs.declared.listening.Outcome.{Outcome}
-use Rattle.server_frame.specs.declared.listening.Outcome.TheVariants.{Served, Failed, LacksMemory}
+use Rattle.link_workers.specs.declared.outcome.Outcome.{Outcome}
+use Rattle.link_workers.specs.declared.outcome.Outcome.TheVariants.{Served, Failed, LacksMemory}
 
 -- What a worker was given, and what it gave back: the number of its new session and what that knew behind its last link, its port as
 -- it was handed out and as it came back, and whether accepting failed.

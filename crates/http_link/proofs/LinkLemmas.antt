@@ -45,12 +45,6 @@ bytes_of-end (t ∷ turns) ending =
 pub exchanges_of-push : (turns : List Turn) (turn : Turn) → exchanges_of (turns ++ turn ∷ []) ≡ exchanges_of turns ++ turn.exchange ∷ []
 exchanges_of-push turns turn = map-append (λ t. t.exchange) turns (turn ∷ [])
 
-AreRead-push : (kept left next : List ℕ) (turns : List Turn) (turn : Turn) → AreRead kept turns left → ReadsTurn left turn next
-    → AreRead kept (turns ++ turn ∷ []) next
-AreRead-push kept left next [] turn same r = (next, subst (λ (l : List ℕ). ReadsTurn l turn next) same r, refl)
-AreRead-push kept left next (t ∷ turns) turn (behind, first, more) r =
-    (behind, first, AreRead-push behind left next turns turn more r)
-
 pub AreWritten-push : (count : ℕ) (turns : List Turn) (turn : Turn) → AreWritten count turns
     → concat turn.writes ≡ text_of (count + length turns) turn.exchange → AreWritten count (turns ++ turn ∷ [])
 AreWritten-push count [] turn before whole =
@@ -85,53 +79,61 @@ fixed-push : (a read : Option ℕ) (exchanges : List Exchange) (e : Exchange) �
 fixed-push None read exchanges e same before now = tt
 fixed-push (Some at) read exchanges e same before now = All_at-push at exchanges e before (rw same at now)
 
--- ---- a message was answered
+-- `body_limit` is the most bytes that a body may have.
+module _ (body_limit : ℕ) where
+  AreRead-push : (kept left next : List ℕ) (turns : List Turn) (turn : Turn) → AreRead body_limit kept turns left → ReadsTurn body_limit left turn next
+      → AreRead body_limit kept (turns ++ turn ∷ []) next
+  AreRead-push kept left next [] turn same r = (next, subst (λ (l : List ℕ). ReadsTurn body_limit l turn next) same r, refl)
+  AreRead-push kept left next (t ∷ turns) turn (behind, first, more) r =
+      (behind, first, AreRead-push behind left next turns turn more r)
 
-pub Served-step : {D : Type 0} (allows : D → Message → ℕ → Reply → D → Type 0) (start old new : D) (a b c : Told)
-    (kept left : List ℕ) (count : ℕ) (result : Result (Unit {0}) Failed) (turns : List Turn)
-    → Served allows start old a b kept turns no_ending → (s : Step allows old new b c kept left count result)
-    → Served allows start new a c left (turns ++ s.turn ∷ []) no_ending
-Served-step allows start old new a b c kept left count result turns before s =
-    let exchanges = exchanges_of turns in
-    record {
-      trace =
-          s.trace ∙ ap (λ l. l ++ events_of_turn s.turn) before.trace
-          ∙ append_assoc a.trace (events_of turns no_ending) (events_of_turn s.turn)
-          ∙ ap (λ l. a.trace ++ l) (sym (events_of-push turns s.turn));
-      read = AreRead-push [] kept left turns s.turn before.read s.reads;
-      input = rw (bytes_of-push turns s.turn)
-          (Consumes-trans a.left b.left c.left (bytes_of turns no_ending) (concat s.turn.reads) before.input s.input);
-      answered = rw (exchanges_of-push turns s.turn)
-          (Chain-push allows start old new exchanges s.turn.exchange before.answered s.allowed);
-      fixed = rw (exchanges_of-push turns s.turn)
-          (fixed-push a.fixed b.fixed exchanges s.turn.exchange before.stays before.fixed s.fixed);
-      stays = s.stays ∙ before.stays;
-      read_faults = omega (arith, before.read_faults, s.read_faults);
-      write_faults = omega (arith, before.write_faults, s.write_faults);
-    }
+  -- ---- a message was answered
 
--- ---- an end came, and its reply was written, whole or in part
+  pub Served-step : {D : Type 0} (allows : D → Message → ℕ → Reply → D → Type 0) (start old new : D) (a b c : Told)
+      (kept left : List ℕ) (count : ℕ) (result : Result (Unit {0}) Failed) (turns : List Turn)
+      → Served body_limit allows start old a b kept turns no_ending → (s : Step body_limit allows old new b c kept left count result)
+      → Served body_limit allows start new a c left (turns ++ s.turn ∷ []) no_ending
+  Served-step allows start old new a b c kept left count result turns before s =
+      let exchanges = exchanges_of turns in
+      record {
+        trace =
+            s.trace ∙ ap (λ l. l ++ events_of_turn s.turn) before.trace
+            ∙ append_assoc a.trace (events_of turns no_ending) (events_of_turn s.turn)
+            ∙ ap (λ l. a.trace ++ l) (sym (events_of-push turns s.turn));
+        read = AreRead-push [] kept left turns s.turn before.read s.reads;
+        input = rw (bytes_of-push turns s.turn)
+            (Consumes-trans a.left b.left c.left (bytes_of turns no_ending) (concat s.turn.reads) before.input s.input);
+        answered = rw (exchanges_of-push turns s.turn)
+            (Chain-push allows start old new exchanges s.turn.exchange before.answered s.allowed);
+        fixed = rw (exchanges_of-push turns s.turn)
+            (fixed-push a.fixed b.fixed exchanges s.turn.exchange before.stays before.fixed s.fixed);
+        stays = s.stays ∙ before.stays;
+        read_faults = omega (arith, before.read_faults, s.read_faults);
+        write_faults = omega (arith, before.write_faults, s.write_faults);
+      }
 
-pub Served-stop : {D : Type 0} (allows : D → Message → ℕ → Reply → D → Type 0) (start old new : D) (a b read c : Told)
-    (kept : List ℕ) (why : WireEnd) (turns : List Turn) (writes : List (List ℕ))
-    → Served allows start old a b kept turns no_ending → (s : Stop old new b read kept why) → Written read c writes
-    → Served allows start new a c kept turns (record { reads = s.pieces; writes = writes })
-Served-stop allows start old new a b read c kept why turns writes before s sent =
-    let quiet = s.taken.others in
-    let ending : Ending = record { reads = s.pieces; writes = writes } in
-    let input = rw (← sent.others.left) at s.taken.input in
-    record {
-      trace =
-          sent.trace ∙ ap (λ l. l ++ map Took writes) (s.taken.trace ∙ ap (λ l. l ++ map Gave s.pieces) before.trace)
-          ∙ append_assoc (a.trace ++ events_of turns no_ending) (map Gave s.pieces) (map Took writes)
-          ∙ append_assoc a.trace (events_of turns no_ending) (map Gave s.pieces ++ map Took writes)
-          ∙ ap (λ l. a.trace ++ l) (sym (events_of-end turns ending));
-      read = before.read;
-      input = rw (bytes_of-end turns ending)
-          (Consumes-trans a.left b.left c.left (bytes_of turns no_ending) (concat s.pieces) before.input input);
-      answered = rw s.unasked before.answered;
-      fixed = before.fixed;
-      stays = sent.others.fixed ∙ quiet.fixed ∙ before.stays;
-      read_faults = omega (arith, before.read_faults, quiet.read_faults, sent.others.read_faults);
-      write_faults = omega (arith, before.write_faults, quiet.write_faults, sent.others.write_faults);
-    }
+  -- ---- an end came, and its reply was written, whole or in part
+
+  pub Served-stop : {D : Type 0} (allows : D → Message → ℕ → Reply → D → Type 0) (start old new : D) (a b read c : Told)
+      (kept : List ℕ) (why : WireEnd) (turns : List Turn) (writes : List (List ℕ))
+      → Served body_limit allows start old a b kept turns no_ending → (s : Stop body_limit old new b read kept why) → Written read c writes
+      → Served body_limit allows start new a c kept turns (record { reads = s.pieces; writes = writes })
+  Served-stop allows start old new a b read c kept why turns writes before s sent =
+      let quiet = s.taken.others in
+      let ending : Ending = record { reads = s.pieces; writes = writes } in
+      let input = rw (← sent.others.left) at s.taken.input in
+      record {
+        trace =
+            sent.trace ∙ ap (λ l. l ++ map Took writes) (s.taken.trace ∙ ap (λ l. l ++ map Gave s.pieces) before.trace)
+            ∙ append_assoc (a.trace ++ events_of turns no_ending) (map Gave s.pieces) (map Took writes)
+            ∙ append_assoc a.trace (events_of turns no_ending) (map Gave s.pieces ++ map Took writes)
+            ∙ ap (λ l. a.trace ++ l) (sym (events_of-end turns ending));
+        read = before.read;
+        input = rw (bytes_of-end turns ending)
+            (Consumes-trans a.left b.left c.left (bytes_of turns no_ending) (concat s.pieces) before.input input);
+        answered = rw s.unasked before.answered;
+        fixed = before.fixed;
+        stays = sent.others.fixed ∙ quiet.fixed ∙ before.stays;
+        read_faults = omega (arith, before.read_faults, quiet.read_faults, sent.others.read_faults);
+        write_faults = omega (arith, before.write_faults, quiet.write_faults, sent.others.write_faults);
+      }

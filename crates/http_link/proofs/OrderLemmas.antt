@@ -6,7 +6,7 @@ use Rattle.std.proofs.lemmas.List.{length-map}
 use Rattle.osm_base.specs.declared.limits.TheConstants.{HEAD_LIMIT, REQUEST_LIMIT}
 use Rattle.osm_outside.specs.Event.{Event, Gave, Took, Answered, given, taken}
 use Rattle.osm_outside.specs.Told.{Told}
-use Rattle.http_wire.specs.Message.{BeginsWith, HasMessages}
+use Rattle.http_wire.specs.Message.{BeginsWithin, HasMessages}
 use Rattle.http_wire.specs.End.{IsUnfinished}
 use Rattle.http_wire.specs.Wire.{AreNeeded}
 use Rattle.http_link.specs.declared.end.LinkEnd.{LinkEnd}
@@ -186,295 +186,297 @@ AreWritten-front : (count : ℕ) (front : List Turn) (last : Turn) → AreWritte
 AreWritten-front count [] last whole = tt
 AreWritten-front count (turn ∷ front) last whole = (whole.0, AreWritten-front (count + 1) front last whole.1)
 
--- what the end tells of the turns
-record InOrder (turns : List Turn) (left : List ℕ) (ending : Ending) : Type 0 where
-  pub follows : Follows 0 turns ending
-  pub needed : AreNeeded left ending.reads
+-- `body_limit` is the most bytes that a body may have.
+module _ (body_limit : ℕ) where
+  -- what the end tells of the turns
+  record InOrder (turns : List Turn) (left : List ℕ) (ending : Ending) : Type 0 where
+    pub follows : Follows 0 turns ending
+    pub needed : AreNeeded body_limit left ending.reads
 
-going : (turns : List Turn) (left : List ℕ) (ending : Ending) → GoesOn (exchanges_of turns) → AreWritten 0 turns
-    → AreNeeded left ending.reads → InOrder turns left ending
-going turns left ending on whole needed = record {
-  follows = follows_all 0 turns ending on.0 (omega (arith, on.1, length-map turns (λ t. t.exchange))) whole;
-  needed = needed;
-}
+  going : (turns : List Turn) (left : List ℕ) (ending : Ending) → GoesOn (exchanges_of turns) → AreWritten 0 turns
+      → AreNeeded body_limit left ending.reads → InOrder turns left ending
+  going turns left ending on whole needed = record {
+    follows = follows_all 0 turns ending on.0 (omega (arith, on.1, length-map turns (λ t. t.exchange))) whole;
+    needed = needed;
+  }
 
-lasting : (turns : List Turn) (left : List ℕ) (ending : Ending) (front : List Turn) (last : Turn) → turns ≡ front ++ last ∷ []
-    → ending ≡ no_ending → GoesOn (exchanges_of front) → AreWritten 0 front → InOrder turns left ending
-lasting turns left ending front last same none on whole = record {
-  follows = rw (same, none) (follows_last 0 front last on.0 (omega (arith, on.1, length-map front (λ t. t.exchange))) whole);
-  needed = rw none tt;
-}
+  lasting : (turns : List Turn) (left : List ℕ) (ending : Ending) (front : List Turn) (last : Turn) → turns ≡ front ++ last ∷ []
+      → ending ≡ no_ending → GoesOn (exchanges_of front) → AreWritten 0 front → InOrder turns left ending
+  lasting turns left ending front last same none on whole = record {
+    follows = rw (same, none) (follows_last 0 front last on.0 (omega (arith, on.1, length-map front (λ t. t.exchange))) whole);
+    needed = rw none tt;
+  }
 
-in_order : (before after : Told) (turns : List Turn) (left : List ℕ) (ending : Ending) (end : LinkEnd)
-    → LinkEnds before after turns left ending end → InOrder turns left ending
-in_order before after turns left ending ends.Ended f = going turns left ending f.going_on f.replies f.reads.needed
-in_order before after turns left ending ends.Closed f =
-    lasting turns left ending f.front f.last f.turns_are f.nothing_else f.going_on
-    (AreWritten-front 0 f.front f.last (rw f.turns_are at f.replies))
-in_order before after turns left ending ends.Budget f = record {
-  follows = rw f.nothing_else (follows_full 0 turns f.none (omega (arith, f.full)) f.replies);
-  needed = rw f.nothing_else tt;
-}
-in_order before after turns left ending (ends.Refused why) f = going turns left ending f.1.going_on f.1.replies f.1.reads.needed
-in_order before after turns left ending ends.ReadFault f = going turns left ending f.0.going_on f.0.replies f.0.reads.needed
-in_order before after turns left ending ends.WriteFault (inl f, rose) =
-    lasting turns left ending f.front f.last f.turns_are f.nothing_else f.going_on f.replies
-in_order before after turns left ending ends.WriteFault (inr f, rose) = going turns left ending f.going_on f.replies f.reads.needed
-in_order before after turns left ending ends.Memory (inl f) = record {
-  follows = rw f.no_turn tt;
-  needed = rw f.nothing_else tt;
-}
-in_order before after turns left ending ends.Memory (inr f) = going turns left ending f.going_on f.replies f.reads.needed
+  in_order : (before after : Told) (turns : List Turn) (left : List ℕ) (ending : Ending) (end : LinkEnd)
+      → LinkEnds body_limit before after turns left ending end → InOrder turns left ending
+  in_order before after turns left ending ends.Ended f = going turns left ending f.going_on f.replies f.reads.needed
+  in_order before after turns left ending ends.Closed f =
+      lasting turns left ending f.front f.last f.turns_are f.nothing_else f.going_on
+      (AreWritten-front 0 f.front f.last (rw f.turns_are at f.replies))
+  in_order before after turns left ending ends.Budget f = record {
+    follows = rw f.nothing_else (follows_full 0 turns f.none (omega (arith, f.full)) f.replies);
+    needed = rw f.nothing_else tt;
+  }
+  in_order before after turns left ending (ends.Refused why) f = going turns left ending f.1.going_on f.1.replies f.1.reads.needed
+  in_order before after turns left ending ends.ReadFault f = going turns left ending f.0.going_on f.0.replies f.0.reads.needed
+  in_order before after turns left ending ends.WriteFault (inl f, rose) =
+      lasting turns left ending f.front f.last f.turns_are f.nothing_else f.going_on f.replies
+  in_order before after turns left ending ends.WriteFault (inr f, rose) = going turns left ending f.going_on f.replies f.reads.needed
+  in_order before after turns left ending ends.Memory (inl f) = record {
+    follows = rw f.no_turn tt;
+    needed = rw f.nothing_else tt;
+  }
+  in_order before after turns left ending ends.Memory (inr f) = going turns left ending f.going_on f.replies f.reads.needed
 
--- ---- before a read
+  -- ---- before a read
 
-unfinished_at : (kept : List ℕ) (pre : List (List ℕ)) (piece : List ℕ) (post : List (List ℕ)) → AreNeeded kept (pre ++ (piece ∷ post))
-    → IsUnfinished (kept ++ concat pre)
-unfinished_at kept [] piece post needed = rw (append-nil kept) needed.0
-unfinished_at kept (p ∷ pre) piece post needed =
-    rw (← append_assoc kept p (concat pre)) (unfinished_at (kept ++ p) pre piece post needed.1)
+  unfinished_at : (kept : List ℕ) (pre : List (List ℕ)) (piece : List ℕ) (post : List (List ℕ)) → AreNeeded body_limit kept (pre ++ (piece ∷ post))
+      → IsUnfinished body_limit (kept ++ concat pre)
+  unfinished_at kept [] piece post needed = rw (append-nil kept) needed.0
+  unfinished_at kept (p ∷ pre) piece post needed =
+      rw (← append_assoc kept p (concat pre)) (unfinished_at (kept ++ p) pre piece post needed.1)
 
--- the same behind some exchanges, with some bytes kept
-record Answers (kept : List ℕ) (count : ℕ) (exchanges : List Exchange) (events : List Event) : Type 0 where
-  pub done : List Exchange
-  pub later : List Exchange
-  pub exchanges_are : exchanges ≡ done ++ later
-  pub none : NoneCloses done
-  pub room : count + length done < REQUEST_LIMIT
-  pub left : List ℕ
-  pub messages : HasMessages (kept ++ given events) (messages_of done) left
-  pub unfinished : IsUnfinished left
-  pub replies : taken events ≡ texts_from count done
+  -- the same behind some exchanges, with some bytes kept
+  record Answers (kept : List ℕ) (count : ℕ) (exchanges : List Exchange) (events : List Event) : Type 0 where
+    pub done : List Exchange
+    pub later : List Exchange
+    pub exchanges_are : exchanges ≡ done ++ later
+    pub none : NoneCloses done
+    pub room : count + length done < REQUEST_LIMIT
+    pub left : List ℕ
+    pub messages : HasMessages body_limit (kept ++ given events) (messages_of done) left
+    pub unfinished : IsUnfinished body_limit left
+    pub replies : taken events ≡ texts_from count done
 
-at_reads : (kept : List ℕ) (count : ℕ) (exchanges : List Exchange) (reads : List (List ℕ)) (front : List Event) → count < REQUEST_LIMIT
-    → AreNeeded kept reads → Before reads front → Answers kept count exchanges front
-at_reads kept count exchanges reads front few needed b = record {
-  done = [];
-  later = exchanges;
-  exchanges_are = refl;
-  none = tt;
-  room = omega arith;
-  left = kept ++ concat b.pre;
-  messages = ap (λ l. kept ++ given l) b.front_is ∙ ap (λ l. kept ++ l) (given-reads b.pre);
-  unfinished = unfinished_at kept b.pre b.piece b.post (rw b.reads_are at needed);
-  replies = ap taken b.front_is ∙ taken-reads b.pre;
-}
+  at_reads : (kept : List ℕ) (count : ℕ) (exchanges : List Exchange) (reads : List (List ℕ)) (front : List Event) → count < REQUEST_LIMIT
+      → AreNeeded body_limit kept reads → Before reads front → Answers kept count exchanges front
+  at_reads kept count exchanges reads front few needed b = record {
+    done = [];
+    later = exchanges;
+    exchanges_are = refl;
+    none = tt;
+    room = omega arith;
+    left = kept ++ concat b.pre;
+    messages = ap (λ l. kept ++ given l) b.front_is ∙ ap (λ l. kept ++ l) (given-reads b.pre);
+    unfinished = unfinished_at kept b.pre b.piece b.post (rw b.reads_are at needed);
+    replies = ap taken b.front_is ∙ taken-reads b.pre;
+  }
 
-begins_still : (kept behind : List ℕ) (turn : Turn) (front later : List Event) → front ≡ events_of_turn turn ++ later
-    → ReadsTurn kept turn behind → BeginsWith (kept ++ given front) turn.exchange.message (behind ++ given later)
-begins_still kept behind turn front later front_is r =
-    let b = r.begins in
-    (b.0, b.1, given-behind turn front later kept front_is ∙ ap (λ l. l ++ given later) b.2 ∙ append_assoc b.0 behind (given later))
+  begins_still : (kept behind : List ℕ) (turn : Turn) (front later : List Event) → front ≡ events_of_turn turn ++ later
+      → ReadsTurn body_limit kept turn behind → BeginsWithin body_limit (kept ++ given front) turn.exchange.message (behind ++ given later)
+  begins_still kept behind turn front later front_is r =
+      let b = r.begins in
+      (b.0, b.1, given-behind turn front later kept front_is ∙ ap (λ l. l ++ given later) b.2 ∙ append_assoc b.0 behind (given later))
 
-answers-cons : (kept behind : List ℕ) (count : ℕ) (turn : Turn) (turns : List Turn) (front later : List Event)
-    → front ≡ events_of_turn turn ++ later → ReadsTurn kept turn behind → IsFalse turn.exchange.message.close
-    → concat turn.writes ≡ text_of count turn.exchange → Answers behind (count + 1) (exchanges_of turns) later
-    → Answers kept count (exchanges_of (turn ∷ turns)) front
-answers-cons kept behind count turn turns front later front_is r still whole s = record {
-  done = turn.exchange ∷ s.done;
-  later = s.later;
-  exchanges_are = ap (λ (l : List Exchange). turn.exchange ∷ l) s.exchanges_are;
-  none = (still, s.none);
-  room = omega (arith, s.room);
-  left = s.left;
-  messages = (behind ++ given later, begins_still kept behind turn front later front_is r, s.messages);
-  unfinished = s.unfinished;
-  replies = taken-behind turn front later front_is ∙ (λ i. whole i ++ s.replies i);
-}
+  answers-cons : (kept behind : List ℕ) (count : ℕ) (turn : Turn) (turns : List Turn) (front later : List Event)
+      → front ≡ events_of_turn turn ++ later → ReadsTurn body_limit kept turn behind → IsFalse turn.exchange.message.close
+      → concat turn.writes ≡ text_of count turn.exchange → Answers behind (count + 1) (exchanges_of turns) later
+      → Answers kept count (exchanges_of (turn ∷ turns)) front
+  answers-cons kept behind count turn turns front later front_is r still whole s = record {
+    done = turn.exchange ∷ s.done;
+    later = s.later;
+    exchanges_are = ap (λ (l : List Exchange). turn.exchange ∷ l) s.exchanges_are;
+    none = (still, s.none);
+    room = omega (arith, s.room);
+    left = s.left;
+    messages = (behind ++ given later, begins_still kept behind turn front later front_is r, s.messages);
+    unfinished = s.unfinished;
+    replies = taken-behind turn front later front_is ∙ (λ i. whole i ++ s.replies i);
+  }
 
--- nothing happens behind the last turn where nothing follows
-nothing_follows : (turns : List Turn) (ending : Ending) (later behind : List Event) (e : Event) → turns ≡ [] → ending ≡ no_ending
-    → ¬ (events_of turns ending ≡ later ++ (e ∷ behind))
-nothing_follows turns ending later behind e none no_more h = not_nil later (rw (none, no_more) at h)
-  where
-    not_nil : (l : List Event) → ¬ ([] ≡ l ++ (e ∷ behind))
-    not_nil [] q = absurd cc
-    not_nil (x ∷ l) q = absurd cc
+  -- nothing happens behind the last turn where nothing follows
+  nothing_follows : (turns : List Turn) (ending : Ending) (later behind : List Event) (e : Event) → turns ≡ [] → ending ≡ no_ending
+      → ¬ (events_of turns ending ≡ later ++ (e ∷ behind))
+  nothing_follows turns ending later behind e none no_more h = not_nil later (rw (none, no_more) at h)
+    where
+      not_nil : (l : List Event) → ¬ ([] ≡ l ++ (e ∷ behind))
+      not_nil [] q = absurd cc
+      not_nil (x ∷ l) q = absurd cc
 
-at_ending : (kept : List ℕ) (count : ℕ) (ending : Ending) (front behind : List Event) (piece : List ℕ) → count < REQUEST_LIMIT
-    → AreNeeded kept ending.reads → InOne (map Gave ending.reads) (map Took ending.writes) front behind (Gave piece)
-    → Answers kept count [] front
-at_ending kept count ending front behind piece few needed (inl (post, same)) =
-    at_reads kept count [] ending.reads front few needed (before ending.reads front post piece same)
-at_ending kept count ending front behind piece few needed (inr (later, front_is, rest)) =
-    absurd (no_read_written ending.writes later behind piece rest)
+  at_ending : (kept : List ℕ) (count : ℕ) (ending : Ending) (front behind : List Event) (piece : List ℕ) → count < REQUEST_LIMIT
+      → AreNeeded body_limit kept ending.reads → InOne (map Gave ending.reads) (map Took ending.writes) front behind (Gave piece)
+      → Answers kept count [] front
+  at_ending kept count ending front behind piece few needed (inl (post, same)) =
+      at_reads kept count [] ending.reads front few needed (before ending.reads front post piece same)
+  at_ending kept count ending front behind piece few needed (inr (later, front_is, rest)) =
+      absurd (no_read_written ending.writes later behind piece rest)
 
-in_turn : (kept mid : List ℕ) (count : ℕ) (turn : Turn) (turns : List Turn) (front post : List Event) (piece : List ℕ)
-    → count < REQUEST_LIMIT → ReadsTurn kept turn mid
-    → InOne (map Gave turn.reads) (Answered turn.exchange.moment ∷ map Took turn.writes) front post (Gave piece)
-    → Answers kept count (exchanges_of (turn ∷ turns)) front
-in_turn kept mid count turn turns front post piece few r (inl (after, same)) =
-    at_reads kept count (exchanges_of (turn ∷ turns)) turn.reads front few r.needed (before turn.reads front after piece same)
-in_turn kept mid count turn turns front post piece few r (inr (later, front_is, rest)) =
-    absurd (no_read_replied turn.exchange.moment turn.writes later post piece rest)
+  in_turn : (kept mid : List ℕ) (count : ℕ) (turn : Turn) (turns : List Turn) (front post : List Event) (piece : List ℕ)
+      → count < REQUEST_LIMIT → ReadsTurn body_limit kept turn mid
+      → InOne (map Gave turn.reads) (Answered turn.exchange.moment ∷ map Took turn.writes) front post (Gave piece)
+      → Answers kept count (exchanges_of (turn ∷ turns)) front
+  in_turn kept mid count turn turns front post piece few r (inl (after, same)) =
+      at_reads kept count (exchanges_of (turn ∷ turns)) turn.reads front few r.needed (before turn.reads front after piece same)
+  in_turn kept mid count turn turns front post piece few r (inr (later, front_is, rest)) =
+      absurd (no_read_replied turn.exchange.moment turn.writes later post piece rest)
 
--- in the turn, or as `behind_it` says behind it
-at_turn : (kept mid : List ℕ) (count : ℕ) (turn : Turn) (turns : List Turn) (ending : Ending) (front behind : List Event)
-    (piece : List ℕ)
-    → ((later : List Event) → count + 1 < REQUEST_LIMIT → Follows (count + 1) turns ending
-    → events_of turns ending ≡ later ++ (Gave piece ∷ behind) → Answers mid (count + 1) (exchanges_of turns) later)
-    → count < REQUEST_LIMIT → ReadsTurn kept turn mid → Follows count (turn ∷ turns) ending
-    → InOne (events_of_turn turn) (events_of turns ending) front behind (Gave piece)
-    → Answers kept count (exchanges_of (turn ∷ turns)) front
-at_turn kept mid count turn turns ending front behind piece behind_it few r follows (inl (post, same)) =
-    in_turn kept mid count turn turns front post piece few r
-    (in_one (map Gave turn.reads) (Answered turn.exchange.moment ∷ map Took turn.writes) front post (Gave piece) same)
-at_turn kept mid count turn turns ending front behind piece behind_it few r (inl (none, no_more)) (inr (later, front_is, rest)) =
-    absurd (nothing_follows turns ending later behind (Gave piece) none no_more rest)
-at_turn kept mid count turn turns ending front behind piece behind_it few r (inr (still, room, whole, follows)) (inr (later, front_is, rest)) =
-    answers-cons kept mid count turn turns front later front_is r still whole (behind_it later room follows rest)
+  -- in the turn, or as `behind_it` says behind it
+  at_turn : (kept mid : List ℕ) (count : ℕ) (turn : Turn) (turns : List Turn) (ending : Ending) (front behind : List Event)
+      (piece : List ℕ)
+      → ((later : List Event) → count + 1 < REQUEST_LIMIT → Follows (count + 1) turns ending
+      → events_of turns ending ≡ later ++ (Gave piece ∷ behind) → Answers mid (count + 1) (exchanges_of turns) later)
+      → count < REQUEST_LIMIT → ReadsTurn body_limit kept turn mid → Follows count (turn ∷ turns) ending
+      → InOne (events_of_turn turn) (events_of turns ending) front behind (Gave piece)
+      → Answers kept count (exchanges_of (turn ∷ turns)) front
+  at_turn kept mid count turn turns ending front behind piece behind_it few r follows (inl (post, same)) =
+      in_turn kept mid count turn turns front post piece few r
+      (in_one (map Gave turn.reads) (Answered turn.exchange.moment ∷ map Took turn.writes) front post (Gave piece) same)
+  at_turn kept mid count turn turns ending front behind piece behind_it few r (inl (none, no_more)) (inr (later, front_is, rest)) =
+      absurd (nothing_follows turns ending later behind (Gave piece) none no_more rest)
+  at_turn kept mid count turn turns ending front behind piece behind_it few r (inr (still, room, whole, follows)) (inr (later, front_is, rest)) =
+      answers-cons kept mid count turn turns front later front_is r still whole (behind_it later room follows rest)
 
-answers_at : (kept left : List ℕ) (count : ℕ) (turns : List Turn) (ending : Ending) (front behind : List Event) (piece : List ℕ)
-    → count < REQUEST_LIMIT → AreRead kept turns left → Follows count turns ending → AreNeeded left ending.reads
-    → events_of turns ending ≡ front ++ (Gave piece ∷ behind) → Answers kept count (exchanges_of turns) front
-answers_at kept left count [] ending front behind piece few same follows needed h =
-    at_ending kept count ending front behind piece few (rw same at needed)
-    (in_one (map Gave ending.reads) (map Took ending.writes) front behind (Gave piece) h)
-answers_at kept left count (turn ∷ turns) ending front behind piece few (mid, r, more) follows needed h =
-    at_turn kept mid count turn turns ending front behind piece
-    (λ later room after rest. answers_at mid left (count + 1) turns ending later behind piece room more after needed rest)
-    few r follows (in_one (events_of_turn turn) (events_of turns ending) front behind (Gave piece) h)
+  answers_at : (kept left : List ℕ) (count : ℕ) (turns : List Turn) (ending : Ending) (front behind : List Event) (piece : List ℕ)
+      → count < REQUEST_LIMIT → AreRead body_limit kept turns left → Follows count turns ending → AreNeeded body_limit left ending.reads
+      → events_of turns ending ≡ front ++ (Gave piece ∷ behind) → Answers kept count (exchanges_of turns) front
+  answers_at kept left count [] ending front behind piece few same follows needed h =
+      at_ending kept count ending front behind piece few (rw same at needed)
+      (in_one (map Gave ending.reads) (map Took ending.writes) front behind (Gave piece) h)
+  answers_at kept left count (turn ∷ turns) ending front behind piece few (mid, r, more) follows needed h =
+      at_turn kept mid count turn turns ending front behind piece
+      (λ later room after rest. answers_at mid left (count + 1) turns ending later behind piece room more after needed rest)
+      few r follows (in_one (events_of_turn turn) (events_of turns ending) front behind (Gave piece) h)
 
-pub replies_come_before_reads : (before after : Told) (turns : List Turn) (left : List ℕ) (ending : Ending) (end : LinkEnd)
-    (front behind : List Event) (piece : List ℕ) → AreRead [] turns left
-    → LinkEnds before after turns left ending end → events_of turns ending ≡ front ++ (Gave piece ∷ behind)
-    → HasAnswered (exchanges_of turns) front
-replies_come_before_reads before after turns left ending end front behind piece read facts h =
-    let order = in_order before after turns left ending end facts in
-    let s = answers_at [] left 0 turns ending front behind piece (omega arith) read order.follows order.needed h in
-    record {
-      done = s.done;
-      later = s.later;
-      exchanges_are = s.exchanges_are;
-      going_on = (s.none, omega (arith, s.room));
-      kept = s.left;
-      messages = s.messages;
-      unfinished = s.unfinished;
-      replies = s.replies;
-    }
+  pub replies_come_before_reads : (before after : Told) (turns : List Turn) (left : List ℕ) (ending : Ending) (end : LinkEnd)
+      (front behind : List Event) (piece : List ℕ) → AreRead body_limit [] turns left
+      → LinkEnds body_limit before after turns left ending end → events_of turns ending ≡ front ++ (Gave piece ∷ behind)
+      → HasAnswered body_limit (exchanges_of turns) front
+  replies_come_before_reads before after turns left ending end front behind piece read facts h =
+      let order = in_order before after turns left ending end facts in
+      let s = answers_at [] left 0 turns ending front behind piece (omega arith) read order.follows order.needed h in
+      record {
+        done = s.done;
+        later = s.later;
+        exchanges_are = s.exchanges_are;
+        going_on = (s.none, omega (arith, s.room));
+        kept = s.left;
+        messages = s.messages;
+        unfinished = s.unfinished;
+        replies = s.replies;
+      }
 
--- ---- before the clock answers
+  -- ---- before the clock answers
 
--- the same behind some exchanges, with some bytes kept
-record Nexts (kept : List ℕ) (count : ℕ) (exchanges : List Exchange) (events : List Event) (moment : ℕ) : Type 0 where
-  pub done : List Exchange
-  pub next : Exchange
-  pub later : List Exchange
-  pub exchanges_are : exchanges ≡ done ++ next ∷ later
-  pub none : NoneCloses done
-  pub room : count + length done < REQUEST_LIMIT
-  pub moment_is : next.moment ≡ moment
-  pub left : List ℕ
-  pub messages : HasMessages (kept ++ given events) (messages_of (done ++ next ∷ [])) left
-  pub limit : length left ≤ HEAD_LIMIT
-  pub replies : taken events ≡ texts_from count done
+  -- the same behind some exchanges, with some bytes kept
+  record Nexts (kept : List ℕ) (count : ℕ) (exchanges : List Exchange) (events : List Event) (moment : ℕ) : Type 0 where
+    pub done : List Exchange
+    pub next : Exchange
+    pub later : List Exchange
+    pub exchanges_are : exchanges ≡ done ++ next ∷ later
+    pub none : NoneCloses done
+    pub room : count + length done < REQUEST_LIMIT
+    pub moment_is : next.moment ≡ moment
+    pub left : List ℕ
+    pub messages : HasMessages body_limit (kept ++ given events) (messages_of (done ++ next ∷ [])) left
+    pub limit : length left ≤ HEAD_LIMIT
+    pub replies : taken events ≡ texts_from count done
 
-nexts-cons : (kept behind : List ℕ) (count : ℕ) (turn : Turn) (turns : List Turn) (front later : List Event) (moment : ℕ)
-    → front ≡ events_of_turn turn ++ later → ReadsTurn kept turn behind → IsFalse turn.exchange.message.close
-    → concat turn.writes ≡ text_of count turn.exchange → Nexts behind (count + 1) (exchanges_of turns) later moment
-    → Nexts kept count (exchanges_of (turn ∷ turns)) front moment
-nexts-cons kept behind count turn turns front later moment front_is r still whole s = record {
-  done = turn.exchange ∷ s.done;
-  next = s.next;
-  later = s.later;
-  exchanges_are = ap (λ (l : List Exchange). turn.exchange ∷ l) s.exchanges_are;
-  none = (still, s.none);
-  room = omega (arith, s.room);
-  moment_is = s.moment_is;
-  left = s.left;
-  messages = (behind ++ given later, begins_still kept behind turn front later front_is r, s.messages);
-  limit = s.limit;
-  replies = taken-behind turn front later front_is ∙ (λ i. whole i ++ s.replies i);
-}
+  nexts-cons : (kept behind : List ℕ) (count : ℕ) (turn : Turn) (turns : List Turn) (front later : List Event) (moment : ℕ)
+      → front ≡ events_of_turn turn ++ later → ReadsTurn body_limit kept turn behind → IsFalse turn.exchange.message.close
+      → concat turn.writes ≡ text_of count turn.exchange → Nexts behind (count + 1) (exchanges_of turns) later moment
+      → Nexts kept count (exchanges_of (turn ∷ turns)) front moment
+  nexts-cons kept behind count turn turns front later moment front_is r still whole s = record {
+    done = turn.exchange ∷ s.done;
+    next = s.next;
+    later = s.later;
+    exchanges_are = ap (λ (l : List Exchange). turn.exchange ∷ l) s.exchanges_are;
+    none = (still, s.none);
+    room = omega (arith, s.room);
+    moment_is = s.moment_is;
+    left = s.left;
+    messages = (behind ++ given later, begins_still kept behind turn front later front_is r, s.messages);
+    limit = s.limit;
+    replies = taken-behind turn front later front_is ∙ (λ i. whole i ++ s.replies i);
+  }
 
--- the moment stands behind the reads
-at_clock : (kept mid : List ℕ) (count : ℕ) (turn : Turn) (turns : List Turn) (front later post : List Event) (moment : ℕ)
-    → count < REQUEST_LIMIT → ReadsTurn kept turn mid → front ≡ map Gave turn.reads ++ later
-    → Answered turn.exchange.moment ∷ map Took turn.writes ≡ later ++ (Answered moment ∷ post)
-    → Nexts kept count (exchanges_of (turn ∷ turns)) front moment
-at_clock kept mid count turn turns front [] post moment few r front_is rest =
-    let same : turn.exchange.moment ≡ moment = cc in
-    let reads : front ≡ map Gave turn.reads = front_is ∙ append-nil (map Gave turn.reads) in
-    let b = r.begins in
-    record {
-      done = [];
-      next = turn.exchange;
-      later = exchanges_of turns;
-      exchanges_are = refl;
-      none = tt;
-      room = omega arith;
-      moment_is = same;
-      left = mid;
-      messages = (
-        mid,
-        (b.0, b.1, ap (λ l. kept ++ given l) reads ∙ ap (λ l. kept ++ l) (given-reads turn.reads) ∙ b.2),
-        refl,
-      );
-      limit = r.limit;
-      replies = ap taken reads ∙ taken-reads turn.reads;
-    }
-at_clock kept mid count turn turns front (e ∷ later) post moment few r front_is rest =
-    let tail : map Took turn.writes ≡ later ++ (Answered moment ∷ post) = cc in
-    absurd (no_moment_written turn.writes later post moment tail)
+  -- the moment stands behind the reads
+  at_clock : (kept mid : List ℕ) (count : ℕ) (turn : Turn) (turns : List Turn) (front later post : List Event) (moment : ℕ)
+      → count < REQUEST_LIMIT → ReadsTurn body_limit kept turn mid → front ≡ map Gave turn.reads ++ later
+      → Answered turn.exchange.moment ∷ map Took turn.writes ≡ later ++ (Answered moment ∷ post)
+      → Nexts kept count (exchanges_of (turn ∷ turns)) front moment
+  at_clock kept mid count turn turns front [] post moment few r front_is rest =
+      let same : turn.exchange.moment ≡ moment = cc in
+      let reads : front ≡ map Gave turn.reads = front_is ∙ append-nil (map Gave turn.reads) in
+      let b = r.begins in
+      record {
+        done = [];
+        next = turn.exchange;
+        later = exchanges_of turns;
+        exchanges_are = refl;
+        none = tt;
+        room = omega arith;
+        moment_is = same;
+        left = mid;
+        messages = (
+          mid,
+          (b.0, b.1, ap (λ l. kept ++ given l) reads ∙ ap (λ l. kept ++ l) (given-reads turn.reads) ∙ b.2),
+          refl,
+        );
+        limit = r.limit;
+        replies = ap taken reads ∙ taken-reads turn.reads;
+      }
+  at_clock kept mid count turn turns front (e ∷ later) post moment few r front_is rest =
+      let tail : map Took turn.writes ≡ later ++ (Answered moment ∷ post) = cc in
+      absurd (no_moment_written turn.writes later post moment tail)
 
-clock_in_turn : (kept mid : List ℕ) (count : ℕ) (turn : Turn) (turns : List Turn) (front post : List Event) (moment : ℕ)
-    → count < REQUEST_LIMIT → ReadsTurn kept turn mid
-    → InOne (map Gave turn.reads) (Answered turn.exchange.moment ∷ map Took turn.writes) front post (Answered moment)
-    → Nexts kept count (exchanges_of (turn ∷ turns)) front moment
-clock_in_turn kept mid count turn turns front post moment few r (inl (after, same)) =
-    absurd (no_moment_read turn.reads front after moment same)
-clock_in_turn kept mid count turn turns front post moment few r (inr (later, front_is, rest)) =
-    at_clock kept mid count turn turns front later post moment few r front_is rest
+  clock_in_turn : (kept mid : List ℕ) (count : ℕ) (turn : Turn) (turns : List Turn) (front post : List Event) (moment : ℕ)
+      → count < REQUEST_LIMIT → ReadsTurn body_limit kept turn mid
+      → InOne (map Gave turn.reads) (Answered turn.exchange.moment ∷ map Took turn.writes) front post (Answered moment)
+      → Nexts kept count (exchanges_of (turn ∷ turns)) front moment
+  clock_in_turn kept mid count turn turns front post moment few r (inl (after, same)) =
+      absurd (no_moment_read turn.reads front after moment same)
+  clock_in_turn kept mid count turn turns front post moment few r (inr (later, front_is, rest)) =
+      at_clock kept mid count turn turns front later post moment few r front_is rest
 
-clock_at_turn : (kept mid : List ℕ) (count : ℕ) (turn : Turn) (turns : List Turn) (ending : Ending) (front behind : List Event)
-    (moment : ℕ)
-    → ((later : List Event) → count + 1 < REQUEST_LIMIT → Follows (count + 1) turns ending
-    → events_of turns ending ≡ later ++ (Answered moment ∷ behind) → Nexts mid (count + 1) (exchanges_of turns) later moment)
-    → count < REQUEST_LIMIT → ReadsTurn kept turn mid → Follows count (turn ∷ turns) ending
-    → InOne (events_of_turn turn) (events_of turns ending) front behind (Answered moment)
-    → Nexts kept count (exchanges_of (turn ∷ turns)) front moment
-clock_at_turn kept mid count turn turns ending front behind moment behind_it few r follows (inl (post, same)) =
-    clock_in_turn kept mid count turn turns front post moment few r
-    (in_one (map Gave turn.reads) (Answered turn.exchange.moment ∷ map Took turn.writes) front post (Answered moment) same)
-clock_at_turn kept mid count turn turns ending front behind moment behind_it few r (inl (none, no_more)) (inr (later, front_is, rest)) =
-    absurd (nothing_follows turns ending later behind (Answered moment) none no_more rest)
-clock_at_turn kept mid count turn turns ending front behind moment behind_it few r (inr (still, room, whole, follows)) (inr (later, front_is, rest)) =
-    nexts-cons kept mid count turn turns front later moment front_is r still whole (behind_it later room follows rest)
+  clock_at_turn : (kept mid : List ℕ) (count : ℕ) (turn : Turn) (turns : List Turn) (ending : Ending) (front behind : List Event)
+      (moment : ℕ)
+      → ((later : List Event) → count + 1 < REQUEST_LIMIT → Follows (count + 1) turns ending
+      → events_of turns ending ≡ later ++ (Answered moment ∷ behind) → Nexts mid (count + 1) (exchanges_of turns) later moment)
+      → count < REQUEST_LIMIT → ReadsTurn body_limit kept turn mid → Follows count (turn ∷ turns) ending
+      → InOne (events_of_turn turn) (events_of turns ending) front behind (Answered moment)
+      → Nexts kept count (exchanges_of (turn ∷ turns)) front moment
+  clock_at_turn kept mid count turn turns ending front behind moment behind_it few r follows (inl (post, same)) =
+      clock_in_turn kept mid count turn turns front post moment few r
+      (in_one (map Gave turn.reads) (Answered turn.exchange.moment ∷ map Took turn.writes) front post (Answered moment) same)
+  clock_at_turn kept mid count turn turns ending front behind moment behind_it few r (inl (none, no_more)) (inr (later, front_is, rest)) =
+      absurd (nothing_follows turns ending later behind (Answered moment) none no_more rest)
+  clock_at_turn kept mid count turn turns ending front behind moment behind_it few r (inr (still, room, whole, follows)) (inr (later, front_is, rest)) =
+      nexts-cons kept mid count turn turns front later moment front_is r still whole (behind_it later room follows rest)
 
-clock_at_ending : (kept : List ℕ) (count : ℕ) (ending : Ending) (front behind : List Event) (moment : ℕ)
-    → InOne (map Gave ending.reads) (map Took ending.writes) front behind (Answered moment) → Nexts kept count [] front moment
-clock_at_ending kept count ending front behind moment (inl (post, same)) =
-    absurd (no_moment_read ending.reads front post moment same)
-clock_at_ending kept count ending front behind moment (inr (later, front_is, rest)) =
-    absurd (no_moment_written ending.writes later behind moment rest)
+  clock_at_ending : (kept : List ℕ) (count : ℕ) (ending : Ending) (front behind : List Event) (moment : ℕ)
+      → InOne (map Gave ending.reads) (map Took ending.writes) front behind (Answered moment) → Nexts kept count [] front moment
+  clock_at_ending kept count ending front behind moment (inl (post, same)) =
+      absurd (no_moment_read ending.reads front post moment same)
+  clock_at_ending kept count ending front behind moment (inr (later, front_is, rest)) =
+      absurd (no_moment_written ending.writes later behind moment rest)
 
-nexts_at : (kept left : List ℕ) (count : ℕ) (turns : List Turn) (ending : Ending) (front behind : List Event) (moment : ℕ)
-    → count < REQUEST_LIMIT → AreRead kept turns left → Follows count turns ending
-    → events_of turns ending ≡ front ++ (Answered moment ∷ behind) → Nexts kept count (exchanges_of turns) front moment
-nexts_at kept left count [] ending front behind moment few same follows h =
-    clock_at_ending kept count ending front behind moment
-    (in_one (map Gave ending.reads) (map Took ending.writes) front behind (Answered moment) h)
-nexts_at kept left count (turn ∷ turns) ending front behind moment few (mid, r, more) follows h =
-    clock_at_turn kept mid count turn turns ending front behind moment
-    (λ later room after rest. nexts_at mid left (count + 1) turns ending later behind moment room more after rest)
-    few r follows (in_one (events_of_turn turn) (events_of turns ending) front behind (Answered moment) h)
+  nexts_at : (kept left : List ℕ) (count : ℕ) (turns : List Turn) (ending : Ending) (front behind : List Event) (moment : ℕ)
+      → count < REQUEST_LIMIT → AreRead body_limit kept turns left → Follows count turns ending
+      → events_of turns ending ≡ front ++ (Answered moment ∷ behind) → Nexts kept count (exchanges_of turns) front moment
+  nexts_at kept left count [] ending front behind moment few same follows h =
+      clock_at_ending kept count ending front behind moment
+      (in_one (map Gave ending.reads) (map Took ending.writes) front behind (Answered moment) h)
+  nexts_at kept left count (turn ∷ turns) ending front behind moment few (mid, r, more) follows h =
+      clock_at_turn kept mid count turn turns ending front behind moment
+      (λ later room after rest. nexts_at mid left (count + 1) turns ending later behind moment room more after rest)
+      few r follows (in_one (events_of_turn turn) (events_of turns ending) front behind (Answered moment) h)
 
-pub clock_is_read_between : (before after : Told) (turns : List Turn) (left : List ℕ) (ending : Ending) (end : LinkEnd)
-    (front behind : List Event) (moment : ℕ) → AreRead [] turns left
-    → LinkEnds before after turns left ending end → events_of turns ending ≡ front ++ (Answered moment ∷ behind)
-    → HasNext (exchanges_of turns) front moment
-clock_is_read_between before after turns left ending end front behind moment read facts h =
-    let order = in_order before after turns left ending end facts in
-    let s = nexts_at [] left 0 turns ending front behind moment (omega arith) read order.follows h in
-    record {
-      done = s.done;
-      next = s.next;
-      later = s.later;
-      exchanges_are = s.exchanges_are;
-      going_on = (s.none, omega (arith, s.room));
-      moment_is = s.moment_is;
-      kept = s.left;
-      messages = s.messages;
-      limit = s.limit;
-      replies = s.replies;
-    }
+  pub clock_is_read_between : (before after : Told) (turns : List Turn) (left : List ℕ) (ending : Ending) (end : LinkEnd)
+      (front behind : List Event) (moment : ℕ) → AreRead body_limit [] turns left
+      → LinkEnds body_limit before after turns left ending end → events_of turns ending ≡ front ++ (Answered moment ∷ behind)
+      → HasNext body_limit (exchanges_of turns) front moment
+  clock_is_read_between before after turns left ending end front behind moment read facts h =
+      let order = in_order before after turns left ending end facts in
+      let s = nexts_at [] left 0 turns ending front behind moment (omega arith) read order.follows h in
+      record {
+        done = s.done;
+        next = s.next;
+        later = s.later;
+        exchanges_are = s.exchanges_are;
+        going_on = (s.none, omega (arith, s.room));
+        moment_is = s.moment_is;
+        kept = s.left;
+        messages = s.messages;
+        limit = s.limit;
+        replies = s.replies;
+      }

@@ -22,207 +22,209 @@ use Rattle.http_link.specs.Turn.{Step, Stop, TakesTurn, next_after}
 use Rattle.http_link.specs.Link.{Served, Serves, LinkEnds, NoneCloses, GoesOn, ComesTo, AgreesWithBytes}
 use Rattle.http_link.proofs.LinkLemmas.{Served-step, Served-stop, exchanges_of-push, AreWritten-push, NoneCloses-push}
 
--- what the turns tell of the bytes, as the law of this crate says
-abbrev pub TellsEnd : Type 0
-TellsEnd =
-    (before after : Told) (turns : List Turn) (left : List ℕ) (ending : Ending) (end : LinkEnd)
-    → AreRead [] turns left → Consumes before.left after.left (bytes_of turns ending)
-    → LinkEnds before after turns left ending end
-    → AgreesWithBytes before (bytes_of turns ending) (left ++ concat ending.reads) (exchanges_of turns) end
+-- `body_limit` is the most bytes that a body may have.
+module _ (body_limit : ℕ) where
+  -- what the turns tell of the bytes, as the law of this crate says
+  abbrev pub TellsEnd : Type 0
+  TellsEnd =
+      (before after : Told) (turns : List Turn) (left : List ℕ) (ending : Ending) (end : LinkEnd)
+      → AreRead body_limit [] turns left → Consumes before.left after.left (bytes_of turns ending)
+      → LinkEnds body_limit before after turns left ending end
+      → AgreesWithBytes body_limit before (bytes_of turns ending) (left ++ concat ending.reads) (exchanges_of turns) end
 
--- the turn goes on only where its reply was sent and its message didn't say close
-pub goes_on_from : (close : Bool) (result : Result (Unit {0}) Failed) (m : Message) → m.close ≡ close
-    → next.GoesOn ≡ next_after m result → (result ≡ Ok tt) × (close ≡ false)
-goes_on_from true (Ok done) m c e = let f = rw c at e in absurd cc
-goes_on_from false (Ok done) m c e = (refl, refl)
-goes_on_from close (Err fault) m c e = absurd cc
+  -- the turn goes on only where its reply was sent and its message didn't say close
+  pub goes_on_from : (close : Bool) (result : Result (Unit {0}) Failed) (m : Message) → m.close ≡ close
+      → next.GoesOn ≡ next_after m result → (result ≡ Ok tt) × (close ≡ false)
+  goes_on_from true (Ok done) m c e = let f = rw c at e in absurd cc
+  goes_on_from false (Ok done) m c e = (refl, refl)
+  goes_on_from close (Err fault) m c e = absurd cc
 
-over_from_ok : (close : Bool) (end : LinkEnd) → next.Over end ≡ (if close then next.Over ends.Closed else next.GoesOn)
-    → (end ≡ ends.Closed) × IsTrue close
-over_from_ok true end e = (cc, refl)
-over_from_ok false end e = absurd cc
+  over_from_ok : (close : Bool) (end : LinkEnd) → next.Over end ≡ (if close then next.Over ends.Closed else next.GoesOn)
+      → (end ≡ ends.Closed) × IsTrue close
+  over_from_ok true end e = (cc, refl)
+  over_from_ok false end e = absurd cc
 
-place_of : (turns : List Turn) → 0 + length turns ≡ length turns
-place_of turns = omega arith
+  place_of : (turns : List Turn) → 0 + length turns ≡ length turns
+  place_of turns = omega arith
 
-Serves-of : {D : Type 0} (tells : TellsEnd) (allows : D → Message → ℕ → Reply → D → Type 0) (start now : D) (before after : Told)
-    (turns : List Turn) (left : List ℕ) (ending : Ending) (end : LinkEnd) → length turns ≤ REQUEST_LIMIT
-    → Served allows start now before after left turns ending
-    → LinkEnds before after turns left ending end → Serves allows start now before after end
-Serves-of tells allows start now before after turns left ending end few served facts = record {
-  turns = turns;
-  few = few;
-  left = left;
-  ending = ending;
-  served = served;
-  ends = facts;
-  agrees = tells before after turns left ending end served.read served.input facts;
-}
+  Serves-of : {D : Type 0} (tells : TellsEnd) (allows : D → Message → ℕ → Reply → D → Type 0) (start now : D) (before after : Told)
+      (turns : List Turn) (left : List ℕ) (ending : Ending) (end : LinkEnd) → length turns ≤ REQUEST_LIMIT
+      → Served body_limit allows start now before after left turns ending
+      → LinkEnds body_limit before after turns left ending end → Serves body_limit allows start now before after end
+  Serves-of tells allows start now before after turns left ending end few served facts = record {
+    turns = turns;
+    few = few;
+    left = left;
+    ending = ending;
+    served = served;
+    ends = facts;
+    agrees = tells before after turns left ending end served.read served.input facts;
+  }
 
-module _ {D : Type 0} (tells : TellsEnd) (allows : D → Message → ℕ → Reply → D → Type 0) (start old new : D) (a b c : Told)
-    (kept left : List ℕ) (turns : List Turn)
-    (before : Served allows start old a b kept turns no_ending) (replies : AreWritten 0 turns) (none : NoneCloses (exchanges_of turns))
-    (room : length turns < REQUEST_LIMIT) where
-  going_on : GoesOn (exchanges_of turns)
-  going_on = (none, omega (arith, room, length-map turns (λ t. t.exchange)))
+  module _ {D : Type 0} (tells : TellsEnd) (allows : D → Message → ℕ → Reply → D → Type 0) (start old new : D) (a b c : Told)
+      (kept left : List ℕ) (turns : List Turn)
+      (before : Served body_limit allows start old a b kept turns no_ending) (replies : AreWritten 0 turns) (none : NoneCloses (exchanges_of turns))
+      (room : length turns < REQUEST_LIMIT) where
+    going_on : GoesOn (exchanges_of turns)
+    going_on = (none, omega (arith, room, length-map turns (λ t. t.exchange)))
 
-  -- the reply of the last turn was written whole
-  replies_more : (turn : Turn) → concat turn.writes ≡ text_of (length turns) turn.exchange → AreWritten 0 (turns ++ turn ∷ [])
-  replies_more turn whole =
-      AreWritten-push 0 turns turn replies (whole ∙ ap (λ (k : ℕ). text_of k turn.exchange) (sym (place_of turns)))
+    -- the reply of the last turn was written whole
+    replies_more : (turn : Turn) → concat turn.writes ≡ text_of (length turns) turn.exchange → AreWritten 0 (turns ++ turn ∷ [])
+    replies_more turn whole =
+        AreWritten-push 0 turns turn replies (whole ∙ ap (λ (k : ℕ). text_of k turn.exchange) (sym (place_of turns)))
 
-  -- a message was answered, and it didn't say close
-  pub goes_on : (s : Step allows old new b c kept left (length turns) (Ok tt)) → IsFalse s.turn.exchange.message.close
-      → (all : List Turn) × Served allows start new a c left all no_ending × AreWritten 0 all
-      × (length all ≡ length turns + 1) × NoneCloses (exchanges_of all)
-  goes_on s still = (
-    turns ++ s.turn ∷ [],
-    Served-step allows start old new a b c kept left (length turns) (Ok tt) turns before s,
-    replies_more s.turn s.sends,
-    length-append turns (s.turn ∷ []),
-    rw (exchanges_of-push turns s.turn) (NoneCloses-push (exchanges_of turns) s.turn.exchange none still),
-  )
+    -- a message was answered, and it didn't say close
+    pub goes_on : (s : Step body_limit allows old new b c kept left (length turns) (Ok tt)) → IsFalse s.turn.exchange.message.close
+        → (all : List Turn) × Served body_limit allows start new a c left all no_ending × AreWritten 0 all
+        × (length all ≡ length turns + 1) × NoneCloses (exchanges_of all)
+    goes_on s still = (
+      turns ++ s.turn ∷ [],
+      Served-step body_limit allows start old new a b c kept left (length turns) (Ok tt) turns before s,
+      replies_more s.turn s.sends,
+      length-append turns (s.turn ∷ []),
+      rw (exchanges_of-push turns s.turn) (NoneCloses-push (exchanges_of turns) s.turn.exchange none still),
+    )
 
-  closed : (s : Step allows old new b c kept left (length turns) (Ok tt)) → IsTrue s.turn.exchange.message.close
-      → Serves allows start new a c ends.Closed
-  closed s close =
-      Serves-of tells allows start new a c (turns ++ s.turn ∷ []) left no_ending ends.Closed
-      (omega (arith, length-append turns (s.turn ∷ []), room))
-      (Served-step allows start old new a b c kept left (length turns) (Ok tt) turns before s)
-      (record {
-        front = turns;
-        last = s.turn;
-        turns_are = refl;
-        going_on = going_on;
-        close = close;
-        replies = replies_more s.turn s.sends;
-        nothing_else = refl;
-      })
-
-  cut_reply : (fault : Failed) (s : Step allows old new b c kept left (length turns) (Err fault))
-      → Rose b.write_faults c.write_faults → Serves allows start new a c ends.WriteFault
-  cut_reply fault s rose =
-      Serves-of tells allows start new a c (turns ++ s.turn ∷ []) left no_ending ends.WriteFault
-      (omega (arith, length-append turns (s.turn ∷ []), room))
-      (Served-step allows start old new a b c kept left (length turns) (Err fault) turns before s) (
-        inl (record {
+    closed : (s : Step body_limit allows old new b c kept left (length turns) (Ok tt)) → IsTrue s.turn.exchange.message.close
+        → Serves body_limit allows start new a c ends.Closed
+    closed s close =
+        Serves-of tells allows start new a c (turns ++ s.turn ∷ []) left no_ending ends.Closed
+        (omega (arith, length-append turns (s.turn ∷ []), room))
+        (Served-step body_limit allows start old new a b c kept left (length turns) (Ok tt) turns before s)
+        (record {
           front = turns;
           last = s.turn;
           turns_are = refl;
           going_on = going_on;
-          replies = replies;
-          missing = s.sends.0;
-          whole = s.sends.1;
+          close = close;
+          replies = replies_more s.turn s.sends;
           nothing_else = refl;
-        }),
-        omega (arith, before.write_faults, rose),
-      )
+        })
 
-  module _ (read : Told) (why : WireEnd) (s : Stop old new b read kept why) where
-    -- the input is as it was when the end came
-    read_so : OnlyWrites read c → ReadsEnd kept s.pieces why c.left
-    read_so others = rw (← others.left) at s.reads
-
-    cut_refusal : WrittenInPart read c (refusal why) → Rose read.write_faults c.write_faults
-        → Serves allows start new a c ends.WriteFault
-    cut_refusal sent rose =
-        Serves-of tells allows start new a c turns kept (record { reads = s.pieces; writes = sent.pieces }) ends.WriteFault (omega (arith, room))
-        (Served-stop allows start old new a b read c kept why turns sent.pieces before s sent.written) (
-          inr (record {
-            why = why;
+    cut_reply : (fault : Failed) (s : Step body_limit allows old new b c kept left (length turns) (Err fault))
+        → Rose b.write_faults c.write_faults → Serves body_limit allows start new a c ends.WriteFault
+    cut_reply fault s rose =
+        Serves-of tells allows start new a c (turns ++ s.turn ∷ []) left no_ending ends.WriteFault
+        (omega (arith, length-append turns (s.turn ∷ []), room))
+        (Served-step body_limit allows start old new a b c kept left (length turns) (Err fault) turns before s) (
+          inl (record {
+            front = turns;
+            last = s.turn;
+            turns_are = refl;
             going_on = going_on;
             replies = replies;
-            reads = read_so sent.written.others;
-            missing = sent.missing;
-            whole = sent.joined;
+            missing = s.sends.0;
+            whole = s.sends.1;
+            nothing_else = refl;
           }),
-          omega (arith, before.write_faults, s.taken.others.write_faults, rose),
+          omega (arith, before.write_faults, rose),
         )
 
-    comes_to : (sent : WrittenWhole read c (refusal why)) → ComesTo c turns kept (record { reads = s.pieces; writes = sent.pieces }) why
-    comes_to sent = record {
-      going_on = going_on;
-      replies = replies;
-      reads = read_so sent.written.others;
-      writes = sent.joined;
-      some = sent.some;
-    }
+    module _ (read : Told) (why : WireEnd) (s : Stop body_limit old new b read kept why) where
+      -- the input is as it was when the end came
+      read_so : OnlyWrites read c → ReadsEnd body_limit kept s.pieces why c.left
+      read_so others = rw (← others.left) at s.reads
 
-    stopped : (end : LinkEnd) (sent : WrittenWhole read c (refusal why))
-        → LinkEnds a c turns kept (record { reads = s.pieces; writes = sent.pieces }) end → Serves allows start new a c end
-    stopped end sent facts =
-        Serves-of tells allows start new a c turns kept (record { reads = s.pieces; writes = sent.pieces }) end (omega (arith, room))
-        (Served-stop allows start old new a b read c kept why turns sent.pieces before s sent.written) facts
+      cut_refusal : WrittenInPart read c (refusal why) → Rose read.write_faults c.write_faults
+          → Serves body_limit allows start new a c ends.WriteFault
+      cut_refusal sent rose =
+          Serves-of tells allows start new a c turns kept (record { reads = s.pieces; writes = sent.pieces }) ends.WriteFault (omega (arith, room))
+          (Served-stop body_limit allows start old new a b read c kept why turns sent.pieces before s sent.written) (
+            inr (record {
+              why = why;
+              going_on = going_on;
+              replies = replies;
+              reads = read_so sent.written.others;
+              missing = sent.missing;
+              whole = sent.joined;
+            }),
+            omega (arith, before.write_faults, s.taken.others.write_faults, rose),
+          )
 
-  -- an end came, and its reply was written
-  ended : (read : Told) (why : WireEnd) → Stop old new b read kept why → WrittenWhole read c (refusal why)
-      → Serves allows start new a c (end_of why)
-  ended read wire.End s sent = stopped read wire.End s ends.Ended sent (comes_to read wire.End s sent)
-  ended read wire.ReadFault s sent =
-      stopped read wire.ReadFault s ends.ReadFault sent (
-        comes_to read wire.ReadFault s sent,
-        omega (arith, before.read_faults, s.fault refl, sent.written.others.read_faults),
-      )
-  ended read wire.Memory s sent = stopped read wire.Memory s ends.Memory sent (inr (comes_to read wire.Memory s sent))
-  ended read wire.Truncated s sent = stopped read wire.Truncated s (ends.Refused wire.Truncated) sent (tt, comes_to read wire.Truncated s sent)
-  ended read wire.BadHead s sent = stopped read wire.BadHead s (ends.Refused wire.BadHead) sent (tt, comes_to read wire.BadHead s sent)
-  ended read wire.HeadLong s sent = stopped read wire.HeadLong s (ends.Refused wire.HeadLong) sent (tt, comes_to read wire.HeadLong s sent)
-  ended read wire.BadLength s sent = stopped read wire.BadLength s (ends.Refused wire.BadLength) sent (tt, comes_to read wire.BadLength s sent)
-  ended read wire.BodyLong s sent = stopped read wire.BodyLong s (ends.Refused wire.BodyLong) sent (tt, comes_to read wire.BodyLong s sent)
-  ended read wire.Coded s sent = stopped read wire.Coded s (ends.Refused wire.Coded) sent (tt, comes_to read wire.Coded s sent)
+      comes_to : (sent : WrittenWhole read c (refusal why)) → ComesTo body_limit c turns kept (record { reads = s.pieces; writes = sent.pieces }) why
+      comes_to sent = record {
+        going_on = going_on;
+        replies = replies;
+        reads = read_so sent.written.others;
+        writes = sent.joined;
+        some = sent.some;
+      }
 
-  -- the link ends with this turn
-  pub over : (end : LinkEnd) → TakesTurn allows old new b c kept left (length turns) (next.Over end)
-      → Serves allows start new a c end
-  over end (inl (Ok done, s, e, rose)) =
-      let known = over_from_ok s.turn.exchange.message.close end e in
-      rw known.0 (closed s known.1)
-  over end (inl (Err fault, s, e, rose)) =
-      let same : end ≡ ends.WriteFault = cc in
-      rw same (cut_reply fault s (rose refl))
-  over end (inr (read, why, other, s, inl x, e)) =
-      let same : end ≡ end_of why = cc in
-      rw same (ended read why s x.1)
-  over end (inr (read, why, other, s, inr x, e)) =
-      let same : end ≡ ends.WriteFault = cc in
-      rw same (cut_refusal read why s x.1 x.2)
+      stopped : (end : LinkEnd) (sent : WrittenWhole read c (refusal why))
+          → LinkEnds body_limit a c turns kept (record { reads = s.pieces; writes = sent.pieces }) end → Serves body_limit allows start new a c end
+      stopped end sent facts =
+          Serves-of tells allows start new a c turns kept (record { reads = s.pieces; writes = sent.pieces }) end (omega (arith, room))
+          (Served-stop body_limit allows start old new a b read c kept why turns sent.pieces before s sent.written) facts
 
-  -- the link goes on after this turn
-  pub answered : TakesTurn allows old new b c kept left (length turns) next.GoesOn
-      → (all : List Turn) × Served allows start new a c left all no_ending × AreWritten 0 all
-      × (length all ≡ length turns + 1) × NoneCloses (exchanges_of all)
-  answered (inl (Ok done, s, e, rose)) = goes_on s (goes_on_from s.turn.exchange.message.close (Ok done) s.turn.exchange.message refl e).1
-  answered (inl (Err fault, s, e, rose)) = absurd cc
-  answered (inr (read, why, other, s, x, e)) = absurd cc
+    -- an end came, and its reply was written
+    ended : (read : Told) (why : WireEnd) → Stop body_limit old new b read kept why → WrittenWhole read c (refusal why)
+        → Serves body_limit allows start new a c (end_of why)
+    ended read wire.End s sent = stopped read wire.End s ends.Ended sent (comes_to read wire.End s sent)
+    ended read wire.ReadFault s sent =
+        stopped read wire.ReadFault s ends.ReadFault sent (
+          comes_to read wire.ReadFault s sent,
+          omega (arith, before.read_faults, s.fault refl, sent.written.others.read_faults),
+        )
+    ended read wire.Memory s sent = stopped read wire.Memory s ends.Memory sent (inr (comes_to read wire.Memory s sent))
+    ended read wire.Truncated s sent = stopped read wire.Truncated s (ends.Refused wire.Truncated) sent (tt, comes_to read wire.Truncated s sent)
+    ended read wire.BadHead s sent = stopped read wire.BadHead s (ends.Refused wire.BadHead) sent (tt, comes_to read wire.BadHead s sent)
+    ended read wire.HeadLong s sent = stopped read wire.HeadLong s (ends.Refused wire.HeadLong) sent (tt, comes_to read wire.HeadLong s sent)
+    ended read wire.BadLength s sent = stopped read wire.BadLength s (ends.Refused wire.BadLength) sent (tt, comes_to read wire.BadLength s sent)
+    ended read wire.BodyLong s sent = stopped read wire.BodyLong s (ends.Refused wire.BodyLong) sent (tt, comes_to read wire.BodyLong s sent)
+    ended read wire.Coded s sent = stopped read wire.Coded s (ends.Refused wire.Coded) sent (tt, comes_to read wire.Coded s sent)
 
-all_fixed : (a : Option ℕ) → IfSome a (λ at. AllByRecursion (λ (e : Exchange). e.moment ≡ at) [])
-all_fixed None = tt
-all_fixed (Some at) = tt
+    -- the link ends with this turn
+    pub over : (end : LinkEnd) → TakesTurn body_limit allows old new b c kept left (length turns) (next.Over end)
+        → Serves body_limit allows start new a c end
+    over end (inl (Ok done, s, e, rose)) =
+        let known = over_from_ok s.turn.exchange.message.close end e in
+        rw known.0 (closed s known.1)
+    over end (inl (Err fault, s, e, rose)) =
+        let same : end ≡ ends.WriteFault = cc in
+        rw same (cut_reply fault s (rose refl))
+    over end (inr (read, why, other, s, inl x, e)) =
+        let same : end ≡ end_of why = cc in
+        rw same (ended read why s x.1)
+    over end (inr (read, why, other, s, inr x, e)) =
+        let same : end ≡ ends.WriteFault = cc in
+        rw same (cut_refusal read why s x.1 x.2)
 
--- nothing happened
-pub no_turn : {D : Type 0} (allows : D → Message → ℕ → Reply → D → Type 0) (start : D) (a : Told)
-    → Served allows start start a a [] [] no_ending
-no_turn allows start a = record {
-  trace = sym (append-nil a.trace);
-  read = refl;
-  input = Consumes-nil a.left;
-  answered = refl;
-  fixed = all_fixed a.fixed;
-  stays = refl;
-  read_faults = omega arith;
-  write_faults = omega arith;
-}
+    -- the link goes on after this turn
+    pub answered : TakesTurn body_limit allows old new b c kept left (length turns) next.GoesOn
+        → (all : List Turn) × Served body_limit allows start new a c left all no_ending × AreWritten 0 all
+        × (length all ≡ length turns + 1) × NoneCloses (exchanges_of all)
+    answered (inl (Ok done, s, e, rose)) = goes_on s (goes_on_from s.turn.exchange.message.close (Ok done) s.turn.exchange.message refl e).1
+    answered (inl (Err fault, s, e, rose)) = absurd cc
+    answered (inr (read, why, other, s, x, e)) = absurd cc
 
-pub unserved : {D : Type 0} (tells : TellsEnd) (allows : D → Message → ℕ → Reply → D → Type 0) (start : D) (a : Told)
-    → Serves allows start start a a ends.Memory
-unserved tells allows start a =
-    Serves-of tells allows start start a a [] [] no_ending ends.Memory (omega arith) (no_turn allows start a)
-    (inl (record { untouched = refl; no_turn = refl; nothing_else = refl }))
+  all_fixed : (a : Option ℕ) → IfSome a (λ at. AllByRecursion (λ (e : Exchange). e.moment ≡ at) [])
+  all_fixed None = tt
+  all_fixed (Some at) = tt
 
--- as many requests were answered as may be
-pub no_more : {D : Type 0} (tells : TellsEnd) (allows : D → Message → ℕ → Reply → D → Type 0) (start now : D) (a b : Told) (left : List ℕ)
-    (turns : List Turn) → Served allows start now a b left turns no_ending → AreWritten 0 turns
-    → length turns ≡ REQUEST_LIMIT → NoneCloses (exchanges_of turns) → Serves allows start now a b ends.Budget
-no_more tells allows start now a b left turns served replies full none =
-    Serves-of tells allows start now a b turns left no_ending ends.Budget (omega (arith, full)) served
-    (record { none = none; full = full; replies = replies; nothing_else = refl })
+  -- nothing happened
+  pub no_turn : {D : Type 0} (allows : D → Message → ℕ → Reply → D → Type 0) (start : D) (a : Told)
+      → Served body_limit allows start start a a [] [] no_ending
+  no_turn allows start a = record {
+    trace = sym (append-nil a.trace);
+    read = refl;
+    input = Consumes-nil a.left;
+    answered = refl;
+    fixed = all_fixed a.fixed;
+    stays = refl;
+    read_faults = omega arith;
+    write_faults = omega arith;
+  }
+
+  pub unserved : {D : Type 0} (tells : TellsEnd) (allows : D → Message → ℕ → Reply → D → Type 0) (start : D) (a : Told)
+      → Serves body_limit allows start start a a ends.Memory
+  unserved tells allows start a =
+      Serves-of tells allows start start a a [] [] no_ending ends.Memory (omega arith) (no_turn allows start a)
+      (inl (record { untouched = refl; no_turn = refl; nothing_else = refl }))
+
+  -- as many requests were answered as may be
+  pub no_more : {D : Type 0} (tells : TellsEnd) (allows : D → Message → ℕ → Reply → D → Type 0) (start now : D) (a b : Told) (left : List ℕ)
+      (turns : List Turn) → Served body_limit allows start now a b left turns no_ending → AreWritten 0 turns
+      → length turns ≡ REQUEST_LIMIT → NoneCloses (exchanges_of turns) → Serves body_limit allows start now a b ends.Budget
+  no_more tells allows start now a b left turns served replies full none =
+      Serves-of tells allows start now a b turns left no_ending ends.Budget (omega (arith, full)) served
+      (record { none = none; full = full; replies = replies; nothing_else = refl })

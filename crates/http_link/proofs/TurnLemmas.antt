@@ -52,40 +52,6 @@ Replies-from_parts allows old new a b c count message moment answer result told 
       write_faults = omega (arith, others.write_faults, writes_before);
     }
 
--- a message was read, and then it was answered
-abbrev pub Step-from_parts : {D : Type 0} (allows : D → Message → ℕ → Reply → D → Type 0) (old new : D) (a b c : Told)
-    (kept left : List ℕ) (count : ℕ) (message : Message) (result : Result (Unit {0}) Failed) → Reads a b kept (Ok message) left
-    → Replies allows old new b c count message result → Step allows old new a c kept left count result
-Step-from_parts allows old new a b c kept left count message result r s =
-    let quiet = r.taken.others in
-    record {
-      turn = record {
-        reads = r.pieces;
-        exchange = record { message = message; moment = s.moment; answer = s.answer };
-        writes = s.pieces;
-      };
-      reads = record { needed = r.needed; some = r.stops; begins = r.gives; limit = r.limit };
-      trace =
-          s.trace ∙ ap (λ l. l ++ (Answered s.moment ∷ map Took s.pieces)) r.taken.trace
-          ∙ append_assoc a.trace (map Gave r.pieces) (Answered s.moment ∷ map Took s.pieces);
-      input = rw s.input r.taken.input;
-      allowed = s.allowed;
-      fixed = rw quiet.fixed at s.fixed;
-      stays = s.stays ∙ quiet.fixed;
-      sends = s.sends;
-      read_faults = omega (arith, quiet.read_faults, s.read_faults);
-      write_faults = omega (arith, quiet.write_faults, s.write_faults);
-    }
-
-abbrev pub ReadsEnd-from : (a b : Told) (kept after : List ℕ) (why : WireEnd) (r : Reads a b kept (Err why) after)
-    → ReadsEnd kept r.pieces why b.left
-ReadsEnd-from a b kept after why r = record {
-  needed = r.needed;
-  agrees = r.stops;
-  limit = r.limit;
-  ends = r.gives;
-}
-
 -- an end without a reply
 pub nothing_written : (a : Told) → WrittenWhole a a []
 nothing_written a = record {
@@ -97,3 +63,39 @@ nothing_written a = record {
   some = tt;
   joined = refl;
 }
+
+-- `body_limit` is the most bytes that a body may have.
+module _ (body_limit : ℕ) where
+  -- a message was read, and then it was answered
+  abbrev pub Step-from_parts : {D : Type 0} (allows : D → Message → ℕ → Reply → D → Type 0) (old new : D) (a b c : Told)
+      (kept left : List ℕ) (count : ℕ) (message : Message) (result : Result (Unit {0}) Failed) → Reads body_limit a b kept (Ok message) left
+      → Replies allows old new b c count message result → Step body_limit allows old new a c kept left count result
+  Step-from_parts allows old new a b c kept left count message result r s =
+      let quiet = r.taken.others in
+      record {
+        turn = record {
+          reads = r.pieces;
+          exchange = record { message = message; moment = s.moment; answer = s.answer };
+          writes = s.pieces;
+        };
+        reads = record { needed = r.needed; some = r.stops; begins = r.gives; limit = r.limit };
+        trace =
+            s.trace ∙ ap (λ l. l ++ (Answered s.moment ∷ map Took s.pieces)) r.taken.trace
+            ∙ append_assoc a.trace (map Gave r.pieces) (Answered s.moment ∷ map Took s.pieces);
+        input = rw s.input r.taken.input;
+        allowed = s.allowed;
+        fixed = rw quiet.fixed at s.fixed;
+        stays = s.stays ∙ quiet.fixed;
+        sends = s.sends;
+        read_faults = omega (arith, quiet.read_faults, s.read_faults);
+        write_faults = omega (arith, quiet.write_faults, s.write_faults);
+      }
+
+  abbrev pub ReadsEnd-from : (a b : Told) (kept after : List ℕ) (why : WireEnd) (r : Reads body_limit a b kept (Err why) after)
+      → ReadsEnd body_limit kept r.pieces why b.left
+  ReadsEnd-from a b kept after why r = record {
+    needed = r.needed;
+    agrees = r.stops;
+    limit = r.limit;
+    ends = r.gives;
+  }

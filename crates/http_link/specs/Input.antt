@@ -28,9 +28,11 @@ IsByInput WriteFault = ⊥
 IsByInput Memory = ⊥
 IsByInput other = ⊤
 
--- These are the messages in an input and its end. Unless reading, writing or memory failed, the link answered all that it was to
--- answer of them, and ended as it was to end.
-abbrev pub EndsByInput : List ℕ → List Exchange → LinkEnd → Type 0
-EndsByInput input exchanges end =
-    (messages : List Message) × (why : WireEnd) × IsTold why × AreMessages input messages why
-    × (IsByInput end → (end ≡ end_from 0 messages why) × (messages_of exchanges ≡ answered_from 0 messages))
+-- `body_limit` is the most bytes that a body may have.
+module _ (body_limit : ℕ) where
+  -- These are the messages in an input and its end. Unless reading, writing or memory failed, the link answered all that it was to
+  -- answer of them, and ended as it was to end.
+  abbrev pub EndsByInput : List ℕ → List Exchange → LinkEnd → Type 0
+  EndsByInput input exchanges end =
+      (messages : List Message) × (why : WireEnd) × IsTold why × AreMessages body_limit input messages why
+      × (IsByInput end → (end ≡ end_from 0 messages why) × (messages_of exchanges ≡ answered_from 0 messages))

@@ -26,28 +26,6 @@ NoneCloses exchanges = AllByRecursion (λ e. IsFalse e.message.close) exchanges
 abbrev pub GoesOn : List Exchange → Type 0
 GoesOn exchanges = NoneCloses exchanges × (length exchanges < REQUEST_LIMIT)
 
--- These turns were taken, and then came this ending: nothing else happened on the link.
-pub record Served {D : Type 0} (allows : D → Message → ℕ → Reply → D → Type 0)
-    (start now : D) (before after : Told) (left : List ℕ) (turns : List Turn) (ending : Ending) : Type 0 where
-  pub trace : after.trace ≡ before.trace ++ events_of turns ending
-  -- each message was read in its own turn, and this is left behind the last
-  pub read : AreRead [] turns left
-  pub input : Consumes before.left after.left (bytes_of turns ending)
-  pub answered : Chain allows start (exchanges_of turns) now
-  -- a clock that was fixed gave that moment each time
-  pub fixed : IfSome before.fixed (λ at. AllByRecursion (λ e. e.moment ≡ at) (exchanges_of turns))
-  pub stays : after.fixed ≡ before.fixed
-  pub read_faults : before.read_faults ≤ after.read_faults
-  pub write_faults : before.write_faults ≤ after.write_faults
-
--- Each message was answered whole in its turn, and what came in the place of the next is that end, answered whole if it has an answer.
-pub record ComesTo (after : Told) (turns : List Turn) (left : List ℕ) (ending : Ending) (why : WireEnd) : Type 0 where
-  pub going_on : GoesOn (exchanges_of turns)
-  pub replies : AreWritten 0 turns
-  pub reads : ReadsEnd left ending.reads why after.left
-  pub writes : concat ending.writes ≡ refusal why
-  pub some : HaveBytes ending.writes
-
 -- The last reply was written in part, and nothing was read or written behind it.
 pub record LacksReply (turns : List Turn) (ending : Ending) : Type 0 where
   pub front : List Turn
@@ -58,15 +36,6 @@ pub record LacksReply (turns : List Turn) (ending : Ending) : Type 0 where
   pub missing : List ℕ
   pub whole : text_of (length front) last.exchange ≡ concat last.writes ++ missing
   pub nothing_else : ending ≡ no_ending
-
--- Each message was answered whole, and the reply to an end was written in part.
-pub record LacksRefusal (after : Told) (turns : List Turn) (left : List ℕ) (ending : Ending) : Type 0 where
-  pub why : WireEnd
-  pub going_on : GoesOn (exchanges_of turns)
-  pub replies : AreWritten 0 turns
-  pub reads : ReadsEnd left ending.reads why after.left
-  pub missing : List ℕ
-  pub whole : refusal why ≡ concat ending.writes ++ missing
 
 -- The last request said close, and nothing was read or written behind its reply.
 pub record IsClosed (turns : List Turn) (ending : Ending) : Type 0 where
@@ -91,48 +60,81 @@ pub record IsUnserved (before after : Told) (turns : List Turn) (ending : Ending
   pub no_turn : turns ≡ []
   pub nothing_else : ending ≡ no_ending
 
--- How a link ends after these turns, with that left behind the last message, and this ending.
-abbrev pub LinkEnds : Told → Told → List Turn → List ℕ → Ending → LinkEnd → Type 0
-LinkEnds before after turns left ending Ended = ComesTo after turns left ending wire.End
-LinkEnds before after turns left ending Closed = IsClosed turns ending
-LinkEnds before after turns left ending Budget = IsFull turns ending
-LinkEnds before after turns left ending (Refused why) = IsRefusal why × ComesTo after turns left ending why
--- each whole message before the fault was answered
-LinkEnds before after turns left ending ReadFault =
-    ComesTo after turns left ending wire.ReadFault × Rose before.read_faults after.read_faults
-LinkEnds before after turns left ending WriteFault =
-    (LacksReply turns ending ⊎ LacksRefusal after turns left ending) × Rose before.write_faults after.write_faults
-LinkEnds before after turns left ending Memory =
-    IsUnserved before after turns ending ⊎ ComesTo after turns left ending wire.Memory
+-- `body_limit` is the most bytes that a body may have.
+module _ (body_limit : ℕ) where
+  -- These turns were taken, and then came this ending: nothing else happened on the link.
+  pub record Served {D : Type 0} (allows : D → Message → ℕ → Reply → D → Type 0)
+      (start now : D) (before after : Told) (left : List ℕ) (turns : List Turn) (ending : Ending) : Type 0 where
+    pub trace : after.trace ≡ before.trace ++ events_of turns ending
+    -- each message was read in its own turn, and this is left behind the last
+    pub read : AreRead body_limit [] turns left
+    pub input : Consumes before.left after.left (bytes_of turns ending)
+    pub answered : Chain allows start (exchanges_of turns) now
+    -- a clock that was fixed gave that moment each time
+    pub fixed : IfSome before.fixed (λ at. AllByRecursion (λ e. e.moment ≡ at) (exchanges_of turns))
+    pub stays : after.fixed ≡ before.fixed
+    pub read_faults : before.read_faults ≤ after.read_faults
+    pub write_faults : before.write_faults ≤ after.write_faults
 
--- The most bytes that are read and are part of no answered message: those of a head, or, where a message was being read,
--- those of a message and of a head.
-abbrev pub rest_limit : LinkEnd → ℕ
-rest_limit Ended = HEAD_LIMIT
-rest_limit Closed = HEAD_LIMIT
-rest_limit Budget = HEAD_LIMIT
-rest_limit (Refused why) = end_limit why
-rest_limit ReadFault = end_limit wire.ReadFault
-rest_limit WriteFault = end_limit wire.Memory
-rest_limit Memory = end_limit wire.Memory
+  -- Each message was answered whole in its turn, and what came in the place of the next is that end, answered whole if it has an answer.
+  pub record ComesTo (after : Told) (turns : List Turn) (left : List ℕ) (ending : Ending) (why : WireEnd) : Type 0 where
+    pub going_on : GoesOn (exchanges_of turns)
+    pub replies : AreWritten 0 turns
+    pub reads : ReadsEnd body_limit left ending.reads why after.left
+    pub writes : concat ending.writes ≡ refusal why
+    pub some : HaveBytes ending.writes
 
--- What the bytes that were read tell: the answered messages, the rest behind them, and that the link ended as they say.
-pub record AgreesWithBytes (before : Told) (bytes rest : List ℕ) (exchanges : List Exchange) (end : LinkEnd) : Type 0 where
-  pub messages : HasMessages bytes (messages_of exchanges) rest
-  -- each message took a byte at least
-  pub taken : length exchanges + length rest ≤ length bytes
-  pub limit : length rest ≤ rest_limit end
-  pub by_bytes : EndsByInput bytes exchanges end
-  -- the same of the whole input, where the source knows what is left
-  pub by_input : IfSome before.left (λ input. EndsByInput input exchanges end)
+  -- Each message was answered whole, and the reply to an end was written in part.
+  pub record LacksRefusal (after : Told) (turns : List Turn) (left : List ℕ) (ending : Ending) : Type 0 where
+    pub why : WireEnd
+    pub going_on : GoesOn (exchanges_of turns)
+    pub replies : AreWritten 0 turns
+    pub reads : ReadsEnd body_limit left ending.reads why after.left
+    pub missing : List ℕ
+    pub whole : refusal why ≡ concat ending.writes ++ missing
 
--- What serving a link does, from its beginning to that end.
-pub record Serves {D : Type 0} (allows : D → Message → ℕ → Reply → D → Type 0)
-    (start now : D) (before after : Told) (end : LinkEnd) : Type 0 where
-  pub turns : List Turn
-  pub few : length turns ≤ REQUEST_LIMIT
-  pub left : List ℕ
-  pub ending : Ending
-  pub served : Served allows start now before after left turns ending
-  pub ends : LinkEnds before after turns left ending end
-  pub agrees : AgreesWithBytes before (bytes_of turns ending) (left ++ concat ending.reads) (exchanges_of turns) end
+  -- How a link ends after these turns, with that left behind the last message, and this ending.
+  abbrev pub LinkEnds : Told → Told → List Turn → List ℕ → Ending → LinkEnd → Type 0
+  LinkEnds before after turns left ending Ended = ComesTo after turns left ending wire.End
+  LinkEnds before after turns left ending Closed = IsClosed turns ending
+  LinkEnds before after turns left ending Budget = IsFull turns ending
+  LinkEnds before after turns left ending (Refused why) = IsRefusal why × ComesTo after turns left ending why
+  -- each whole message before the fault was answered
+  LinkEnds before after turns left ending ReadFault =
+      ComesTo after turns left ending wire.ReadFault × Rose before.read_faults after.read_faults
+  LinkEnds before after turns left ending WriteFault =
+      (LacksReply turns ending ⊎ LacksRefusal after turns left ending) × Rose before.write_faults after.write_faults
+  LinkEnds before after turns left ending Memory =
+      IsUnserved before after turns ending ⊎ ComesTo after turns left ending wire.Memory
+
+  -- The most bytes that are read and are part of no answered message: those of a head, or, where a message was being read,
+  -- those of a message and of a head.
+  abbrev pub rest_limit : LinkEnd → ℕ
+  rest_limit Ended = HEAD_LIMIT
+  rest_limit Closed = HEAD_LIMIT
+  rest_limit Budget = HEAD_LIMIT
+  rest_limit (Refused why) = end_limit body_limit why
+  rest_limit ReadFault = end_limit body_limit wire.ReadFault
+  rest_limit WriteFault = end_limit body_limit wire.Memory
+  rest_limit Memory = end_limit body_limit wire.Memory
+
+  -- What the bytes that were read tell: the answered messages, the rest behind them, and that the link ended as they say.
+  pub record AgreesWithBytes (before : Told) (bytes rest : List ℕ) (exchanges : List Exchange) (end : LinkEnd) : Type 0 where
+    pub messages : HasMessages body_limit bytes (messages_of exchanges) rest
+    -- each message took a byte at least
+    pub taken : length exchanges + length rest ≤ length bytes
+    pub limit : length rest ≤ rest_limit end
+    pub by_bytes : EndsByInput body_limit bytes exchanges end
+    -- the same of the whole input, where the source knows what is left
+    pub by_input : IfSome before.left (λ input. EndsByInput body_limit input exchanges end)
+
+  -- What serving a link does, from its beginning to that end.
+  pub record Serves {D : Type 0} (allows : D → Message → ℕ → Reply → D → Type 0)
+      (start now : D) (before after : Told) (end : LinkEnd) : Type 0 where
+    pub turns : List Turn
+    pub few : length turns ≤ REQUEST_LIMIT
+    pub left : List ℕ
+    pub ending : Ending
+    pub served : Served allows start now before after left turns ending
+    pub ends : LinkEnds before after turns left ending end
+    pub agrees : AgreesWithBytes before (bytes_of turns ending) (left ++ concat ending.reads) (exchanges_of turns) end

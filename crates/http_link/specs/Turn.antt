@@ -41,29 +41,6 @@ pub record Replies {D : Type 0} (allows : D → Message → ℕ → Reply → D 
   pub read_faults : after.read_faults ≡ before.read_faults
   pub write_faults : before.write_faults ≤ after.write_faults
 
--- A message was read and answered.
-pub record Step {D : Type 0} (allows : D → Message → ℕ → Reply → D → Type 0)
-    (old new : D) (before after : Told) (kept left : List ℕ) (count : ℕ) (result : Result (Unit {0}) Failed)
-    : Type 0 where
-  pub turn : Turn
-  pub reads : ReadsTurn kept turn left
-  pub trace : after.trace ≡ before.trace ++ events_of_turn turn
-  pub input : Consumes before.left after.left (concat turn.reads)
-  pub allowed : allows old turn.exchange.message turn.exchange.moment turn.exchange.answer new
-  pub fixed : IfSome before.fixed (λ at. turn.exchange.moment ≡ at)
-  pub stays : after.fixed ≡ before.fixed
-  pub sends : Sends turn.writes (text_of count turn.exchange) result
-  pub read_faults : before.read_faults ≤ after.read_faults
-  pub write_faults : before.write_faults ≤ after.write_faults
-
--- What came in the place of a message was an end, and the desk wasn't asked.
-pub record Stop {D : Type 0} (old new : D) (before read : Told) (kept : List ℕ) (why : WireEnd) : Type 0 where
-  pub pieces : List (List ℕ)
-  pub taken : Taken before read pieces
-  pub reads : ReadsEnd kept pieces why read.left
-  pub fault : why ≡ ReadFault → Rose before.read_faults read.read_faults
-  pub unasked : new ≡ old
-
 -- The reply to an end was written, or a fault came.
 abbrev pub Refuses : Told → Told → WireEnd → LinkEnd → Type 0
 Refuses read after why end =
@@ -75,10 +52,35 @@ abbrev pub next_after : Message → Result (Unit {0}) Failed → Next
 next_after message (Ok done) = if message.close then Over ends.Closed else GoesOn
 next_after message (Err fault) = Over ends.WriteFault
 
--- What one turn does.
-abbrev pub TakesTurn : {D : Type 0} → (D → Message → ℕ → Reply → D → Type 0) → D → D → Told → Told → List ℕ → List ℕ → ℕ → Next → Type 0
-TakesTurn allows old new before after kept left count next =
-    ((result : Result (Unit {0}) Failed) × (s : Step allows old new before after kept left count result)
-    × (next ≡ next_after s.turn.exchange.message result) × (IsErr result → Rose before.write_faults after.write_faults))
-    ⊎ ((read : Told) × (why : WireEnd) × (end : LinkEnd) × Stop old new before read kept why
-    × Refuses read after why end × (next ≡ Over end))
+-- `body_limit` is the most bytes that a body may have.
+module _ (body_limit : ℕ) where
+  -- A message was read and answered.
+  pub record Step {D : Type 0} (allows : D → Message → ℕ → Reply → D → Type 0)
+      (old new : D) (before after : Told) (kept left : List ℕ) (count : ℕ) (result : Result (Unit {0}) Failed)
+      : Type 0 where
+    pub turn : Turn
+    pub reads : ReadsTurn body_limit kept turn left
+    pub trace : after.trace ≡ before.trace ++ events_of_turn turn
+    pub input : Consumes before.left after.left (concat turn.reads)
+    pub allowed : allows old turn.exchange.message turn.exchange.moment turn.exchange.answer new
+    pub fixed : IfSome before.fixed (λ at. turn.exchange.moment ≡ at)
+    pub stays : after.fixed ≡ before.fixed
+    pub sends : Sends turn.writes (text_of count turn.exchange) result
+    pub read_faults : before.read_faults ≤ after.read_faults
+    pub write_faults : before.write_faults ≤ after.write_faults
+
+  -- What came in the place of a message was an end, and the desk wasn't asked.
+  pub record Stop {D : Type 0} (old new : D) (before read : Told) (kept : List ℕ) (why : WireEnd) : Type 0 where
+    pub pieces : List (List ℕ)
+    pub taken : Taken before read pieces
+    pub reads : ReadsEnd body_limit kept pieces why read.left
+    pub fault : why ≡ ReadFault → Rose before.read_faults read.read_faults
+    pub unasked : new ≡ old
+
+  -- What one turn does.
+  abbrev pub TakesTurn : {D : Type 0} → (D → Message → ℕ → Reply → D → Type 0) → D → D → Told → Told → List ℕ → List ℕ → ℕ → Next → Type 0
+  TakesTurn allows old new before after kept left count next =
+      ((result : Result (Unit {0}) Failed) × (s : Step allows old new before after kept left count result)
+      × (next ≡ next_after s.turn.exchange.message result) × (IsErr result → Rose before.write_faults after.write_faults))
+      ⊎ ((read : Told) × (why : WireEnd) × (end : LinkEnd) × Stop old new before read kept why
+      × Refuses read after why end × (next ≡ Over end))

@@ -5,7 +5,7 @@ use Rattle.osm_base.specs.declared.limits.TheConstants.{HEAD_LIMIT}
 use Rattle.osm_outside.specs.Event.{Event, Gave, Took, Answered}
 use Rattle.http_wire.specs.declared.end.WireEnd.{WireEnd}
 use Rattle.http_wire.specs.Received.{HaveBytes, AgreesWithInput}
-use Rattle.http_wire.specs.Message.{BeginsWith}
+use Rattle.http_wire.specs.Message.{BeginsWithin}
 use Rattle.http_wire.specs.End.{EndsAs}
 use Rattle.http_wire.specs.Wire.{AreNeeded, end_limit}
 use Rattle.http_link.specs.Exchange.{Exchange, text_of}
@@ -42,27 +42,29 @@ abbrev pub bytes_of : List Turn → Ending → List ℕ
 bytes_of [] ending = concat ending.reads
 bytes_of (turn ∷ turns) ending = concat turn.reads ++ bytes_of turns ending
 
--- What was kept and what the reads gave, joined, begins with the message, and at most a head's limit of bytes is left
--- behind it. Nothing was read once the message was whole.
-pub record ReadsTurn (kept : List ℕ) (turn : Turn) (left : List ℕ) : Type 0 where
-  pub needed : AreNeeded kept turn.reads
-  pub some : HaveBytes turn.reads
-  pub begins : BeginsWith (kept ++ concat turn.reads) turn.exchange.message left
-  pub limit : length left ≤ HEAD_LIMIT
-
--- Each turn reads its message behind what the turn before it left.
-abbrev pub AreRead : List ℕ → List Turn → List ℕ → Type 0
-AreRead kept [] left = left ≡ kept
-AreRead kept (turn ∷ turns) left = (behind : List ℕ) × ReadsTurn kept turn behind × AreRead behind turns left
-
--- What was kept and what the reads gave, joined, comes to that end, and nothing was read once it was told.
-pub record ReadsEnd (kept : List ℕ) (reads : List (List ℕ)) (why : WireEnd) (left : Option (List ℕ)) : Type 0 where
-  pub needed : AreNeeded kept reads
-  pub agrees : AgreesWithInput why reads left
-  pub limit : length (kept ++ concat reads) ≤ end_limit why
-  pub ends : EndsAs (kept ++ concat reads) why
-
 -- Each reply was written whole in its own turn. Before the first turn so many requests were answered.
 abbrev pub AreWritten : ℕ → List Turn → Type 0
 AreWritten count [] = ⊤
 AreWritten count (turn ∷ turns) = (concat turn.writes ≡ text_of count turn.exchange) × AreWritten (count + 1) turns
+
+-- `body_limit` is the most bytes that a body may have.
+module _ (body_limit : ℕ) where
+  -- What was kept and what the reads gave, joined, begins with the message, and at most a head's limit of bytes is left
+  -- behind it. Nothing was read once the message was whole.
+  pub record ReadsTurn (kept : List ℕ) (turn : Turn) (left : List ℕ) : Type 0 where
+    pub needed : AreNeeded body_limit kept turn.reads
+    pub some : HaveBytes turn.reads
+    pub begins : BeginsWithin body_limit (kept ++ concat turn.reads) turn.exchange.message left
+    pub limit : length left ≤ HEAD_LIMIT
+
+  -- Each turn reads its message behind what the turn before it left.
+  abbrev pub AreRead : List ℕ → List Turn → List ℕ → Type 0
+  AreRead kept [] left = left ≡ kept
+  AreRead kept (turn ∷ turns) left = (behind : List ℕ) × ReadsTurn kept turn behind × AreRead behind turns left
+
+  -- What was kept and what the reads gave, joined, comes to that end, and nothing was read once it was told.
+  pub record ReadsEnd (kept : List ℕ) (reads : List (List ℕ)) (why : WireEnd) (left : Option (List ℕ)) : Type 0 where
+    pub needed : AreNeeded body_limit kept reads
+    pub agrees : AgreesWithInput why reads left
+    pub limit : length (kept ++ concat reads) ≤ end_limit body_limit why
+    pub ends : EndsAs body_limit (kept ++ concat reads) why

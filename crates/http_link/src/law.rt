@@ -16,10 +16,10 @@ use http_wire::{
 
 /// The bytes that were read tell which messages are answered and how a link ends.
 pub fn bytes_tell_the_end()
-    ensures { (before after : Told) (turns : List Turn) (left : List ℕ) (ending : Ending) (end : LinkEnd)
-        → AreRead [] turns left → Consumes before.left after.left (bytes_of turns ending)
-        → LinkEnds before after turns left ending end
-        → AgreesWithBytes before (bytes_of turns ending) (left ++ concat ending.reads) (exchanges_of turns) end }
+    ensures { (body_limit : ℕ) (before after : Told) (turns : List Turn) (left : List ℕ) (ending : Ending) (end : LinkEnd)
+        → AreRead body_limit [] turns left → Consumes before.left after.left (bytes_of turns ending)
+        → LinkEnds body_limit before after turns left ending end
+        → AgreesWithBytes body_limit before (bytes_of turns ending) (left ++ concat ending.reads) (exchanges_of turns) end }
 {
     one_message();
     no_empty_message();
@@ -33,17 +33,17 @@ pub fn bytes_tell_the_end()
 /// Whenever something is read, each whole message before it was answered whole, and none of them ends the link: so nothing is
 /// read after a close, after the last request that is answered, or after an answered end.
 pub fn replies_come_before_reads()
-    ensures { (before after : Told) (turns : List Turn) (left : List ℕ) (ending : Ending) (end : LinkEnd)
-        (front behind : List Event) (piece : List ℕ) → AreRead [] turns left
-        → LinkEnds before after turns left ending end → events_of turns ending ≡ front ++ (Gave piece ∷ behind)
-        → HasAnswered (exchanges_of turns) front }
+    ensures { (body_limit : ℕ) (before after : Told) (turns : List Turn) (left : List ℕ) (ending : Ending) (end : LinkEnd)
+        (front behind : List Event) (piece : List ℕ) → AreRead body_limit [] turns left
+        → LinkEnds body_limit before after turns left ending end → events_of turns ending ≡ front ++ (Gave piece ∷ behind)
+        → HasAnswered body_limit (exchanges_of turns) front }
 {}
 
 /// Whenever the clock is read, the next message is whole and each before it was answered whole: the clock is read between a
 /// message's last byte and its reply.
 pub fn clock_is_read_between()
-    ensures { (before after : Told) (turns : List Turn) (left : List ℕ) (ending : Ending) (end : LinkEnd)
-        (front behind : List Event) (moment : ℕ) → AreRead [] turns left
-        → LinkEnds before after turns left ending end → events_of turns ending ≡ front ++ (Answered moment ∷ behind)
-        → HasNext (exchanges_of turns) front moment }
+    ensures { (body_limit : ℕ) (before after : Told) (turns : List Turn) (left : List ℕ) (ending : Ending) (end : LinkEnd)
+        (front behind : List Event) (moment : ℕ) → AreRead body_limit [] turns left
+        → LinkEnds body_limit before after turns left ending end → events_of turns ending ≡ front ++ (Answered moment ∷ behind)
+        → HasNext body_limit (exchanges_of turns) front moment }
 {}

@@ -14,13 +14,18 @@ use osm_outside::{Link, Outside};
 use std::alloc::Global;
 
 /// Answers the messages of a link one after another, until it ends. For each the clock is read once, after its last byte and
-/// before its reply, and nothing more is read before that reply is written.
-pub fn serve_desk<D: Desk, L: Link>(alloc: Global, desk: &mut D, link: &mut L) -> LinkEnd
-    ensures { Serves D.allows desk.old desk.new (L.told link.old) (L.told link.new) result }
+/// before its reply, and nothing more is read before that reply is written. A message's body may have so many bytes.
+pub fn serve_desk<D: Desk, L: Link>(
+    alloc: Global,
+    desk: &mut D,
+    link: &mut L,
+    body_limit: usize,
+) -> LinkEnd
+    ensures { Serves body_limit D.allows desk.old desk.new (L.told link.old) (L.told link.new) result }
 {
     // What the turns tell of the bytes is the same for every end.
     bytes_tell_the_end();
-    let Ok(mut wire) = Wire::new(alloc) else {
+    let Ok(mut wire) = Wire::new(alloc, body_limit) else {
         return LinkEnd::Memory;
     };
     'requests: for count in 0..REQUEST_LIMIT {

@@ -126,9 +126,10 @@ pub fn take_turn<D: Desk, L: Link>(
 ) -> Next
     requires few { count < REQUEST_LIMIT }
     requires going_on { IsFalse wire.old.ended }
-    ensures turn { TakesTurn D.allows desk.old desk.new (L.told link.old) (L.told link.new)
+    ensures turn { TakesTurn wire.old.body_limit D.allows desk.old desk.new (L.told link.old) (L.told link.new)
         wire.old.kept wire.new.kept count result }
     ensures going_on { result ≡ Next.GoesOn → IsFalse wire.new.ended }
+    ensures body_limit { wire.new.body_limit ≡ wire.old.body_limit }
 {
     match wire.read_message(alloc, link) {
         Ok(message) => {

@@ -2,7 +2,7 @@
 use Rattle.std.proofs.Common.{◌≡◌, ℕ, zero, suc, ◌+◌, ◌-◌, ◌<◌, ◌≤◌, ◌⊎◌, inl, inr, Bool, true, false, not, List, [], ◌∷◌, length, take, drop, slice_index, codes, Option, Some, None, is_some, refl, sym, subst, ◌∙◌, arith, append-nil, take-append-drop, length-take, take_all, length-take-le}
 use Rattle.std.proofs.lemmas.Bool.{cases_lt, false≢true}
 use Rattle.httparse.specs.Grammar.{RequestHead}
-use Rattle.osm_base.specs.declared.limits.TheConstants.{HEAD_LIMIT, BODY_LIMIT}
+use Rattle.osm_base.specs.declared.limits.TheConstants.{HEAD_LIMIT}
 use Rattle.http_wire.specs.declared.end.WireEnd.{WireEnd}
 use Rattle.http_wire.specs.declared.end.WireEnd.TheVariants.{End, Truncated, BadHead, HeadLong, BadLength, BodyLong, Coded}
 use Rattle.http_wire.specs.declared.head.Head.{Head}
@@ -13,7 +13,7 @@ use Rattle.http_wire.specs.Fields.{first_value}
 use Rattle.http_wire.specs.Length.{body_length}
 use Rattle.http_wire.specs.Head.{IsHeadOf, IsPlain, ReadsHead, RefusesHead, RefusesBlock, fields_of}
 use Rattle.http_wire.specs.End.{EndsAs, IsTold}
-use Rattle.http_wire.specs.Message.{message_of, BeginsWith, AreMessages}
+use Rattle.http_wire.specs.Message.{message_of, BeginsWithin, AreMessages}
 use Rattle.http_wire.proofs.BlockLemmas.{IsBlockAt-append, HasNoBlock-from_search}
 use Rattle.http_wire.proofs.EndLemmas.{HasBlock, block_of, BeginsWith-shorter}
 use Rattle.http_wire.proofs.HeadLemmas.{head_decided}
@@ -88,131 +88,133 @@ block_or_none bytes = by_begin (first_other (λ at. is_line_byte (slice_index by
         (record { skipped = λ at low. found.before at (omega arith) low; begun = found.other; within = omega arith })
         (first_other (ends_empty_line bytes) false place (length bytes - place))
 
--- the bytes come to an end that they tell
-abbrev HasEnd : List ℕ → Type 0
-HasEnd bytes = (e : WireEnd) × IsTold e × EndsAs bytes e
+-- `body_limit` is the most bytes that a body may have.
+module _ (body_limit : ℕ) where
+  -- the bytes come to an end that they tell
+  abbrev HasEnd : List ℕ → Type 0
+  HasEnd bytes = (e : WireEnd) × IsTold e × EndsAs body_limit bytes e
 
--- a whole block stands at the front of the bytes, or they end without one
-block_or_end : (bytes : List ℕ) → HasBlock bytes ⊎ HasEnd bytes
-block_or_end bytes = by_block (block_or_none (take HEAD_LIMIT bytes))
-  where
-    by_length : HasNoBlock (take HEAD_LIMIT bytes) → (length bytes < HEAD_LIMIT) ⊎ (HEAD_LIMIT ≤ length bytes) → HasEnd bytes
-    by_length none (inl short) = by_kind (subst HasNoBlock (take_all HEAD_LIMIT bytes (omega arith)) none)
-      where
-        by_kind : HasNoBlock bytes → HasEnd bytes
-        by_kind (inl blank) = (End, tt, (blank, short))
-        by_kind (inr begun) = (Truncated, tt, inl (begun, short))
-    by_length none (inr long) = (HeadLong, tt, (long, none))
+  -- a whole block stands at the front of the bytes, or they end without one
+  block_or_end : (bytes : List ℕ) → HasBlock bytes ⊎ HasEnd bytes
+  block_or_end bytes = by_block (block_or_none (take HEAD_LIMIT bytes))
+    where
+      by_length : HasNoBlock (take HEAD_LIMIT bytes) → (length bytes < HEAD_LIMIT) ⊎ (HEAD_LIMIT ≤ length bytes) → HasEnd bytes
+      by_length none (inl short) = by_kind (subst HasNoBlock (take_all HEAD_LIMIT bytes (omega arith)) none)
+        where
+          by_kind : HasNoBlock bytes → HasEnd bytes
+          by_kind (inl blank) = (End, tt, (blank, short))
+          by_kind (inr begun) = (Truncated, tt, inl (begun, short))
+      by_length none (inr long) = (HeadLong, tt, (long, none))
 
-    by_block : BlockOrNone (take HEAD_LIMIT bytes) → HasBlock bytes ⊎ HasEnd bytes
-    by_block (inl (begin, end, block)) =
-        inl (record {
-          begin = begin;
-          end = end;
-          block =
-              subst (λ (l : List ℕ). IsBlockAt l begin end) (take-append-drop HEAD_LIMIT bytes)
-              (IsBlockAt-append (take HEAD_LIMIT bytes) (drop HEAD_LIMIT bytes) begin end block);
-          limit = omega (arith, block.within, length-take HEAD_LIMIT bytes);
-        })
-    by_block (inr none) = inr (by_length none (cases_lt (length bytes) HEAD_LIMIT))
+      by_block : BlockOrNone (take HEAD_LIMIT bytes) → HasBlock bytes ⊎ HasEnd bytes
+      by_block (inl (begin, end, block)) =
+          inl (record {
+            begin = begin;
+            end = end;
+            block =
+                subst (λ (l : List ℕ). IsBlockAt l begin end) (take-append-drop HEAD_LIMIT bytes)
+                (IsBlockAt-append (take HEAD_LIMIT bytes) (drop HEAD_LIMIT bytes) begin end block);
+            limit = omega (arith, block.within, length-take HEAD_LIMIT bytes);
+          })
+      by_block (inr none) = inr (by_length none (cases_lt (length bytes) HEAD_LIMIT))
 
--- ---- what stands behind the search
+  -- ---- what stands behind the search
 
--- the bytes begin with a message, or come to an end
-abbrev MessageOrEnd : List ℕ → Type 0
-MessageOrEnd bytes = ((m : Message) × (rest : List ℕ) × BeginsWith bytes m rest) ⊎ HasEnd bytes
+  -- the bytes begin with a message, or come to an end
+  abbrev MessageOrEnd : List ℕ → Type 0
+  MessageOrEnd bytes = ((m : Message) × (rest : List ℕ) × BeginsWithin body_limit bytes m rest) ⊎ HasEnd bytes
 
--- what a message needs of a head, with a body of n bytes
-abbrev kept_of : RequestHead → ℕ → Head
-kept_of head n = record {
-  method = head.method;
-  target = head.target;
-  close = ends_link head.minor (fields_of head);
-  authorization = first_value (codes "authorization") (fields_of head);
-  media = first_value (codes "content-type") (fields_of head);
-  length = n;
-}
+  -- what a message needs of a head, with a body of n bytes
+  abbrev kept_of : RequestHead → ℕ → Head
+  kept_of head n = record {
+    method = head.method;
+    target = head.target;
+    close = ends_link head.minor (fields_of head);
+    authorization = first_value (codes "authorization") (fields_of head);
+    media = first_value (codes "content-type") (fields_of head);
+    length = n;
+  }
 
-module _ (bytes : List ℕ) (w : HasBlock bytes) where
-  refused : (e : WireEnd) → RefusesHead (block_of bytes w) e → RefusesBlock bytes e
-  refused e r = record { begin = w.begin; end = w.end; block = w.block; limit = w.limit; refused = r }
+  module _ (bytes : List ℕ) (w : HasBlock bytes) where
+    refused : (e : WireEnd) → RefusesHead body_limit (block_of bytes w) e → RefusesBlock body_limit bytes e
+    refused e r = record { begin = w.begin; end = w.end; block = w.block; limit = w.limit; refused = r }
 
-  -- the body is whole, or it isn't
-  by_body : (kept : Head) → ReadsHead (block_of bytes w) kept
-      → (length (drop w.end bytes) < kept.length) ⊎ (kept.length ≤ length (drop w.end bytes)) → MessageOrEnd bytes
-  by_body kept head (inl short) =
-      inr (
-        Truncated,
-        tt,
-        inr (record { begin = w.begin; end = w.end; block = w.block; limit = w.limit; kept = kept; head = head; short = short }),
-      )
-  by_body kept head (inr enough) =
-      let behind = drop w.end bytes in
-      let body = take kept.length behind in
-      let after = drop kept.length behind in
-      inl (
-        message_of kept body,
-        after,
-        subst (λ (l : List ℕ). BeginsWith l (message_of kept body) after) (append-nil bytes)
-            (BeginsWith-from_parts bytes [] body after w.begin w.end kept w.block w.limit head
-            (append-nil behind ∙ sym (take-append-drop kept.length behind)) (length-take-le kept.length behind enough)),
-      )
+    -- the body is whole, or it isn't
+    by_body : (kept : Head) → ReadsHead body_limit (block_of bytes w) kept
+        → (length (drop w.end bytes) < kept.length) ⊎ (kept.length ≤ length (drop w.end bytes)) → MessageOrEnd bytes
+    by_body kept head (inl short) =
+        inr (
+          Truncated,
+          tt,
+          inr (record { begin = w.begin; end = w.end; block = w.block; limit = w.limit; kept = kept; head = head; short = short }),
+        )
+    by_body kept head (inr enough) =
+        let behind = drop w.end bytes in
+        let body = take kept.length behind in
+        let after = drop kept.length behind in
+        inl (
+          message_of kept body,
+          after,
+          subst (λ (l : List ℕ). BeginsWithin body_limit l (message_of kept body) after) (append-nil bytes)
+              (BeginsWith-from_parts body_limit bytes [] body after w.begin w.end kept w.block w.limit head
+              (append-nil behind ∙ sym (take-append-drop kept.length behind)) (length-take-le kept.length behind enough)),
+        )
 
-  module _ (head : RequestHead) (whole : IsHeadOf (block_of bytes w) head) where
-    by_limit : IsPlain head → (n : ℕ) → body_length (fields_of head) ≡ Some n → (BODY_LIMIT < n) ⊎ (n ≤ BODY_LIMIT) → MessageOrEnd bytes
-    by_limit plain n size (inl many) = inr (BodyLong, tt, refused BodyLong (head, whole, plain, rw size many))
-    by_limit plain n size (inr fits) =
-        let kept = kept_of head n in
-        let reads : ReadsHead (block_of bytes w) kept = record {
-          head = head;
-          whole = whole;
-          plain = plain;
-          length = size;
-          fits = fits;
-          method = refl;
-          target = refl;
-          close = refl;
-          authorization = refl;
-          media = refl;
-        } in
-        by_body kept reads (cases_lt (length (drop w.end bytes)) n)
+    module _ (head : RequestHead) (whole : IsHeadOf (block_of bytes w) head) where
+      by_limit : IsPlain head → (n : ℕ) → body_length (fields_of head) ≡ Some n → (body_limit < n) ⊎ (n ≤ body_limit) → MessageOrEnd bytes
+      by_limit plain n size (inl many) = inr (BodyLong, tt, refused BodyLong (head, whole, plain, rw size many))
+      by_limit plain n size (inr fits) =
+          let kept = kept_of head n in
+          let reads : ReadsHead body_limit (block_of bytes w) kept = record {
+            head = head;
+            whole = whole;
+            plain = plain;
+            length = size;
+            fits = fits;
+            method = refl;
+            target = refl;
+            close = refl;
+            authorization = refl;
+            media = refl;
+          } in
+          by_body kept reads (cases_lt (length (drop w.end bytes)) n)
 
-    by_length : IsPlain head → (size : Option ℕ) → body_length (fields_of head) ≡ size → MessageOrEnd bytes
-    by_length plain None none = inr (BadLength, tt, refused BadLength (head, whole, plain, rw none refl))
-    by_length plain (Some n) size = by_limit plain n size (cases_lt BODY_LIMIT n)
+      by_length : IsPlain head → (size : Option ℕ) → body_length (fields_of head) ≡ size → MessageOrEnd bytes
+      by_length plain None none = inr (BadLength, tt, refused BadLength (head, whole, plain, rw none refl))
+      by_length plain (Some n) size = by_limit plain n size (cases_lt body_limit n)
 
-    by_coding : (coded : Bool) → is_some (first_value (codes "transfer-encoding") (fields_of head)) ≡ coded → MessageOrEnd bytes
-    by_coding true coded = inr (Coded, tt, refused Coded (head, whole, λ plain. false≢true (sym plain ∙ coded)))
-    by_coding false plain = by_length plain (body_length (fields_of head)) refl
+      by_coding : (coded : Bool) → is_some (first_value (codes "transfer-encoding") (fields_of head)) ≡ coded → MessageOrEnd bytes
+      by_coding true coded = inr (Coded, tt, refused Coded (head, whole, λ plain. false≢true (sym plain ∙ coded)))
+      by_coding false plain = by_length plain (body_length (fields_of head)) refl
 
-  by_head : Dec ((head : RequestHead) × IsHeadOf (block_of bytes w) head) → MessageOrEnd bytes
-  by_head (yes (head, whole)) = by_coding head whole (is_some (first_value (codes "transfer-encoding") (fields_of head))) refl
-  by_head (no none) = inr (BadHead, tt, refused BadHead (λ head whole. none (head, whole)))
+    by_head : Dec ((head : RequestHead) × IsHeadOf (block_of bytes w) head) → MessageOrEnd bytes
+    by_head (yes (head, whole)) = by_coding head whole (is_some (first_value (codes "transfer-encoding") (fields_of head))) refl
+    by_head (no none) = inr (BadHead, tt, refused BadHead (λ head whole. none (head, whole)))
 
-message_or_end : (bytes : List ℕ) → MessageOrEnd bytes
-message_or_end bytes = by (block_or_end bytes)
-  where
-    by : HasBlock bytes ⊎ HasEnd bytes → MessageOrEnd bytes
-    by (inl w) = by_head bytes w (head_decided (block_of bytes w))
-    by (inr ends) = inr ends
+  message_or_end : (bytes : List ℕ) → MessageOrEnd bytes
+  message_or_end bytes = by (block_or_end bytes)
+    where
+      by : HasBlock bytes ⊎ HasEnd bytes → MessageOrEnd bytes
+      by (inl w) = by_head bytes w (head_decided (block_of bytes w))
+      by (inr ends) = inr ends
 
--- ---- the messages, and the end behind them
+  -- ---- the messages, and the end behind them
 
-abbrev HasReading : List ℕ → Type 0
-HasReading bytes = (messages : List Message) × (e : WireEnd) × IsTold e × AreMessages bytes messages e
+  abbrev HasReading : List ℕ → Type 0
+  HasReading bytes = (messages : List Message) × (e : WireEnd) × IsTold e × AreMessages body_limit bytes messages e
 
--- by the length, since what follows a message is shorter
-reading_within : (n : ℕ) (bytes : List ℕ) → length bytes < n → HasReading bytes
-reading_within zero bytes below = absurd (omega arith)
-reading_within (suc n) bytes below = by (message_or_end bytes) (λ rest shorter. reading_within n rest (omega arith))
-  where
-    with_message : (m : Message) (rest : List ℕ) → BeginsWith bytes m rest → HasReading rest → HasReading bytes
-    with_message m rest begins (messages, e, told, (last, more, ends)) = (m ∷ messages, e, told, (last, (rest, begins, more), ends))
+  -- by the length, since what follows a message is shorter
+  reading_within : (n : ℕ) (bytes : List ℕ) → length bytes < n → HasReading bytes
+  reading_within zero bytes below = absurd (omega arith)
+  reading_within (suc n) bytes below = by (message_or_end bytes) (λ rest shorter. reading_within n rest (omega arith))
+    where
+      with_message : (m : Message) (rest : List ℕ) → BeginsWithin body_limit bytes m rest → HasReading rest → HasReading bytes
+      with_message m rest begins (messages, e, told, (last, more, ends)) = (m ∷ messages, e, told, (last, (rest, begins, more), ends))
 
-    by : MessageOrEnd bytes → ((rest : List ℕ) → length rest < length bytes → HasReading rest) → HasReading bytes
-    by (inl (m, rest, begins)) behind =
-        with_message m rest begins (behind rest (BeginsWith-shorter bytes rest m begins))
-    by (inr (e, told, ends)) behind = ([], e, told, (bytes, refl, ends))
+      by : MessageOrEnd bytes → ((rest : List ℕ) → length rest < length bytes → HasReading rest) → HasReading bytes
+      by (inl (m, rest, begins)) behind =
+          with_message m rest begins (behind rest (BeginsWith-shorter body_limit bytes rest m begins))
+      by (inr (e, told, ends)) behind = ([], e, told, (bytes, refl, ends))
 
-pub some_reading : (bytes : List ℕ) → HasReading bytes
-some_reading bytes = reading_within (suc (length bytes)) bytes (omega arith)
+  pub some_reading : (bytes : List ℕ) → HasReading bytes
+  some_reading bytes = reading_within (suc (length bytes)) bytes (omega arith)

@@ -16,7 +16,7 @@ pub enum WireEnd {
     HeadLong,
     /// The Content-Length fields aren't digits that all write one number.
     BadLength,
-    /// The body has more than `BODY_LIMIT` bytes.
+    /// The body has more bytes than the wire's limit.
     BodyLong,
     /// The head has a Transfer-Encoding field, and no coding is read.
     Coded,

@@ -11,7 +11,7 @@ use crate::fields::first_value;
 use crate::length::body_length;
 use httparse::Status;
 use httparse::spans::{EMPTY_HEADER_SPAN, HeaderSpan, RequestSpans, parse_request};
-use osm_base::{BODY_LIMIT, Bytes, FIELD_LIMIT, Memory};
+use osm_base::{Bytes, FIELD_LIMIT, Memory};
 use std::alloc::Global;
 
 /// What a message needs of its head.
@@ -52,10 +52,10 @@ fn copied(alloc: Global, value: Option<&[u8]>) -> Result<Option<Bytes>, Memory>
     }
 }
 
-/// What a message needs of its head block.
-pub fn read_head(alloc: Global, block: &[u8]) -> Result<Head, WireEnd>
-    ensures ok { IfOk result (ReadsHead block.now) }
-    ensures err { IfErr result (RefusesHead block.now) }
+/// What a message needs of its head block, where a body may have so many bytes.
+pub fn read_head(alloc: Global, block: &[u8], body_limit: usize) -> Result<Head, WireEnd>
+    ensures ok { IfOk result (ReadsHead body_limit block.now) }
+    ensures err { IfErr result (RefusesHead body_limit block.now) }
 {
     let mut spans = [EMPTY_HEADER_SPAN; FIELD_LIMIT];
     let Some(found) = parse_block(block, &mut spans) else {
@@ -65,10 +65,10 @@ pub fn read_head(alloc: Global, block: &[u8]) -> Result<Head, WireEnd>
     if first_value(block, headers, b"transfer-encoding").is_some() {
         return Err(WireEnd::Coded);
     }
-    let Some(length) = body_length(block, headers) else {
+    let Some(length) = body_length(block, headers, body_limit) else {
         return Err(WireEnd::BadLength);
     };
-    if length > BODY_LIMIT {
+    if length > body_limit as u128 {
         return Err(WireEnd::BodyLong);
     }
     let authorization = first_value(block, headers, b"authorization");
@@ -79,6 +79,6 @@ pub fn read_head(alloc: Global, block: &[u8]) -> Result<Head, WireEnd>
         close: ends_link(found.version, block, headers),
         authorization: copied(alloc, authorization)?,
         media: copied(alloc, media)?,
-        length,
+        length: length as usize,
     })
 }

@@ -7,13 +7,11 @@ ghost use Rattle.std.specs.Char.{is_ascii_digit};
 ghost use Rattle.std.specs.List.{list_all};
 ghost use Rattle.std.specs.Str.Parse.{digits_value};
 ghost use Rattle.httparse.specs.Spans.{IsHeaderWithin, header_bytes};
-ghost use Rattle.osm_base.specs.declared.limits.TheConstants.{BODY_LIMIT};
 ghost use Rattle.http_wire.specs.Fields.{values_of};
 ghost use Rattle.http_wire.specs.Length.{is_numeral, writes_number, body_length, without_zeros};
 
 use crate::fields::{first_value, is_named};
 use httparse::spans::HeaderSpan;
-use osm_base::BODY_LIMIT;
 
 /// Whether a text is digits alone, at least one.
 fn is_numeral(text: &[u8]) -> bool
@@ -47,13 +45,14 @@ fn writes_same(text: &[u8], digits: &[u8]) -> bool
 }
 
 /// The number of the digits, or the limit of a body and one, if that is less.
-fn capped_number(digits: &[u8]) -> usize
+fn capped_number(digits: &[u8], body_limit: usize) -> u128
     requires { IsTrue (list_all is_ascii_digit digits.now) }
-    ensures { result ≡ min (digits_value 10 digits.now) (BODY_LIMIT + 1) }
+    ensures { result ≡ min (digits_value 10 digits.now) (body_limit + 1) }
 {
+    let cap = body_limit as u128 + 1;
     let mut number = 0;
     for digit in digits {
-        number = (number * 10 + usize::from(*digit - b'0')).min(BODY_LIMIT + 1);
+        number = (number * 10 + u128::from(*digit - b'0')).min(cap);
     }
     number
 }
@@ -74,16 +73,16 @@ fn all_write_same(block: &[u8], headers: &[HeaderSpan], name: &[u8], digits: &[u
 }
 
 /// The length that the Content-Length fields give the body, or the limit of a body and one, if that is less.
-pub fn body_length(block: &[u8], headers: &[HeaderSpan]) -> Option<usize>
+pub fn body_length(block: &[u8], headers: &[HeaderSpan], body_limit: usize) -> Option<u128>
     requires { All (IsHeaderWithin (length block.now)) headers.now }
-    ensures { result ≡ option_map (λ n. min n (BODY_LIMIT + 1)) (body_length (map (header_bytes block.now) headers.now)) }
+    ensures { result ≡ option_map (λ n. min n (body_limit + 1)) (body_length (map (header_bytes block.now) headers.now)) }
 {
     let name = b"content-length";
     match first_value(block, headers, name) {
         None => Some(0),
         Some(digits) => {
             if is_numeral(digits) && all_write_same(block, headers, name, digits) {
-                Some(capped_number(digits))
+                Some(capped_number(digits, body_limit))
             } else {
                 None
             }

@@ -50,18 +50,23 @@ fn message_of(head: Head, body: Bytes) -> Message
     }
 }
 
-/// Reads the message that the bytes begin with.
+/// Reads the message that the bytes begin with, where a body may have so many bytes.
 pub fn read_next<S: Source>(
     buffer: &mut Buffer,
     alloc: Global,
     source: &mut S,
+    body_limit: usize,
 ) -> Result<Message, WireEnd>
-    ensures reads { Reads (S.told source.old) (S.told source.new) buffer.old result buffer.new }
+    ensures reads { Reads body_limit (S.told source.old) (S.told source.new) buffer.old result buffer.new }
     ensures fault { IsErrOf result WireEnd.ReadFault
         → Rose (S.told source.old).read_faults (S.told source.new).read_faults }
 {
     let block = read_block(buffer, source)?;
-    let head = read_head(alloc, &buffer.as_slice()[block.begin..block.end])?;
+    let head = read_head(
+        alloc,
+        &buffer.as_slice()[block.begin..block.end],
+        body_limit,
+    )?;
     buffer.drop_front(block.end);
     let body = read_body(buffer, alloc, source, head.length)?;
     Ok(message_of(head, body))

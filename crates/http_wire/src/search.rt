@@ -1,5 +1,5 @@
 //! Reading until a head block is whole.
-ghost use Rattle.std.specs.Prelude.{◌≡◌, ◌≤◌, length, Err, IfOk, OnOk, IfErr, IsErrOf};
+ghost use Rattle.std.specs.Prelude.{◌≡◌, ◌≤◌, ℕ, length, Err, IfOk, OnOk, IfErr, IsErrOf};
 ghost use Rattle.osm_base.specs.declared.limits.TheConstants.{HEAD_LIMIT};
 ghost use Rattle.http_wire.specs.Block.{IsBlockAt};
 ghost use Rattle.http_wire.specs.End.{input_ended};
@@ -12,12 +12,13 @@ use crate::end::WireEnd;
 use osm_base::HEAD_LIMIT;
 use osm_outside::{Outside, Source};
 
-/// Reads until a head block is whole, and says where it stands.
+/// Reads until a head block is whole, and says where it stands, whatever limit a body has.
 pub fn read_block<S: Source>(buffer: &mut Buffer, source: &mut S) -> Result<HeadBlock, WireEnd>
-    ensures gathered { OnOk result (Gathers (S.told source.old) (S.told source.new) buffer.old buffer.new) }
+    ensures gathered { OnOk result ((body_limit : ℕ) → Gathers body_limit (S.told source.old) (S.told source.new) buffer.old buffer.new) }
     ensures limit { length buffer.new ≤ HEAD_LIMIT }
     ensures found { IfOk result (λ block. IsBlockAt buffer.new block.begin block.end) }
-    ensures ended { IfErr result (λ e. Reads (S.told source.old) (S.told source.new) buffer.old (Err e) buffer.new) }
+    ensures ended { IfErr result (λ e. (body_limit : ℕ)
+        → Reads body_limit (S.told source.old) (S.told source.new) buffer.old (Err e) buffer.new) }
     ensures fault { IsErrOf result WireEnd.ReadFault
         → Rose (S.told source.old).read_faults (S.told source.new).read_faults }
 {

@@ -16,6 +16,7 @@ use std::marker::Model;
 pub struct Wire {
     buffer: Buffer,
     ended: bool,
+    body_limit: usize,
 }
 
 impl Model for Wire {
@@ -23,18 +24,20 @@ impl Model for Wire {
 
     ghost Value = { WireState };
 
-    ghost view = { λ w. record { kept = w.buffer; ended = w.ended } };
+    ghost view = { λ w. record { kept = w.buffer; ended = w.ended; body_limit = w.body_limit } };
 }
 
 impl Wire {
-    /// A wire that has read nothing.
-    pub fn new(alloc: Global) -> Result<Wire, Memory>
+    /// A wire that has read nothing. A message's body may have so many bytes.
+    pub fn new(alloc: Global, body_limit: usize) -> Result<Wire, Memory>
         ensures kept { IfOk result (λ wire. wire.kept ≡ []) }
         ensures open { IfOk result (λ wire. IsFalse wire.ended) }
+        ensures body_limit { IfOk result (λ wire. wire.body_limit ≡ body_limit) }
     {
         Ok(Wire {
             buffer: Buffer::new(alloc)?,
             ended: false,
+            body_limit,
         })
     }
 
@@ -52,12 +55,13 @@ impl Wire {
         source: &mut S,
     ) -> Result<Message, WireEnd>
         requires { IsFalse self.old.ended }
-        ensures reads { Reads (S.told source.old) (S.told source.new) self.old.kept result self.new.kept }
+        ensures reads { Reads self.old.body_limit (S.told source.old) (S.told source.new) self.old.kept result self.new.kept }
         ensures fault { IsErrOf result WireEnd.ReadFault
             → Rose (S.told source.old).read_faults (S.told source.new).read_faults }
         ensures ended { self.new.ended ≡ is_err result }
+        ensures body_limit { self.new.body_limit ≡ self.old.body_limit }
     {
-        let result = read_next(&mut self.buffer, alloc, source);
+        let result = read_next(&mut self.buffer, alloc, source, self.body_limit);
         self.ended = result.is_err();
         result
     }

@@ -1,6 +1,5 @@
 pub mod Back
 pub mod Port
 pub mod Workers
-pub mod Close
 pub mod Joined
 pub mod Seats

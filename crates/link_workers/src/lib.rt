@@ -2,16 +2,14 @@
 #![tactic(auto)]
 
 mod back;
-mod close;
-mod law;
+mod outcome;
 mod port;
 mod seat;
 mod service;
 mod worker;
 
 pub use back::give_back;
-pub use close::{Closer, end_sessions};
-pub use law::links_are_joined;
+pub use outcome::Outcome;
 pub use seat::{seat_all, unseat_all};
 pub use service::{DeskService, Service};
 pub use worker::{Worker, any_failed, serve_all};

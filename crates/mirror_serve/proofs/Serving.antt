@@ -1,5 +1,6 @@
 -- Serving a link by a new mirror.
 use Rattle.std.proofs.Common.{◌≡◌, List, [], refl, subst, sym, ◌∙◌}
+use Rattle.osm_base.specs.declared.limits.TheConstants.{PIECE_LIMIT}
 use Rattle.osm_outside.specs.Told.{Told}
 use Rattle.osm_model.specs.declared.commands.Entry.{Entry}
 use Rattle.osm_model.specs.Journal.{IsLegal}
@@ -8,7 +9,7 @@ use Rattle.http_link.specs.declared.end.LinkEnd.TheVariants.{Memory}
 use Rattle.http_link.specs.Exchange.{Exchange, Chain}
 use Rattle.user_table.specs.Users.{Users}
 use Rattle.mirror_desk.specs.Desk.{AtMirror, Allows, MirrorHasServed}
-use Rattle.server_frame.specs.OnLink.{AnswersLink, OnLink}
+use Rattle.server_frame.specs.OnLink.{AnswersLinkWithin, OnLinkWithin}
 use Rattle.mirror_serve.specs.Serve.{ServesMirror}
 
 -- what a desk's relation over a whole link comes to
@@ -24,7 +25,7 @@ abbrev begun : Users → AtMirror
 begun users = record { users = users; entries = [] }
 
 from_begun : (users : Users) (new : AtMirror) (before after : Told) (end : LinkEnd) → Chains
-    → AnswersLink Allows (begun users) new before after end → ServesMirror users before after end
+    → AnswersLinkWithin PIECE_LIMIT Allows (begun users) new before after end → ServesMirror users before after end
 from_begun users new before after end chains answers =
     let served = (chains (begun users) answers.exchanges new answers.answered).1 in
     record {
@@ -36,15 +37,15 @@ from_begun users new before after end chains answers =
     }
 
 pub mirror_served : (users : Users) (entries : List Entry) (desk new : AtMirror) (before after : Told) (end : LinkEnd) → Chains
-    → entries ≡ [] → desk ≡ record { users = users; entries = entries } → AnswersLink Allows desk new before after end
+    → entries ≡ [] → desk ≡ record { users = users; entries = entries } → AnswersLinkWithin PIECE_LIMIT Allows desk new before after end
     → ServesMirror users before after end
 mirror_served users entries desk new before after end chains empty is answers =
     let at : desk ≡ begun users = is ∙ (λ i. record { users = users; entries = empty i }) in
     from_begun users new before after end chains
-    (subst (λ (d : AtMirror). AnswersLink Allows d new before after end) at answers)
+    (subst (λ (d : AtMirror). AnswersLinkWithin PIECE_LIMIT Allows d new before after end) at answers)
 
 -- there was no memory for the desk
-pub mirror_unserved : (users : Users) (told : Told) → ((t : Told) → OnLink t t [] Memory) → ServesMirror users told told Memory
+pub mirror_unserved : (users : Users) (told : Told) → ((t : Told) → OnLinkWithin PIECE_LIMIT t t [] Memory) → ServesMirror users told told Memory
 mirror_unserved users told alone = record {
   exchanges = [];
   link = alone told;

@@ -1,2 +1,3 @@
+pub mod Mirrors
 pub mod Serve
 pub mod Run

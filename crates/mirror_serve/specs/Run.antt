@@ -5,7 +5,8 @@ use Rattle.osm_outside.specs.Host.{HostTold}
 use Rattle.osm_words.specs.Words.{MirrorReading, standard, listens}
 use Rattle.server_frame.specs.Standard.{RunsStandard, IsUnserved}
 use Rattle.server_frame.specs.Listening.{RunsListening}
-use Rattle.mirror_serve.specs.Serve.{ServesMirror, ServesMirrorPorts}
+use Rattle.mirror_serve.specs.Serve.{ServesMirror}
+use Rattle.mirror_serve.specs.Mirrors.{MirrorsPorts}
 
 -- what serving the standard link comes to
 abbrev pub RunsLink : List ℕ → Option ℕ → HostTold → HostTold → Told → Told → ℕ → Type 0
@@ -13,7 +14,7 @@ RunsLink = RunsStandard ServesMirror
 
 -- what listening comes to: the links of so many ports at that address are served by one mirror
 abbrev pub RunsListen : List ℕ → List ℕ → ℕ → HostTold → HostTold → Told → Told → ℕ → Type 0
-RunsListen = RunsListening ServesMirrorPorts
+RunsListen = RunsListening MirrorsPorts
 
 -- what words come to: those without a reading are status 1
 abbrev pub ComesTo : Option MirrorReading → HostTold → HostTold → Told → Told → ℕ → Type 0

@@ -1,32 +1,22 @@
--- What serving one link, or the links of ports, by a new mirror does.
+-- What serving one link by a new mirror does.
 use Rattle.std.specs.Prelude.{List, []}
+use Rattle.osm_base.specs.declared.limits.TheConstants.{PIECE_LIMIT}
 use Rattle.osm_outside.specs.Told.{Told}
-use Rattle.osm_outside.specs.Port.{PortTold}
 use Rattle.osm_model.specs.declared.commands.Entry.{Entry}
 use Rattle.osm_model.specs.Journal.{IsLegal}
 use Rattle.http_link.specs.declared.end.LinkEnd.{LinkEnd}
 use Rattle.http_link.specs.Exchange.{Exchange}
 use Rattle.user_table.specs.Users.{Users}
 use Rattle.mirror_desk.specs.Desk.{MirrorHasServed}
-use Rattle.server_frame.specs.OnLink.{OnLink}
-use Rattle.server_frame.specs.declared.listening.Outcome.{Outcome}
-use Rattle.server_frame.specs.declared.listening.Outcome.TheVariants.{Served, Failed, LacksMemory}
-use Rattle.step_hub.specs.declared.ports.Outcome.TheVariants as hub
-use Rattle.mirror_hub.specs.Mirrors.{MirrorsPorts}
+use Rattle.server_frame.specs.OnLink.{OnLinkWithin}
 
 -- The link was served to that end by a mirror that had no entries at first.
 pub record ServesMirror (users : Users) (before after : Told) (end : LinkEnd) : Type 0 where
   -- the messages that were answered, with their moments and replies
   pub exchanges : List Exchange
-  pub link : OnLink before after exchanges end
+  pub link : OnLinkWithin PIECE_LIMIT before after exchanges end
   -- the entries that the mirror has at last: they replay as one thread's
   pub entries : List Entry
   pub legal : IsLegal entries
   -- each message was answered on the entries that the ones before it left; only a piece that is folded adds its entry
   pub served : MirrorHasServed users [] exchanges entries
-
--- The links of these ports were served by one mirror that had no entries at first, and ended so.
-abbrev pub ServesMirrorPorts : Users → List PortTold → List PortTold → Outcome → Type 0
-ServesMirrorPorts users before after Served = MirrorsPorts users before after hub.Served
-ServesMirrorPorts users before after Failed = MirrorsPorts users before after hub.Failed
-ServesMirrorPorts users before after LacksMemory = MirrorsPorts users before after hub.LacksMemory

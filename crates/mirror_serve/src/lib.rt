@@ -3,6 +3,8 @@
 #![tactic(auto)]
 
 mod link;
+mod mirror;
+mod ports;
 mod serve;
 mod top;
 

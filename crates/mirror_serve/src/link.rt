@@ -4,8 +4,9 @@ ghost use Rattle.mirror_serve.specs.Serve.{ServesMirror};
 use http_link::LinkEnd;
 use journal_follower::Follower;
 use mirror_desk::{MirrorDesk, mirror_serves};
+use osm_base::PIECE_LIMIT;
 use osm_outside::{Link, Outside};
-use server_frame::{answer_link, link_left_alone};
+use server_frame::{answer_link_within, link_left_alone_within};
 use std::alloc::Global;
 use user_table::UserTable;
 
@@ -16,10 +17,10 @@ pub fn serve_mirror<L: Link>(alloc: Global, users: &UserTable, link: &mut L) -> 
 {
     // What the desk's relation over a whole link comes to, and what a link that is left alone is.
     mirror_serves();
-    link_left_alone();
+    link_left_alone_within();
     let mut follower = Follower::new(alloc);
     let Ok(mut desk) = MirrorDesk::new(alloc, &mut follower, users) else {
         return LinkEnd::Memory;
     };
-    answer_link(alloc, &mut desk, link)
+    answer_link_within(alloc, &mut desk, link, PIECE_LIMIT)
 }

@@ -1,19 +1,19 @@
 //! A mirror as what a program runs.
 ghost use Rattle.std.specs.Prelude.{◌≡◌, map, vec_len};
 ghost use Rattle.mirror_serve.specs.Run.{RunsListen};
-ghost use Rattle.mirror_serve.specs.Serve.{ServesMirrorPorts};
+ghost use Rattle.mirror_serve.specs.Mirrors.{MirrorsPorts};
 
 use crate::link::serve_mirror;
+use crate::ports::mirror_ports;
 use http_link::LinkEnd;
-use mirror_hub::mirror_ports;
+use link_workers::Outcome;
 use osm_outside::{Host, Link, Outside, Port, PortOutside};
-use server_frame::{LinkServer, Listening, Outcome, close_ports, open_ports};
+use server_frame::{LinkServer, Listening, close_ports, open_ports};
 use shared_front::Opened;
 use std::alloc::Global;
 use std::marker::Brand;
 use std::sync::Wait;
 use std::thread::Threads;
-use step_hub::Outcome as MirrorOutcome;
 use user_table::UserTable;
 
 /// What serves the standard link.
@@ -36,14 +36,10 @@ fn serve_handed<R: Threads + Wait + Sync, P: Port + Drop + Send>(
     users: &UserTable,
     ports: &mut Vec<P>,
 ) -> Outcome
-    ensures serves { ServesMirrorPorts users.now (map P.told ports.old.items) (map P.told ports.new.items) result }
+    ensures serves { MirrorsPorts users.now (map P.told ports.old.items) (map P.told ports.new.items) result }
     ensures count { vec_len ports.new ≡ vec_len ports.old }
 {
-    match mirror_ports::<Brand, R, P>(rt, alloc, Opened::new(), users, ports) {
-        MirrorOutcome::Served => Outcome::Served,
-        MirrorOutcome::Failed => Outcome::Failed,
-        MirrorOutcome::LacksMemory => Outcome::LacksMemory,
-    }
+    mirror_ports::<Brand, R, P>(rt, alloc, Opened::new(), users, ports)
 }
 
 /// Reads the users of the text at that path, and serves the links of ports at that address.

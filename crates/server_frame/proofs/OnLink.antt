@@ -17,7 +17,7 @@ use Rattle.http_link.specs.Input.{IsByInput, EndsByInput}
 use Rattle.http_link.specs.Exchange.{Exchange, moments_of}
 use Rattle.http_link.specs.Turns.{Turn, Ending, no_ending, events_of, events_of_turn, exchanges_of, bytes_of}
 use Rattle.http_link.specs.Link.{Serves}
-use Rattle.server_frame.specs.OnLink.{AnswersLink, OnLink}
+use Rattle.server_frame.specs.OnLink.{AnswersLinkWithin, OnLinkWithin}
 
 -- ---- what the events of turns give and tell
 
@@ -82,87 +82,89 @@ answered-turns (turn ∷ turns) ending =
 
 -- ---- the link
 
-on_link : {D : Type 0} (allows : D → Message → ℕ → Reply → D → Type 0) (old new : D) (before after : Told) (end : LinkEnd) (s : Serves allows old new before after end)
-    → OnLink before after (exchanges_of s.turns) end
-on_link allows old new before after end s = record {
-  turns = s.turns;
-  ending = s.ending;
-  trace = s.served.trace;
-  exchanges_are = refl;
-  few = omega (arith, s.few, length-map s.turns (λ t. t.exchange));
-  bytes = bytes_of s.turns s.ending;
-  rest = s.left ++ concat s.ending.reads;
-  input = sym (given-turns s.turns s.ending);
-  messages = s.agrees.messages;
-  taken = s.agrees.taken;
-  limit = s.agrees.limit;
-  consumed = s.served.input;
-  moments = answered-turns s.turns s.ending;
-  fixed = s.served.fixed;
-  stays = s.served.stays;
-  left = s.left;
-  read = s.served.read;
-  ends = s.ends;
-  by_bytes = s.agrees.by_bytes;
-  by_input = s.agrees.by_input;
-  read_faults = s.served.read_faults;
-  write_faults = s.served.write_faults;
-}
+-- `body_limit` is the most bytes that a body may have.
+module _ (body_limit : ℕ) where
+  on_link : {D : Type 0} (allows : D → Message → ℕ → Reply → D → Type 0) (old new : D) (before after : Told) (end : LinkEnd) (s : Serves body_limit allows old new before after end)
+      → OnLinkWithin body_limit before after (exchanges_of s.turns) end
+  on_link allows old new before after end s = record {
+    turns = s.turns;
+    ending = s.ending;
+    trace = s.served.trace;
+    exchanges_are = refl;
+    few = omega (arith, s.few, length-map s.turns (λ t. t.exchange));
+    bytes = bytes_of s.turns s.ending;
+    rest = s.left ++ concat s.ending.reads;
+    input = sym (given-turns s.turns s.ending);
+    messages = s.agrees.messages;
+    taken = s.agrees.taken;
+    limit = s.agrees.limit;
+    consumed = s.served.input;
+    moments = answered-turns s.turns s.ending;
+    fixed = s.served.fixed;
+    stays = s.served.stays;
+    left = s.left;
+    read = s.served.read;
+    ends = s.ends;
+    by_bytes = s.agrees.by_bytes;
+    by_input = s.agrees.by_input;
+    read_faults = s.served.read_faults;
+    write_faults = s.served.write_faults;
+  }
 
-pub answers_link : {D : Type 0} (allows : D → Message → ℕ → Reply → D → Type 0) (old new : D) (before after : Told) (end : LinkEnd)
-    → Serves allows old new before after end → AnswersLink allows old new before after end
-answers_link allows old new before after end s = record {
-  exchanges = exchanges_of s.turns;
-  link = on_link allows old new before after end s;
-  answered = s.served.answered;
-}
+  pub answers_link : {D : Type 0} (allows : D → Message → ℕ → Reply → D → Type 0) (old new : D) (before after : Told) (end : LinkEnd)
+      → Serves body_limit allows old new before after end → AnswersLinkWithin body_limit allows old new before after end
+  answers_link allows old new before after end s = record {
+    exchanges = exchanges_of s.turns;
+    link = on_link allows old new before after end s;
+    answered = s.served.answered;
+  }
 
--- ---- a link that was left alone
+  -- ---- a link that was left alone
 
--- every byte string has messages and an end behind them
-abbrev HaveReadings : Type 0
-HaveReadings = (bytes : List ℕ) → (messages : List Message) × (why : WireEnd) × IsTold why × AreMessages bytes messages why
+  -- every byte string has messages and an end behind them
+  abbrev HaveReadings : Type 0
+  HaveReadings = (bytes : List ℕ) → (messages : List Message) × (why : WireEnd) × IsTold why × AreMessages body_limit bytes messages why
 
--- want of memory is told by no bytes
-by_no_bytes : HaveReadings → (input : List ℕ) → EndsByInput input [] Memory
-by_no_bytes readings input =
-    let found = readings input in
-    (found.0, found.1, found.2, found.3, λ (never : IsByInput Memory). absurd never)
+  -- want of memory is told by no bytes
+  by_no_bytes : HaveReadings → (input : List ℕ) → EndsByInput body_limit input [] Memory
+  by_no_bytes readings input =
+      let found = readings input in
+      (found.0, found.1, found.2, found.3, λ (never : IsByInput Memory). absurd never)
 
-unserved_input : HaveReadings → (left : Option (List ℕ)) → IfSome left (λ input. EndsByInput input [] Memory)
-unserved_input readings None = tt
-unserved_input readings (Some input) = by_no_bytes readings input
+  unserved_input : HaveReadings → (left : Option (List ℕ)) → IfSome left (λ input. EndsByInput body_limit input [] Memory)
+  unserved_input readings None = tt
+  unserved_input readings (Some input) = by_no_bytes readings input
 
-unserved_left : (left : Option (List ℕ)) → Consumes left left []
-unserved_left None = tt
-unserved_left (Some input) = refl
+  unserved_left : (left : Option (List ℕ)) → Consumes left left []
+  unserved_left None = tt
+  unserved_left (Some input) = refl
 
-unserved_moments : (fixed : Option ℕ) → IfSome fixed (λ at. AllByRecursion (λ (e : Exchange). e.moment ≡ at) [])
-unserved_moments None = tt
-unserved_moments (Some at) = tt
+  unserved_moments : (fixed : Option ℕ) → IfSome fixed (λ at. AllByRecursion (λ (e : Exchange). e.moment ≡ at) [])
+  unserved_moments None = tt
+  unserved_moments (Some at) = tt
 
-pub unserved_link : (before : Told) → HaveReadings → OnLink before before [] Memory
-unserved_link before readings = record {
-  turns = [];
-  ending = no_ending;
-  trace = sym (append-nil before.trace);
-  exchanges_are = refl;
-  few = omega arith;
-  bytes = [];
-  rest = [];
-  input = refl;
-  messages = refl;
-  taken = omega arith;
-  limit = omega arith;
-  consumed = unserved_left before.left;
-  moments = refl;
-  fixed = unserved_moments before.fixed;
-  stays = refl;
-  left = [];
-  read = refl;
-  ends = inl (record { untouched = refl; no_turn = refl; nothing_else = refl });
-  by_bytes = by_no_bytes readings [];
-  by_input = unserved_input readings before.left;
-  read_faults = omega arith;
-  write_faults = omega arith;
-}
+  pub unserved_link : (before : Told) → HaveReadings → OnLinkWithin body_limit before before [] Memory
+  unserved_link before readings = record {
+    turns = [];
+    ending = no_ending;
+    trace = sym (append-nil before.trace);
+    exchanges_are = refl;
+    few = omega arith;
+    bytes = [];
+    rest = [];
+    input = refl;
+    messages = refl;
+    taken = omega arith;
+    limit = omega arith;
+    consumed = unserved_left before.left;
+    moments = refl;
+    fixed = unserved_moments before.fixed;
+    stays = refl;
+    left = [];
+    read = refl;
+    ends = inl (record { untouched = refl; no_turn = refl; nothing_else = refl });
+    by_bytes = by_no_bytes readings [];
+    by_input = unserved_input readings before.left;
+    read_faults = omega arith;
+    write_faults = omega arith;
+  }

@@ -6,8 +6,8 @@ use Rattle.osm_outside.specs.Lent.{hand_out}
 use Rattle.osm_outside.specs.Port.{PortTold}
 use Rattle.link_workers.specs.Back.{take_all}
 use Rattle.user_table.specs.Users.{Users, table_of}
-use Rattle.server_frame.specs.declared.listening.Outcome.{Outcome}
-use Rattle.server_frame.specs.declared.listening.Outcome.TheVariants.{Served, Failed, LacksMemory}
+use Rattle.link_workers.specs.declared.outcome.Outcome.{Outcome}
+use Rattle.link_workers.specs.declared.outcome.Outcome.TheVariants.{Served, Failed, LacksMemory}
 use Rattle.server_frame.specs.Users.{IsTextOf}
 use Rattle.server_frame.specs.Standard.{RefusesUsers, LacksUsers, LacksRoom}
 

@@ -5,21 +5,10 @@ ghost use Rattle.link_workers.specs.Back.{take_all};
 ghost use Rattle.server_frame.specs.Listening.{OpensNone, OpensPorts, outcome_status};
 
 use crate::users::{NoUsers, read_users};
-use link_workers::give_back;
+use link_workers::{Outcome, give_back};
 use osm_outside::{Host, HostFault, PortOutside};
 use std::alloc::Global;
 use user_table::UserTable;
-
-/// How serving ports ended.
-#[derive(Clone, Copy)]
-pub enum Outcome {
-    /// No port has a link to come.
-    Served,
-    /// Accepting failed at a port.
-    Failed,
-    /// There was no memory before the first link.
-    LacksMemory,
-}
 
 /// Where to listen, and by how many workers.
 #[derive(Clone, Copy)]

@@ -2,6 +2,7 @@
 use Rattle.std.proofs.Common.{◌≡◌, ℕ, List, [], ◌∷◌, ◌++◌, length, take, refl, ap, sym, ◌∙◌, subst}
 use Rattle.std.specs.List.{AllZip}
 use mathlib.Core.List.{IsPrefix}
+use Rattle.osm_base.specs.declared.limits.TheConstants.{PIECE_LIMIT}
 use Rattle.http_wire.specs.declared.message.Message.{Message}
 use Rattle.http_link.specs.declared.desk.Reply.{Reply}
 use Rattle.http_link.specs.Exchange.{Exchange, Chain}
@@ -26,7 +27,7 @@ pub record Joins {D : Type 0} (allows : D → Message → ℕ → Reply → D �
   pub chain : Chain allows old (all_of exchanges) new
 
 pub joined : {D : Type 0} (allows : D → Message → ℕ → Reply → D → Type 0) (old new : D) (visits : List Visit)
-    → ServesEach (Serves allows) old visits new → Joins allows old new visits
+    → ServesEach (Serves PIECE_LIMIT allows) old visits new → Joins allows old new visits
 joined allows old new [] same = record { exchanges = []; each = tt; chain = same }
 joined allows old new (v ∷ visits) h =
     let s = h.1 in

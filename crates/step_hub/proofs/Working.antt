@@ -3,6 +3,7 @@ use Rattle.std.proofs.Common.{◌≡◌, ℕ, ◌||◌, Bool, List, [], ◌∷�
 use Rattle.std.specs.List.{AllByRecursion, list_any}
 use mathlib.Core.List.{IsPrefix}
 use Rattle.osm_outside.specs.Port.{PortTold}
+use Rattle.osm_base.specs.declared.limits.TheConstants.{PIECE_LIMIT}
 use Rattle.http_wire.specs.declared.message.Message.{Message}
 use Rattle.http_link.specs.declared.desk.Reply.{Reply}
 use Rattle.http_link.specs.Link.{Serves}
@@ -24,11 +25,11 @@ module _ {C E P : Type 0} (steps : C → List E → Message → ℕ → Reply �
   work_of port w = record { front = w.session.front; before = told port; after = told w.port; failed = w.failed }
 
   one_work : (port : P) (w : Worker (AtFront C E) P) → IsPrefix w.session.front list
-      → ServesPort (Serves (Allows steps)) (at_front setting []) w.session (told port) (told w.port) w.failed → HasWorked steps setting list (work_of port w)
+      → ServesPort (Serves PIECE_LIMIT (Allows steps)) (at_front setting []) w.session (told port) (told w.port) w.failed → HasWorked steps setting list (work_of port w)
   one_work port w begins h =
       let all : Joins (Allows steps) (at_front setting []) w.session h.links.visits = joined (Allows steps) (at_front setting []) w.session h.links.visits h.links.served in
       let same : w.session ≡ at_front setting w.session.front = desk_is w.session (chain_setting steps (at_front setting []) w.session (all_of all.exchanges) all.chain) in
-      let served = subst (λ (d : AtFront C E). ServesPort (Serves (Allows steps)) (at_front setting []) d (told port) (told w.port) w.failed) same h in
+      let served = subst (λ (d : AtFront C E). ServesPort (Serves PIECE_LIMIT (Allows steps)) (at_front setting []) d (told port) (told w.port) w.failed) same h in
       let again : Joins (Allows steps) (at_front setting []) (at_front setting w.session.front) served.links.visits =
       joined (Allows steps) (at_front setting []) (at_front setting w.session.front) served.links.visits served.links.served in record {
         links = served;
@@ -47,7 +48,7 @@ module _ {C E P : Type 0} (steps : C → List E → Message → ℕ → Reply �
     pub some : list_any (λ w. w.failed) new ≡ list_any (λ work. work.failed) works
 
   more_work : (port : P) (ports : List P) (w : Worker (AtFront C E) P) (new : List (Worker (AtFront C E) P)) → IsPrefix w.session.front list
-      → ServesPort (Serves (Allows steps)) (at_front setting []) w.session (told port) (told w.port) w.failed
+      → ServesPort (Serves PIECE_LIMIT (Allows steps)) (at_front setting []) w.session (told port) (told w.port) w.failed
       → AllWorked ports new → AllWorked (port ∷ ports) (w ∷ new)
   more_work port ports w new begins h rest = record {
     works = work_of port w ∷ rest.works;
@@ -58,7 +59,7 @@ module _ {C E P : Type 0} (steps : C → List E → Message → ℕ → Reply �
   }
 
   all_worked : (ports : List P) (new : List (Worker (AtFront C E) P))
-      → AllWork (Serves (Allows steps)) told (seated (replicate (length ports) (at_front setting [])) ports) new
+      → AllWork (Serves PIECE_LIMIT (Allows steps)) told (seated (replicate (length ports) (at_front setting [])) ports) new
       → AllByRecursion (λ (desk : AtFront C E). IsPrefix desk.front list) (sessions_of new) → AllWorked ports new
   all_worked [] [] h begin = record { works = []; worked = tt; handed = refl; back = refl; some = refl }
   all_worked [] (w ∷ new) h begin = absurd h
@@ -68,13 +69,13 @@ module _ {C E P : Type 0} (steps : C → List E → Message → ℕ → Reply �
   -- the clause on all workers, whose desks had seen nothing
   pub serves_all : (legal : List E → Type 0) (ports back : List P) (desks : List (AtFront C E)) (new : List (Worker (AtFront C E) P)) (count : ℕ) (failed : Bool)
       → legal list → desks ≡ replicate count (at_front setting []) → length ports ≡ count
-      → AllWork (Serves (Allows steps)) told (seated desks ports) new
+      → AllWork (Serves PIECE_LIMIT (Allows steps)) told (seated desks ports) new
       → AllByRecursion (λ (desk : AtFront C E). IsPrefix desk.front list) (sessions_of new)
       → back ≡ ports_of new → failed ≡ list_any (λ w. w.failed) new
       → ServesAll steps legal setting (map told ports) (map told back) failed
   serves_all legal ports back desks new count failed legal_is fresh counted works begin back_is failed_is =
       let same : desks ≡ replicate (length ports) (at_front setting []) = fresh ∙ ap (λ (n : ℕ). replicate n (at_front setting [])) (sym counted) in
-      let all = all_worked ports new (subst (λ (ds : List (AtFront C E)). AllWork (Serves (Allows steps)) told (seated ds ports) new) same works) begin in record {
+      let all = all_worked ports new (subst (λ (ds : List (AtFront C E)). AllWork (Serves PIECE_LIMIT (Allows steps)) told (seated ds ports) new) same works) begin in record {
         list = list;
         legal_is = legal_is;
         works = all.works;

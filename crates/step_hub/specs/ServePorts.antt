@@ -3,6 +3,7 @@ use Rattle.std.specs.Prelude.{◌≡◌, ℕ, ◌+◌, ◌≤◌, Bool, true, fa
 use Rattle.std.specs.List.{AllByRecursion, AllZip, list_any}
 use mathlib.Core.List.{IsPrefix}
 use Rattle.osm_outside.specs.Port.{PortTold}
+use Rattle.osm_base.specs.declared.limits.TheConstants.{PIECE_LIMIT}
 use Rattle.http_wire.specs.declared.message.Message.{Message}
 use Rattle.http_link.specs.declared.desk.Reply.{Reply}
 use Rattle.http_link.specs.Exchange.{Exchange}
@@ -11,8 +12,8 @@ use Rattle.http_link.specs.Link.{Serves}
 use Rattle.link_workers.specs.Port.{Visit, ServesPort}
 use Rattle.link_workers.specs.Joined.{all_of}
 use Rattle.step_hub.specs.Steps.{at_front, Allows}
-use Rattle.step_hub.specs.declared.ports.Outcome.{Outcome}
-use Rattle.step_hub.specs.declared.ports.Outcome.TheVariants.{Served, Failed, LacksMemory}
+use Rattle.link_workers.specs.declared.outcome.Outcome.{Outcome}
+use Rattle.link_workers.specs.declared.outcome.Outcome.TheVariants.{Served, Failed, LacksMemory}
 
 -- The message was answered on a beginning of the list that is no shorter than this, and left that beginning, or one with the next entry.
 pub record IsStepOf {E : Type 0} (steps : List E → Message → ℕ → Reply → List E → Type 0)
@@ -34,7 +35,7 @@ AreStepsOf steps list point (exchange ∷ exchanges) last =
 pub record IsServed {D : Type 0} (allows : D → Message → ℕ → Reply → D → Type 0) (visit : Visit) (exchanges : List Exchange) : Type 0 where
   pub old : D
   pub new : D
-  pub serves : Serves allows old new visit.came visit.went visit.end
+  pub serves : Serves PIECE_LIMIT allows old new visit.came visit.went visit.end
   pub exchanges_are : exchanges ≡ exchanges_of serves.turns
 
 -- What a worker did: what it had seen of the list behind its last link, its port as it was handed out and as it came back, and whether
@@ -49,7 +50,7 @@ pub record Work (E : Type 0) : Type 0 where
 pub record HasWorked {C E : Type 0} (steps : C → List E → Message → ℕ → Reply → List E → Type 0)
     (setting : C) (list : List E) (work : Work E) : Type 0 where
   -- each link that the port handed out was served once, to an end, and given back; where accepting didn't fail, no known link is to come
-  pub links : ServesPort (Serves (Allows steps)) (at_front setting []) (at_front setting work.front) work.before work.after work.failed
+  pub links : ServesPort (Serves PIECE_LIMIT (Allows steps)) (at_front setting []) (at_front setting work.front) work.before work.after work.failed
   pub front : IsPrefix work.front list
   -- The messages of all these links, one link after another: each reply is a step on a beginning of the list. The points never go back,
   -- from one link to the next neither.

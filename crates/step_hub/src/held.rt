@@ -5,7 +5,8 @@
 //! that the list under the lock is the whole list, so the case that it is longer has a branch: the
 //! value isn't asked any more, and each message gets 503. No run has shown it. The server's hub
 //! takes its lock again there; a mirror may answer any message with 503.
-ghost use Rattle.std.specs.Prelude.{◌≡◌, ◌<◌, ◌^◌, length, IsTrue, IfOk};
+ghost use Rattle.std.specs.Prelude.{◌≡◌, ◌<◌, ◌^◌, length, IsTrue, IfOk, OnOk, OnErr};
+ghost use mathlib.Core.List.{IsPrefix};
 ghost use Rattle.osm_base.specs.Status.{IsStatus};
 ghost use Rattle.http_link.specs.Desk.{counted_reply};
 ghost use Rattle.step_hub.specs.Steps.{GrowsByOne, StepsOn};
@@ -67,6 +68,12 @@ impl<N: HubName, S: Stepped + Drop> Held<N, S> {
         requires legal { S.legal front.old }
         ensures answered { StepsOn (S.steps setting.now) front.old message.now moment (counted_reply result) front.new }
         ensures legal { S.legal front.new }
+        // an answer is one step of the list that is found here, and all of it is seen then
+        ensures begins { OnOk result (IsPrefix front.old self.old) }
+        ensures step { IfOk result (λ reply. S.steps setting.now self.old message.now moment reply self.new) }
+        ensures grows { OnOk result (GrowsByOne self.old self.new) }
+        ensures seen { OnOk result (front.new ≡ self.new) }
+        ensures kept { OnErr result (IsPrefix self.old self.new) }
         ensures status { IfOk result (λ reply. IsStatus reply.status) }
     {
         // The list is longer than what was seen of it, and what was seen is not.
@@ -86,7 +93,8 @@ impl<N: HubName, S: Stepped + Drop> Held<N, S> {
 /// Adds the entry that the front lacks of these, if it lacks one, and says whether it has them all then.
 fn catch_up<N: HubName, E>(entries: &[E], tail: &Tail<N, E>, front: &mut Front<N, E>) -> bool
     requires { length front.old < 2 ^ 62 }
-    ensures { IsTrue result → GrowsByOne front.old entries.now → front.new ≡ entries.now }
+    ensures all { IsTrue result → GrowsByOne front.old entries.now → front.new ≡ entries.now }
+    ensures begins { IsPrefix front.old front.new }
 {
     let seen = front.len() as usize;
     if seen >= entries.len() {

@@ -13,5 +13,5 @@ mod stepped;
 
 pub use desk::StepDesk;
 pub use hub::StepHub;
-pub use ports::{Outcome, serve_ports};
+pub use ports::serve_ports;
 pub use stepped::Stepped;

@@ -2,9 +2,10 @@
 //!
 //! The one list is the longest front of the workers' desks. What the lock holds at the end needs
 //! no looking at: all fronts begin one list, so the longest is begun by each.
-ghost use Rattle.std.specs.Prelude.{◌≡◌, ◌⊎◌, [], map, vec_len, replicate, IfOk, OnErr};
+ghost use Rattle.std.specs.Prelude.{◌≡◌, [], map, vec_len, replicate, IfOk, OnErr};
 ghost use Rattle.std.specs.List.{AllByRecursion};
 ghost use mathlib.Core.List.{IsPrefix};
+ghost use Rattle.osm_base.specs.declared.limits.TheConstants.{PIECE_LIMIT};
 ghost use Rattle.http_link.specs.Link.{Serves};
 ghost use Rattle.link_workers.specs.Workers.{AllWork};
 ghost use Rattle.step_hub.specs.Steps.{at_front};
@@ -14,24 +15,13 @@ use crate::desk::StepDesk;
 use crate::hub::StepHub;
 use crate::stepped::Stepped;
 use http_link::Desk;
-use link_workers::{DeskService, Worker, any_failed, seat_all, serve_all, unseat_all};
-use osm_base::Memory;
+use link_workers::{DeskService, Outcome, Worker, any_failed, seat_all, serve_all, unseat_all};
+use osm_base::{Memory, PIECE_LIMIT};
 use osm_outside::{Port, PortOutside};
 use shared_front::{Front, HubName, Opened};
 use std::alloc::Global;
 use std::sync::Wait;
 use std::thread::Threads;
-
-/// How serving ports ended.
-#[derive(Clone, Copy)]
-pub enum Outcome {
-    /// No port has a link to come.
-    Served,
-    /// Accepting failed at a port.
-    Failed,
-    /// There was no memory before the first link.
-    LacksMemory,
-}
 
 /// So many desks that have seen this of the hub's list.
 fn desks_of<'a, N: HubName, S: Stepped + Drop, R: Wait>(
@@ -52,19 +42,6 @@ fn desks_of<'a, N: HubName, S: Stepped + Drop, R: Wait>(
     Ok(desks)
 }
 
-/// The longer of two fronts, which the other begins.
-fn longer<N: HubName, E>(one: &Front<N, E>, other: &Front<N, E>) -> Front<N, E>
-    ensures is_one { (result ≡ one.now) ⊎ (result ≡ other.now) }
-    ensures this { IsPrefix one.now result }
-    ensures that { IsPrefix other.now result }
-{
-    if one.begins(other) {
-        return other.again();
-    }
-    let _begins = other.begins(one);
-    one.again()
-}
-
 /// The longest front of the desks and of this one, which all of them begin.
 fn longest<N: HubName, S: Stepped + Drop, R: Wait>(
     first: &Front<N, S::Entry>,
@@ -76,7 +53,7 @@ fn longest<N: HubName, S: Stepped + Drop, R: Wait>(
 {
     let mut front = first.again();
     for desk in desks {
-        front = longer(&front, desk.front());
+        front = front.longer(desk.front());
     }
     front
 }
@@ -87,9 +64,9 @@ fn serve_desks<D: Desk + Send + Sync, R: Threads + Wait + Sync, P: Port + Send>(
     alloc: Global,
     workers: &mut [Worker<D, P>],
 )
-    ensures { AllWork (Serves D.allows) P.told workers.old workers.new }
+    ensures { AllWork (Serves PIECE_LIMIT D.allows) P.told workers.old workers.new }
 {
-    serve_all(rt, alloc, &DeskService::<D>::new(), workers);
+    serve_all(rt, alloc, &DeskService::<D>::new(PIECE_LIMIT), workers);
 }
 
 /// Serves the links of each port by a desk of the hub, and says whether accepting failed at one. The ports come back in their

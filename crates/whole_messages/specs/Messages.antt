@@ -1,5 +1,6 @@
 -- What bytes begin with.
 use Rattle.std.specs.Prelude.{ℕ, List, Option, Some, None}
+use Rattle.osm_base.specs.declared.limits.TheConstants.{BODY_LIMIT}
 use Rattle.http_wire.specs.declared.message.Message.{Message}
 use Rattle.http_wire.specs.declared.end.WireEnd.{WireEnd}
 use Rattle.http_wire.specs.Message.{BeginsWith}
@@ -7,7 +8,7 @@ use Rattle.http_wire.specs.End.{EndsAs, IsTold}
 
 -- The bytes come to an end where a message should begin.
 abbrev pub HasNoMessage : List ℕ → Type 0
-HasNoMessage bytes = (why : WireEnd) × IsTold why × EndsAs bytes why
+HasNoMessage bytes = (why : WireEnd) × IsTold why × EndsAs BODY_LIMIT bytes why
 
 -- the message that the bytes begin with
 abbrev pub BeginsAs : List ℕ → Option Message → Type 0

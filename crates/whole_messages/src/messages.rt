@@ -5,7 +5,7 @@ ghost use Rattle.whole_messages.specs.Messages.{BeginsAs};
 
 use crate::unfailing::Unfailing;
 use http_wire::{Message, Wire, WireEnd, end_in_any_pieces, message_in_any_pieces};
-use osm_base::{Bytes, Memory};
+use osm_base::{BODY_LIMIT, Bytes, Memory};
 use std::alloc::Global;
 
 /// The message that the bytes begin with, or none where they come to an end in its place.
@@ -16,7 +16,7 @@ pub fn whole_message(alloc: Global, bytes: Bytes) -> Result<Option<Message>, Mem
     message_in_any_pieces();
     end_in_any_pieces();
     let mut source = Unfailing::new(alloc, bytes)?;
-    let mut wire = Wire::new(alloc)?;
+    let mut wire = Wire::new(alloc, BODY_LIMIT)?;
     match wire.read_message(alloc, &mut source) {
         Ok(message) => Ok(Some(message)),
         Err(why) => {

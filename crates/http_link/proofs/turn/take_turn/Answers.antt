@@ -7,7 +7,7 @@ returns-in-Err-answer_message-clause-turn g c =
     let reads = c.in-Ok.ensures.reads in
     inl (
       c.answer_message.result,
-      Step-from_parts g.D.Desk.allows _ _ _ _ _ _ _ c.args.count c.in-Ok.message c.answer_message.result reads
+      Step-from_parts c.args.wire.now.body_limit g.D.Desk.allows _ _ _ _ _ _ _ c.args.count c.in-Ok.message c.answer_message.result reads
           c.answer_message.ensures.replies,
       rw c.in-Err-answer_message.is refl,
       λ fails. omega (arith, c.answer_message.ensures.failed fails, reads.taken.others.write_faults),
@@ -20,7 +20,7 @@ returns-in-Ok-2-clause-turn g c =
     let same = c.in-Ok-2.is in
     inl (
       c.answer_message.result,
-      Step-from_parts g.D.Desk.allows _ _ _ _ _ _ _ c.args.count c.in-Ok.message c.answer_message.result reads
+      Step-from_parts c.args.wire.now.body_limit g.D.Desk.allows _ _ _ _ _ _ _ c.args.count c.in-Ok.message c.answer_message.result reads
           c.answer_message.ensures.replies,
       rw (same, close) refl,
       λ fails. omega (arith, c.answer_message.ensures.failed fails, reads.taken.others.write_faults),
@@ -33,7 +33,7 @@ returns-in-Ok-answer_message-clause-turn g c =
     let same = c.in-Ok-answer_message.is in
     inl (
       c.answer_message.result,
-      Step-from_parts g.D.Desk.allows _ _ _ _ _ _ _ c.args.count c.in-Ok.message c.answer_message.result reads
+      Step-from_parts c.args.wire.now.body_limit g.D.Desk.allows _ _ _ _ _ _ _ c.args.count c.in-Ok.message c.answer_message.result reads
           c.answer_message.ensures.replies,
       rw (same, close) refl,
       λ fails. omega (arith, c.answer_message.ensures.failed fails, reads.taken.others.write_faults),
@@ -49,7 +49,7 @@ returns-in-Err-clause-turn g c =
       record {
         pieces = reads.pieces;
         taken = reads.taken;
-        reads = ReadsEnd-from _ _ _ _ c.in-Err.why reads;
+        reads = ReadsEnd-from c.args.wire.now.body_limit _ _ _ _ c.in-Err.why reads;
         fault = λ e. c.in-Err.ensures.fault (ap Err e);
         unasked = refl;
       },

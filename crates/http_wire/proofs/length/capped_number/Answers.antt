@@ -16,6 +16,6 @@ loop-digit-preserved c =
     let d = digit_value (get_or digits i 0) in
     let test = digit_at digits i c.requires c.loop-digit-test.true in
     let same : c.from.result ≡ d = omega (arith, value_of_digit (get_or digits i 0) test) in
-    let step = capped_step _ d 33554433 _ c.loop-digit.invariant in
-    c.min-number.ensures ∙ ap (λ (x : ℕ). min (c.loop-digit.number * 10 + x) 33554433) same ∙ step
-    ∙ ap (λ (v : ℕ). min v 33554433) (sym value)
+    let step = capped_step _ d (c.args.body_limit + 1) _ c.loop-digit.invariant in
+    c.min-number.ensures ∙ ap (λ (x : ℕ). min (c.loop-digit.number * 10 + x) (c.args.body_limit + 1)) same ∙ step
+    ∙ ap (λ (v : ℕ). min v (c.args.body_limit + 1)) (sym value)

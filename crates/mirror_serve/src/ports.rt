@@ -1,15 +1,16 @@
 //! Many workers over one mirror.
 ghost use Rattle.std.specs.Prelude.{◌≡◌, map, vec_len};
-ghost use Rattle.mirror_hub.specs.Mirrors.{MirrorsPorts};
+ghost use Rattle.mirror_serve.specs.Mirrors.{MirrorsPorts};
 
 use crate::mirror::Mirror;
+use link_workers::Outcome;
 use osm_model::Entry;
 use osm_outside::{Port, PortOutside};
 use shared_front::{HubName, Opened};
 use std::alloc::Global;
 use std::sync::Wait;
 use std::thread::Threads;
-use step_hub::{Outcome, serve_ports};
+use step_hub::serve_ports;
 use user_table::UserTable;
 
 /// Serves the links of the ports by a new mirror under that name, one worker a port, each in a thread of its own, until no port

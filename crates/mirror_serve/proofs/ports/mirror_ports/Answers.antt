@@ -1,7 +1,7 @@
 use Rattle.std.proofs.Common.{tests, of_calls}
 use denote.Param.Send.{sendable}
-use Rattle.mirror_hub.proofs.Sendable.{mirror_send}
-use Rattle.mirror_hub.proofs.ports.mirror_ports.Goals as goal
+use Rattle.mirror_serve.proofs.Sendable.{mirror_send}
+use Rattle.mirror_serve.proofs.ports.mirror_ports.Goals as goal
 
 -- a mirror goes to the threads of its workers
 pub serve_ports-requires-send-S : goal.serve_ports-requires-send-S
