@@ -7,7 +7,6 @@ use Rattle.osm_model.specs.Journal.{IsLegal}
 use Rattle.osm_model.specs.declared.commands.Entry.{Entry}
 use Rattle.osm_outside.specs.Told.{Told}
 use Rattle.journal_text.specs.Faults.{IsFault, LacksHeader}
-use Rattle.journal_text.specs.Line.{IsEntry}
 use Rattle.journal_text.specs.Lines.{IsLinesFault, IsRefused, Reads}
 use Rattle.journal_text.specs.Text.{header, lines, IsTextOf}
 use Rattle.journal_text.specs.Version.{IsEntryIn}
@@ -25,8 +24,8 @@ use Rattle.journal_input.specs.Input.{IsInput, IsOfJournal, IsOfNone, IsInputFau
 -- ---- faults
 
 refused_by : (version : Version) (text behind : List ℕ) → text ≡ header version ++ behind → ((es : List Entry) → All (IsEntryIn version) es → IsLegal es → behind ≡ lines es → ⊥)
-    → (es : List Entry) → All IsEntry es → IsTextOf text es → ⊥
-refused_by version text behind is refused es typed of = let parts = lines_of version text behind es is typed of in refused es parts.1 of.legal parts.0
+    → (es : List Entry) → IsTextOf text es → ⊥
+refused_by version text behind is refused es of = let parts = lines_of version text behind es is of in refused es parts.1 of.legal parts.0
 
 -- a fault of the lines behind a header is the text's
 none_behind : (version : Version) (why : JournalFault) (text behind : List ℕ) → text ≡ header version ++ behind → IsRefused version why behind → IsOfNone why text
@@ -53,7 +52,7 @@ one_length One = refl
 one_length Two = refl
 
 lacking : (text : List ℕ) → length text ≤ TEXT_LIMIT → LacksHeader text → IsFault Header text × IsOfNone Header text
-lacking text within lacks = ((within, lacks), λ es typed of. lacks of.version (lines es) of.is)
+lacking text within lacks = ((within, lacks), λ es of. lacks of.version (lines es) of.is)
 
 other_front : (version : Version) (front more rest : List ℕ) → length front ≡ length (header Two) → front ++ more ≡ header version ++ rest → front ≡ header version
 other_front version front more rest size is =
@@ -99,7 +98,7 @@ too_long a c text input long = record {
   text = text;
   input = input;
   fault = long;
-  none = λ es typed of. omega (arith, long, of.within);
+  none = λ es of. omega (arith, long, of.within);
 }
 
 module _ (version : Version) where
@@ -115,8 +114,8 @@ module _ (version : Version) where
       record {
         text = header version ++ bytes;
         input = input;
-        is = record { version = version; legal = at_end.legal; fits = at_end.fits; is = ap (λ ts. header version ++ ts) both.0; within = within };
-        only = λ es typed of. let parts = lines_of version (header version ++ bytes) bytes es refl typed of in both.1 es parts.1 parts.0;
+        is = record { version = version; legal = at_end.legal; typed = at_end.typed; is = ap (λ ts. header version ++ ts) both.0; within = within };
+        only = λ es of. let parts = lines_of version (header version ++ bytes) bytes es refl of in both.1 es parts.1 parts.0;
       }
 
   -- where one is begun, it is a fault

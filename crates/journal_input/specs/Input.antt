@@ -1,11 +1,10 @@
 -- What reading a journal's text from a source comes to.
-use Rattle.std.specs.Prelude.{◌≡◌, ℕ, ◌+◌, ◌⊎◌, ⊤, List, All, length, Result, Ok, Err}
+use Rattle.std.specs.Prelude.{◌≡◌, ℕ, ◌+◌, ◌⊎◌, ⊤, List, length, Result, Ok, Err}
 use Rattle.std.specs.List.{concat}
 use Rattle.osm_model.specs.declared.commands.Entry.{Entry}
 use Rattle.osm_outside.specs.Told.{Told, Rose}
 use Rattle.http_wire.specs.Received.{Taken, HaveBytes, GaveAll}
 use Rattle.journal_text.specs.Faults.{IsFault}
-use Rattle.journal_text.specs.Line.{IsEntry}
 use Rattle.journal_text.specs.Text.{IsTextOf}
 use Rattle.journal_text.specs.declared.faults.JournalFault.{JournalFault}
 use Rattle.journal_text.specs.declared.faults.JournalFault.TheVariants as fault
@@ -34,12 +33,12 @@ pub record IsOfJournal (before after : Told) (journal : List Entry) : Type 0 whe
   pub text : List ℕ
   pub input : IsInput before after text
   pub is : IsTextOf text journal
-  pub only : (es : List Entry) → All IsEntry es → IsTextOf text es → journal ≡ es
+  pub only : (es : List Entry) → IsTextOf text es → journal ≡ es
 
 -- The text is that of no journal, unless memory ran out.
 abbrev pub IsOfNone : JournalFault → List ℕ → Type 0
 IsOfNone fault.Memory text = ⊤
-IsOfNone other text = (es : List Entry) → All IsEntry es → IsTextOf text es → ⊥
+IsOfNone other text = (es : List Entry) → IsTextOf text es → ⊥
 
 -- The input is a text with this fault.
 pub record HasFault (before after : Told) (why : JournalFault) : Type 0 where

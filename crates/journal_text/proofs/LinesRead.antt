@@ -13,7 +13,7 @@ use Rattle.journal_text.specs.Faults.{BeginsWithLine}
 use Rattle.journal_text.specs.Line.{line, IsEntry}
 use Rattle.journal_text.specs.Lines.{Follows, FollowsAlone, IsNoLine, IsLineFault, Reads, StopsAtLine, IsLinesFault, IsRefused, AreOfNone}
 use Rattle.journal_text.specs.Text.{lines}
-use Rattle.journal_text.specs.Version.{Fits, IsEntryIn}
+use Rattle.journal_text.specs.Version.{IsEntryIn}
 use Rattle.journal_text.specs.declared.faults.JournalFault.{JournalFault}
 use Rattle.journal_text.specs.declared.faults.JournalFault.TheVariants.{Long, Header, Line, Illegal, Memory}
 use Rattle.journal_text.specs.declared.versions.Version.{Version}
@@ -103,7 +103,7 @@ not_empty rest bytes behind cut none = no_cut (bytes, behind) (sym cut ∙ ap (p
 pub nothing_read : (version : Version) (text : List ℕ) → Reads version text [] text
 nothing_read version text = record {
   legal = record { taken = refl; numbered = refl };
-  fits = All-nil (Fits version);
+  typed = All-nil (IsEntryIn version);
   is = refl;
   only = λ es typed is. (es, refl, is, typed);
 }
@@ -119,7 +119,7 @@ module _ (one_line : (e : Entry) → IsEntry e → is_one_line (line e) ≡ true
   pub line_read : (text : List ℕ) (old new : List Entry) (rest bytes behind : List ℕ) → Reads version text old rest → parted 10 rest ≡ Some (bytes, behind) → Follows version old bytes new → FollowsAlone old bytes new → Reads version text new behind
   line_read text old new rest bytes behind reads cut follows only = record {
     legal = subst IsLegal (sym follows.appended) (legal_more old follows.entry reads.legal follows.follows);
-    fits = subst (All (Fits version)) (sym follows.appended) (All-push (Fits version) old follows.entry reads.fits follows.fits);
+    typed = subst (All (IsEntryIn version)) (sym follows.appended) (All-push (IsEntryIn version) old follows.entry reads.typed follows.typed);
     is =
         reads.is
         ∙ ap (λ ts. lines old ++ ts) (cut_is rest bytes behind cut ∙ ap (λ ts. ts ++ 10 ∷ behind) follows.is)
@@ -166,7 +166,7 @@ module _ (one_line : (e : Entry) → IsEntry e → is_one_line (line e) ≡ true
       by (m ∷ ms) e typed = none (begins m ms rest (All-head (IsEntryIn version) m ms typed) e)
 
   stops : (text : List ℕ) (journal : List Entry) (rest : List ℕ) (n : ℕ) → Reads version text journal rest → (rest ≡ [] → ⊥) → (BeginsWithLine version rest → ⊥) → n ≡ length journal + 2 → StopsAtLine version n text
-  stops text journal rest n reads some none e = record { journal = journal; rest = rest; legal = reads.legal; fits = reads.fits; is = reads.is; number = e; some = some; none = none }
+  stops text journal rest n reads some none e = record { journal = journal; rest = rest; legal = reads.legal; typed = reads.typed; is = reads.is; number = e; some = some; none = none }
 
   -- a rest that no byte 10 ends
   pub left_open : (text : List ℕ) (journal : List Entry) (rest : List ℕ) → Reads version text journal rest → (rest ≡ [] → ⊥) → parted 10 rest ≡ None → StopsAtLine version (length journal + 2) text × AreOfNone version text
@@ -186,9 +186,9 @@ module _ (one_line : (e : Entry) → IsEntry e → is_one_line (line e) ≡ true
       entry = fault.1.entry;
       rest = behind;
       legal = reads.legal;
-      fits = reads.fits;
+      typed = reads.typed;
       is = reads.is ∙ ap (λ ts. lines journal ++ ts) (cut_is rest bytes behind cut ∙ ap (λ ts. ts ++ 10 ∷ behind) fault.1.is);
-      fits_too = fault.1.fits;
+      typed_too = fault.1.typed;
       number = fault.0;
       illegal = not_legal journal fault.1.entry fault.1.illegal;
     },

@@ -7,7 +7,7 @@ use Rattle.journal_text.specs.Faults.{Begins, IsFault, IsJournalRead}
 use Rattle.journal_text.specs.Line.{line, IsEntry}
 use Rattle.journal_text.specs.Lines.{IsLinesFault, IsRefused}
 use Rattle.journal_text.specs.Text.{header, lines, IsTextOf}
-use Rattle.journal_text.specs.Version.{Fits, IsEntryIn}
+use Rattle.journal_text.specs.Version.{IsEntryIn}
 use Rattle.osm_model.specs.Journal.{IsLegal}
 use Rattle.journal_text.specs.declared.faults.JournalFault.{JournalFault}
 use Rattle.journal_text.specs.declared.faults.JournalFault.TheVariants.{Long, Header, Line, Illegal, Memory}
@@ -16,11 +16,11 @@ use Rattle.journal_text.specs.declared.versions.Version.{Version}
 use Rattle.journal_text.specs.declared.versions.Version.TheVariants.{One, Two}
 
 module _ (version : Version) where
-  begins : (text behind : List ℕ) (journal : List Entry) (rest : List ℕ) → length text ≤ TEXT_LIMIT → text ≡ header version ++ behind → IsLegal journal → All (Fits version) journal → behind ≡ lines journal ++ rest → Begins version text journal rest
-  begins text behind journal rest within is legal fits lines_are = record {
+  begins : (text behind : List ℕ) (journal : List Entry) (rest : List ℕ) → length text ≤ TEXT_LIMIT → text ≡ header version ++ behind → IsLegal journal → All (IsEntryIn version) journal → behind ≡ lines journal ++ rest → Begins version text journal rest
+  begins text behind journal rest within is legal typed lines_are = record {
     within = within;
     legal = legal;
-    fits = fits;
+    typed = typed;
     is = is ∙ ap (λ ts. header version ++ ts) lines_are ∙ sym (append_assoc (header version) (lines journal) rest);
   }
 
@@ -32,7 +32,7 @@ module _ (version : Version) where
     version = version;
     journal = fault.journal;
     rest = fault.rest;
-    begins = begins text behind fault.journal fault.rest within is fault.legal fault.fits fault.is;
+    begins = begins text behind fault.journal fault.rest within is fault.legal fault.typed fault.is;
     number = fault.number;
     some = fault.some;
     none = fault.none;
@@ -42,16 +42,16 @@ module _ (version : Version) where
     journal = fault.journal;
     entry = fault.entry;
     rest = fault.rest;
-    begins = begins text behind fault.journal (line fault.entry ++ 10 ∷ fault.rest) within is fault.legal fault.fits fault.is;
-    fits = fault.fits_too;
+    begins = begins text behind fault.journal (line fault.entry ++ 10 ∷ fault.rest) within is fault.legal fault.typed fault.is;
+    typed = fault.typed_too;
     number = fault.number;
     illegal = fault.illegal;
   }
 
   pub given_behind : {X F : Type 0} (view : X → List Entry) (result : Result X F) (text behind : List ℕ) → length text ≤ TEXT_LIMIT → text ≡ header version ++ behind
-      → IfOk result (λ found. behind ≡ lines (view found)) → IfOk result (λ found. IsLegal (view found)) → IfOk result (λ found. All (Fits version) (view found)) → IfOk result (λ found. IsTextOf text (view found))
-  given_behind view (Ok found) text behind within is same legal fits = record { version = version; legal = legal; fits = fits; is = is ∙ ap (λ ts. header version ++ ts) same; within = within }
-  given_behind view (Err fault) text behind within is same legal fits = tt
+      → IfOk result (λ found. behind ≡ lines (view found)) → IfOk result (λ found. IsLegal (view found)) → IfOk result (λ found. All (IsEntryIn version) (view found)) → IfOk result (λ found. IsTextOf text (view found))
+  given_behind view (Ok found) text behind within is same legal typed = record { version = version; legal = legal; typed = typed; is = is ∙ ap (λ ts. header version ++ ts) same; within = within }
+  given_behind view (Err fault) text behind within is same legal typed = tt
 
   pub refused_behind : {X : Type 0} (result : Result X JournalFault) (text behind : List ℕ) → length text ≤ TEXT_LIMIT → text ≡ header version ++ behind
       → IfErr result (λ fault. IsLinesFault version fault behind) → IfErr result (λ fault. IsFault fault text)
@@ -66,23 +66,24 @@ same_version Two Two xs ys e = refl
 same_version One Two xs ys e = let byte : 49 ≡ 50 = ap (λ text. get_or text 12 0) e in absurd (omega (arith, byte))
 same_version Two One xs ys e = let byte : 50 ≡ 49 = ap (λ text. get_or text 12 0) e in absurd (omega (arith, byte))
 
-pub typed_in : (version : Version) (es : List Entry) → All IsEntry es → All (Fits version) es → All (IsEntryIn version) es
-typed_in version es typed fits = λ k d lt. record { typed = typed k d lt; fits = fits k d lt }
+-- version 2 has a member for each part of any entry
+pub typed_in_two : (es : List Entry) → All IsEntry es → All (IsEntryIn Two) es
+typed_in_two es typed = λ k d lt. record { typed = typed k d lt; fits = refl }
 
 -- the lines of a journal whose text this is, behind the header
-pub lines_of : (version : Version) (text behind : List ℕ) (journal : List Entry) → text ≡ header version ++ behind → All IsEntry journal → IsTextOf text journal → (behind ≡ lines journal) × All (IsEntryIn version) journal
-lines_of version text behind journal is typed of =
+pub lines_of : (version : Version) (text behind : List ℕ) (journal : List Entry) → text ≡ header version ++ behind → IsTextOf text journal → (behind ≡ lines journal) × All (IsEntryIn version) journal
+lines_of version text behind journal is of =
     let same : of.version ≡ version = same_version of.version version (lines journal) behind (sym of.is ∙ is) in
     let written : text ≡ header version ++ lines journal = of.is ∙ ap (λ v. header v ++ lines journal) same in (
       append_cancel_left (header version) behind (lines journal) (sym is ∙ written),
-      typed_in version journal typed (subst (λ v. All (Fits v) journal) same of.fits),
+      subst (λ v. All (IsEntryIn v) journal) same of.typed,
     )
 
 pub journal_behind : {X : Type 0} (view : X → List Entry) (result : Result X JournalFault) (version : Version) (text behind : List ℕ) → text ≡ header version ++ behind
     → IfOk result (λ found. (es : List Entry) → All (IsEntryIn version) es → behind ≡ lines es → view found ≡ es) → IfErr result (λ fault. IsRefused version fault behind)
-    → (journal : List Entry) → All IsEntry journal → IsTextOf text journal → IsJournalRead view result journal
-journal_behind {X = X} view result version text behind is only refused journal typed of =
-    let parts = lines_of version text behind journal is typed of in
+    → (journal : List Entry) → IsTextOf text journal → IsJournalRead view result journal
+journal_behind {X = X} view result version text behind is only refused journal of =
+    let parts = lines_of version text behind journal is of in
     by result only refused parts.0 parts.1
   where
     by : (result : Result X JournalFault) → IfOk result (λ found. (es : List Entry) → All (IsEntryIn version) es → behind ≡ lines es → view found ≡ es)

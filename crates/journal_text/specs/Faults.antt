@@ -4,7 +4,7 @@ use Rattle.osm_model.specs.Journal.{IsLegal}
 use Rattle.osm_model.specs.declared.commands.Entry.{Entry}
 use Rattle.journal_text.specs.Line.{line}
 use Rattle.journal_text.specs.Text.{header, text_in}
-use Rattle.journal_text.specs.Version.{Fits, IsEntryIn}
+use Rattle.journal_text.specs.Version.{IsEntryIn}
 use Rattle.journal_text.specs.declared.faults.JournalFault.{JournalFault}
 use Rattle.journal_text.specs.declared.faults.JournalFault.TheVariants.{Long, Header, Line, Illegal, Memory}
 use Rattle.journal_text.specs.declared.limits.TheConstants.{TEXT_LIMIT}
@@ -17,14 +17,14 @@ pub record BeginsWithLine (version : Version) (rest : List ℕ) : Type 0 where
   pub behind : List ℕ
   pub is : rest ≡ line entry ++ 10 ∷ behind
 
--- the text begins with the header of this version and with these legal entries, and something stands behind them
+-- the text begins with the header of this version and with the lines of these entries, which are legal and of their types, and this stands behind them
 pub record Begins (version : Version) (text : List ℕ) (journal : List Entry) (rest : List ℕ) : Type 0 where
   pub within : length text ≤ TEXT_LIMIT
   pub legal : IsLegal journal
-  pub fits : All (Fits version) journal
+  pub typed : All (IsEntryIn version) journal
   pub is : text ≡ text_in version journal ++ rest
 
--- what stands behind the legal entries is not empty, and begins with no line of the version
+-- what stands behind the legal entries is not empty, and begins with the line of no entry that fits the version
 pub record IsAtLine (n : ℕ) (text : List ℕ) : Type 0 where
   pub version : Version
   pub journal : List Entry
@@ -34,14 +34,14 @@ pub record IsAtLine (n : ℕ) (text : List ℕ) : Type 0 where
   pub some : rest ≡ [] → ⊥
   pub none : BeginsWithLine version rest → ⊥
 
--- it begins with the line of an entry that may not follow them
+-- it begins with the line of an entry that fits the version and may not follow them
 pub record IsAtIllegal (n : ℕ) (text : List ℕ) : Type 0 where
   pub version : Version
   pub journal : List Entry
   pub entry : Entry
   pub rest : List ℕ
   pub begins : Begins version text journal (line entry ++ 10 ∷ rest)
-  pub fits : Fits version entry
+  pub typed : IsEntryIn version entry
   pub number : n ≡ length journal + 2
   pub illegal : IsLegal (journal ++ entry ∷ []) → ⊥
 

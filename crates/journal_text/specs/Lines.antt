@@ -6,7 +6,7 @@ use Rattle.journal_text.specs.Faults.{BeginsWithLine}
 use Rattle.journal_text.specs.Kept.{may_follow}
 use Rattle.journal_text.specs.Line.{line, IsEntry}
 use Rattle.journal_text.specs.Text.{lines}
-use Rattle.journal_text.specs.Version.{Fits, IsEntryIn}
+use Rattle.journal_text.specs.Version.{IsEntryIn}
 use Rattle.journal_text.specs.declared.faults.JournalFault.{JournalFault}
 use Rattle.journal_text.specs.declared.faults.JournalFault.TheVariants.{Long, Header, Line, Illegal, Memory}
 use Rattle.journal_text.specs.declared.versions.Version.{Version}
@@ -17,7 +17,7 @@ use Rattle.journal_text.specs.declared.versions.Version.{Version}
 pub record Follows (version : Version) (old : List Entry) (bytes : List ℕ) (new : List Entry) : Type 0 where
   pub entry : Entry
   pub is : bytes ≡ line entry
-  pub fits : Fits version entry
+  pub typed : IsEntryIn version entry
   pub follows : may_follow old entry ≡ true
   pub appended : new ≡ old ++ entry ∷ []
 
@@ -29,7 +29,7 @@ FollowsAlone old bytes new = (e : Entry) → IsEntry e → bytes ≡ line e → 
 pub record IsIllegalLine (version : Version) (old : List Entry) (bytes : List ℕ) : Type 0 where
   pub entry : Entry
   pub is : bytes ≡ line entry
-  pub fits : Fits version entry
+  pub typed : IsEntryIn version entry
   pub only : (e : Entry) → IsEntry e → bytes ≡ line e → entry ≡ e
   pub illegal : may_follow old entry ≡ false
 
@@ -47,10 +47,10 @@ IsLineFault version Memory number old bytes = ⊤
 
 -- ---- all lines
 
--- these legal entries were read, and whatever else the text is the lines of begins with them
+-- these legal entries, which fit the version, were read, and whatever else the text is the lines of begins with them
 pub record Reads (version : Version) (text : List ℕ) (journal : List Entry) (rest : List ℕ) : Type 0 where
   pub legal : IsLegal journal
-  pub fits : All (Fits version) journal
+  pub typed : All (IsEntryIn version) journal
   pub is : text ≡ lines journal ++ rest
   pub only : (es : List Entry) → All (IsEntryIn version) es → text ≡ lines es → (more : List Entry) × (es ≡ journal ++ more) × (rest ≡ lines more) × All (IsEntryIn version) more
 
@@ -59,7 +59,7 @@ pub record StopsAtLine (version : Version) (n : ℕ) (text : List ℕ) : Type 0 
   pub journal : List Entry
   pub rest : List ℕ
   pub legal : IsLegal journal
-  pub fits : All (Fits version) journal
+  pub typed : All (IsEntryIn version) journal
   pub is : text ≡ lines journal ++ rest
   pub number : n ≡ length journal + 2
   pub some : rest ≡ [] → ⊥
@@ -71,9 +71,9 @@ pub record StopsAtIllegal (version : Version) (n : ℕ) (text : List ℕ) : Type
   pub entry : Entry
   pub rest : List ℕ
   pub legal : IsLegal journal
-  pub fits : All (Fits version) journal
+  pub typed : All (IsEntryIn version) journal
   pub is : text ≡ lines journal ++ (line entry ++ 10 ∷ rest)
-  pub fits_too : Fits version entry
+  pub typed_too : IsEntryIn version entry
   pub number : n ≡ length journal + 2
   pub illegal : IsLegal (journal ++ entry ∷ []) → ⊥
 

@@ -3,7 +3,7 @@ use Rattle.std.specs.Prelude.{◌≡◌, ℕ, ◌≤◌, List, [], ◌∷◌, �
 use Rattle.osm_model.specs.Journal.{IsLegal}
 use Rattle.osm_model.specs.declared.commands.Entry.{Entry}
 use Rattle.journal_text.specs.Line.{line}
-use Rattle.journal_text.specs.Version.{Fits}
+use Rattle.journal_text.specs.Version.{IsEntryIn}
 use Rattle.journal_text.specs.declared.limits.TheConstants.{TEXT_LIMIT}
 use Rattle.journal_text.specs.declared.versions.Version.{Version}
 use Rattle.journal_text.specs.declared.versions.Version.TheVariants.{One, Two}
@@ -25,10 +25,10 @@ text_in version es = header version ++ lines es
 abbrev pub text_of : List Entry → List ℕ
 text_of es = text_in Two es
 
--- the text is that of this journal, in a version that has a member for all that its entries have
+-- the text is that of this journal, whose entries are of their types, in a version that has a member for all that they have
 pub record IsTextOf (text : List ℕ) (journal : List Entry) : Type 0 where
   pub version : Version
   pub legal : IsLegal journal
-  pub fits : All (Fits version) journal
+  pub typed : All (IsEntryIn version) journal
   pub is : text ≡ text_in version journal
   pub within : length text ≤ TEXT_LIMIT

@@ -53,6 +53,7 @@ fn entry_like(alloc: Global, bytes: &[u8]) -> Result<Entry, LineFault>
 /// and then told by the line that it has itself.
 pub fn read_entry(alloc: Global, bytes: &[u8]) -> Result<Entry, LineFault>
     ensures line { IfOk result (λ e. bytes.now ≡ line e) }
+    ensures typed { IfOk result IsEntry }
     ensures all { (e : Entry) → IsEntry e → bytes.now ≡ line e → IsEntryRead result e }
 {
     let found = entry_like(alloc, bytes)?;
@@ -63,6 +64,7 @@ pub fn read_entry(alloc: Global, bytes: &[u8]) -> Result<Entry, LineFault>
 /// Refuses what isn't the line of the entry.
 fn compare(alloc: Global, entry: &Entry, bytes: &[u8]) -> Result<(), LineFault>
     ensures same { OnOk result (bytes.now ≡ line entry.now) }
+    ensures typed { OnOk result (IsEntry entry.now) }
     ensures other { result ≡ Err LineFault.NotLine → bytes.now ≡ line entry.now → ⊥ }
 {
     let own = entry_line(alloc, entry)?;

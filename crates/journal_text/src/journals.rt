@@ -6,7 +6,7 @@ ghost use Rattle.journal_text.specs.Faults.{IsFault, IsJournalRead};
 ghost use Rattle.journal_text.specs.Line.{line, IsEntry};
 ghost use Rattle.journal_text.specs.Lines.{Follows, FollowsAlone, IsLineFault, IsLinesFault, IsRefused};
 ghost use Rattle.journal_text.specs.Text.{lines, text_of, IsTextOf};
-ghost use Rattle.journal_text.specs.Version.{Fits, IsEntryIn};
+ghost use Rattle.journal_text.specs.Version.{IsEntryIn};
 ghost use Rattle.journal_text.specs.declared.limits.TheConstants.{TEXT_LIMIT};
 
 use crate::entries::read_entry;
@@ -83,7 +83,7 @@ pub fn read_lines<K: Keeper>(
     requires { K.kept keeper.old ≡ [] }
     ensures ok { OnOk result (text.now ≡ lines (K.kept keeper.new)) }
     ensures legal { IsLegal (K.kept keeper.new) }
-    ensures fits { All (Fits version) (K.kept keeper.new) }
+    ensures typed { All (IsEntryIn version) (K.kept keeper.new) }
     ensures only { OnOk result ((es : List Entry) → All (IsEntryIn version) es → text.now ≡ lines es → K.kept keeper.new ≡ es) }
     ensures fault { IfErr result (λ f. IsLinesFault version f text.now) }
     ensures refused { IfErr result (λ f. IsRefused version f text.now) }
@@ -107,7 +107,7 @@ pub fn read_lines<K: Keeper>(
 /// from when changesets are large. The answer is that journal.
 pub fn read_journal(alloc: Global, text: &[u8]) -> Result<Vec<Entry>, JournalFault>
     ensures text { IfOk result (λ v. IsTextOf text.now v.items) }
-    ensures journal { (journal : List Entry) → All IsEntry journal → IsTextOf text.now journal → IsJournalRead (λ v. v.items) result journal }
+    ensures journal { (journal : List Entry) → IsTextOf text.now journal → IsJournalRead (λ v. v.items) result journal }
     ensures fault { IfErr result (λ f. IsFault f text.now) }
 {
     if text.len() > TEXT_LIMIT {
@@ -130,7 +130,7 @@ fn entries_of(
     requires { journal.old ≡ [] }
     ensures ok { IfOk result (λ v. text.now ≡ lines v.items) }
     ensures legal { IfOk result (λ v. IsLegal v.items) }
-    ensures fits { IfOk result (λ v. All (Fits version) v.items) }
+    ensures typed { IfOk result (λ v. All (IsEntryIn version) v.items) }
     ensures only { IfOk result (λ v. (es : List Entry) → All (IsEntryIn version) es → text.now ≡ lines es → v.items ≡ es) }
     ensures fault { IfErr result (λ f. IsLinesFault version f text.now) }
     ensures refused { IfErr result (λ f. IsRefused version f text.now) }

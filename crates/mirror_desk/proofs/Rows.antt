@@ -1,5 +1,5 @@
 -- What one ask is answered, whatever it comes to.
-use Rattle.std.proofs.Common.{◌≡◌, ℕ, ◌+◌, ◌≤◌, List, [], ◌∷◌, ◌++◌, length, Option, Some, None, Result, Ok, Err, ◌⊎◌, inl, inr, ⊎_elim, refl, sym, subst}
+use Rattle.std.proofs.Common.{◌≡◌, ℕ, ◌+◌, List, [], ◌∷◌, ◌++◌, length, Option, Some, None, Result, Ok, Err, ◌⊎◌, inl, inr, ⊎_elim, refl, sym, subst}
 use Rattle.std.specs.Prelude.{IfOk, OnOk, OnErr}
 use Rattle.osm_base.specs.declared.memory.Memory.{Memory}
 use Rattle.osm_model.specs.Journal.{IsLegal}
@@ -9,8 +9,7 @@ use Rattle.http_wire.specs.declared.message.Message.{Message}
 use Rattle.http_link.specs.declared.desk.Reply.{Reply}
 use Rattle.http_link.specs.Desk.{counted_reply}
 use Rattle.user_table.specs.Users.{Users}
-use Rattle.replication_feed.specs.Piece.{IsPiece}
-use Rattle.replication_feed.specs.Text.{text_of}
+use Rattle.replication_feed.specs.Piece.{IsPieceText}
 use Rattle.replication_feed.specs.declared.pieces.Piece.{Piece}
 use Rattle.journal_follower.specs.Taken.{taken, after, after_call, kept_with}
 use Rattle.journal_follower.specs.declared.answers.Taken.{Taken}
@@ -85,22 +84,21 @@ refused_on old moment asked body (fault.Refused r) (Ok reply) gives tells =
 
 pub piece_taken :
     (old : List Entry) (moment : ℕ) (body : List ℕ) (piece : Piece) (result : Result Reply Memory) (new : List Entry)
-    → body ≡ text_of piece
-    → 1 ≤ piece.number
+    → IsPieceText body piece
     → IfOk result (λ reply. reply ≡ reply_of (Some (took piece.number (length new + 1) (taken old piece))))
     → OnOk result (new ≡ after old piece)
     → OnErr result (new ≡ old)
     → AnswersAsk old moment (takes body) (counted_reply result) new
-piece_taken old moment body piece (Ok reply) new text counted tells comes_to stays = record {
+piece_taken old moment body piece (Ok reply) new is tells comes_to stays = record {
   told = Some (took piece.number (length new + 1) (taken old piece));
-  row = inl (record { piece = piece; text = text; counted = counted; told_is = refl; comes_to = comes_to });
+  row = inl (record { piece = piece; is = is; told_is = refl; comes_to = comes_to });
   text = tells;
 }
-piece_taken old moment body piece (Err memory) new text counted tells comes_to stays = record { told = None; row = stays; text = refl }
+piece_taken old moment body piece (Err memory) new is tells comes_to stays = record { told = None; row = stays; text = refl }
 
 pub none_taken :
     (old : List Entry) (moment : ℕ) (body : List ℕ) (result : Result Reply Memory)
-    → ((piece : Piece) → IsPiece piece → body ≡ text_of piece → ⊥)
+    → ((piece : Piece) → IsPieceText body piece → ⊥)
     → IfOk result (λ reply. reply ≡ reply_of (Some not_piece))
     → AnswersAsk old moment (takes body) (counted_reply result) old
 none_taken old moment body result none = told_on old moment (takes body) not_piece result (inr (record { none = none; told_is = refl; stays = refl }))

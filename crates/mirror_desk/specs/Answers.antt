@@ -1,5 +1,5 @@
 -- What a mirror answers, from the entries that it has to those that it has then.
-use Rattle.std.specs.Prelude.{◌≡◌, ℕ, ◌+◌, ◌≤◌, ◌⊎◌, List, [], ◌∷◌, ◌++◌, length, codes, decimal, Option, Some, None}
+use Rattle.std.specs.Prelude.{◌≡◌, ℕ, ◌+◌, ◌⊎◌, List, [], ◌∷◌, ◌++◌, length, codes, decimal, Option, Some, None}
 use Rattle.osm_change.specs.declared.answers.Answer.TheVariants as answer
 use Rattle.osm_model.specs.Ask.{ask}
 use Rattle.osm_model.specs.Journal.{IsLegal, replay}
@@ -8,8 +8,7 @@ use Rattle.http_wire.specs.declared.message.Message.{Message}
 use Rattle.http_link.specs.declared.desk.Reply.{Reply}
 use Rattle.http_link.specs.Desk.{memory_body}
 use Rattle.user_table.specs.Users.{Users}
-use Rattle.replication_feed.specs.Piece.{IsPiece}
-use Rattle.replication_feed.specs.Text.{text_of}
+use Rattle.replication_feed.specs.Piece.{IsPieceText}
 use Rattle.replication_feed.specs.declared.pieces.Piece.{Piece}
 use Rattle.journal_follower.specs.Taken.{taken, after}
 use Rattle.journal_follower.specs.declared.answers.Taken.{Taken}
@@ -57,17 +56,16 @@ reply_of (Some told) = reply_told told
 
 -- ---- rows
 
--- The body is the text of a piece, which is taken.
+-- The body is the text of a piece, and of no other one (`texts_tell_pieces`): it is taken.
 pub record TakesPiece (old : List Entry) (body : List ℕ) (told : Told) (new : List Entry) : Type 0 where
   pub piece : Piece
-  pub text : body ≡ text_of piece
-  pub counted : 1 ≤ piece.number
+  pub is : IsPieceText body piece
   pub told_is : told ≡ took piece.number (length new + 1) (taken old piece)
   pub comes_to : new ≡ after old piece
 
 -- The body is the text of no piece, and nothing is done.
 pub record TakesNone (old : List Entry) (body : List ℕ) (told : Told) (new : List Entry) : Type 0 where
-  pub none : (piece : Piece) → IsPiece piece → body ≡ text_of piece → ⊥
+  pub none : (piece : Piece) → IsPieceText body piece → ⊥
   pub told_is : told ≡ not_piece
   pub stays : new ≡ old
 

@@ -2,3 +2,4 @@ pub mod Request
 pub mod Gives
 pub mod Answers
 pub mod Desk
+pub mod Feeds

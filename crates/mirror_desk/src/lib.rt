@@ -17,4 +17,4 @@ mod requests;
 
 pub use answers::answer_mirrored;
 pub use desk::MirrorDesk;
-pub use law::mirror_serves;
+pub use law::{links_follow_journals, mirror_serves};

@@ -1,5 +1,6 @@
 mod Digits
 mod Numbered
 mod Decimals
+mod Told
 mod Replayed
 mod Vectors

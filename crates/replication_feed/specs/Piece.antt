@@ -1,7 +1,8 @@
--- The pieces of a journal, and what a text is read as.
-use Rattle.std.specs.Prelude.{◌≡◌, ℕ, ◌+◌, ◌≤◌, ◌<◌, ◌^◌, List, [], ◌∷◌, Result, Ok, Err, ⊤}
+-- The pieces of a journal, their texts, and what is read of a text.
+use Rattle.std.specs.Prelude.{◌≡◌, ℕ, ◌+◌, ◌≤◌, ◌<◌, ◌^◌, List, [], ◌∷◌, length, All, Result, Ok, Err, ⊤}
 use Rattle.osm_model.specs.declared.commands.Entry.{Entry}
 use Rattle.journal_text.specs.Line.{IsEntry}
+use Rattle.replication_feed.specs.Text.{text_of}
 use Rattle.replication_feed.specs.declared.faults.PieceFault.{PieceFault}
 use Rattle.replication_feed.specs.declared.faults.PieceFault.TheVariants.{NotPiece, Memory}
 use Rattle.replication_feed.specs.declared.pieces.Piece.{Piece}
@@ -28,15 +29,25 @@ pub record IsPiece (p : Piece) : Type 0 where
   pub fits : p.number < 2 ^ 64
   pub entry : IsEntry p.entry
 
+-- what a journal in memory is: its entries are of their types, and a number counts them
+pub record IsFeed (journal : List Entry) : Type 0 where
+  pub typed : All IsEntry journal
+  pub counted : length journal < 2 ^ 64
+
+-- the text is that of this piece
+pub record IsPieceText (text : List ℕ) (p : Piece) : Type 0 where
+  pub typed : IsPiece p
+  pub is : text ≡ text_of p
+
+-- each text is that of the piece in its place
+abbrev pub AreTextsOf : List (List ℕ) → List Piece → Type 0
+AreTextsOf [] [] = ⊤
+AreTextsOf [] (p ∷ ps) = ⊥
+AreTextsOf (text ∷ texts) [] = ⊥
+AreTextsOf (text ∷ texts) (p ∷ ps) = IsPieceText text p × AreTextsOf texts ps
+
 -- the answer is this piece, unless memory ran out
 abbrev pub IsPieceRead : Result Piece PieceFault → Piece → Type 0
 IsPieceRead (Ok found) p = found ≡ p
 IsPieceRead (Err Memory) p = ⊤
 IsPieceRead (Err NotPiece) p = ⊥
-
--- each of these was read of the text of the piece in its place
-abbrev pub AreRead : List Piece → List Piece → Type 0
-AreRead [] [] = ⊤
-AreRead [] (p ∷ ps) = ⊥
-AreRead (found ∷ more) [] = ⊥
-AreRead (found ∷ more) (p ∷ ps) = IsPieceRead (Ok found) p × AreRead more ps

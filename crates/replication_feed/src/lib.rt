@@ -13,7 +13,7 @@ mod state;
 mod write;
 
 pub use faults::PieceFault;
-pub use law::pieces_replay;
+pub use law::{pieces_replay, texts_tell_pieces};
 pub use pieces::Piece;
 pub use read::read_piece;
 pub use state::state_text;

@@ -7,8 +7,8 @@
 ghost use Rattle.std.specs.Prelude.{◌≡◌, ℕ, ◌≤◌, ◌<◌, ◌^◌, ◌++◌, List, true, IfOk, IfSome, MatchOption};
 ghost use Rattle.std.specs.List.{list_all};
 ghost use Rattle.std.specs.Char.{is_ascii_digit};
-ghost use Rattle.replication_feed.specs.Piece.{IsPiece, IsPieceRead};
-ghost use Rattle.replication_feed.specs.Text.{beginning, middle, ending, numbered, text_of};
+ghost use Rattle.replication_feed.specs.Piece.{IsPieceText, IsPieceRead};
+ghost use Rattle.replication_feed.specs.Text.{beginning, middle, ending, numbered};
 ghost use Rattle.replication_feed.specs.declared.pieces.Piece.{Piece};
 
 use crate::faults::PieceFault;
@@ -20,9 +20,8 @@ use std::alloc::Global;
 /// The piece whose text this is, byte for byte: `NotPiece` exactly where it isn't the text of any
 /// piece whose number is 1 at least.
 pub fn read_piece(alloc: Global, text: &[u8]) -> Result<Piece, PieceFault>
-    ensures text { IfOk result (λ p. text.now ≡ text_of p) }
-    ensures counted { IfOk result (λ p. 1 ≤ p.number) }
-    ensures all { (p : Piece) → IsPiece p → text.now ≡ text_of p → IsPieceRead result p }
+    ensures text { IfOk result (λ p. IsPieceText text.now p) }
+    ensures all { (p : Piece) → IsPieceText text.now p → IsPieceRead result p }
 {
     let Some((line, number)) = line_and_number(text) else {
         return Err(PieceFault::NotPiece);

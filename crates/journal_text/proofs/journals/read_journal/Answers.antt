@@ -7,7 +7,7 @@ pub returns-clause-text : goal.returns-clause-text
 returns-clause-text c =
     let text = c.args.text.now in
     let within : length text ≤ TEXT_LIMIT = omega (arith, c.if-text-gt-TEXT_LIMIT.false) in
-    given_behind c.in-Some.version (λ v. v.items) c.entries_of.result text c.in-Some.lines.now within c.in-Some.ensures.some c.entries_of.ensures.ok c.entries_of.ensures.legal c.entries_of.ensures.fits
+    given_behind c.in-Some.version (λ v. v.items) c.entries_of.result text c.in-Some.lines.now within c.in-Some.ensures.some c.entries_of.ensures.ok c.entries_of.ensures.legal c.entries_of.ensures.typed
 
 pub returns-clause-journal : goal.returns-clause-journal
 returns-clause-journal c =

@@ -11,7 +11,6 @@ returns-in-Ok-clause-answers c = λ moment.
     c.take_piece.result
     c.take_piece.new.follower
     c.in-Ok.ensures.text
-    c.in-Ok.ensures.counted
     c.take_piece.ensures.reply
     c.take_piece.ensures.journal
     c.take_piece.ensures.memory

@@ -1,5 +1,7 @@
-use Rattle.replication_feed.proofs.Replayed.{entries_taken, replays}
+use Rattle.replication_feed.proofs.Replayed.{are_pieces, have_texts, gives_pieces, gives_entries, gives_state}
 use Rattle.replication_feed.proofs.law.pieces_replay.Goals as goal
 
 pub returns : goal.returns
-returns c = record { entries = entries_taken 1; replay = replays }
+returns c =
+    let tell = c.texts_tell_pieces.ensures in
+    record { pieces = are_pieces; texts = have_texts; read = gives_pieces tell; entries = gives_entries tell; replay = gives_state tell }
