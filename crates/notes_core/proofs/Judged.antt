@@ -1,15 +1,15 @@
 -- What an accepted command tells of its note.
 use Rattle.std.proofs.Common.{◌≡◌, ℕ, zero, suc, ◌-◌, ◌<◌, ◌≤◌, Bool, true, false, ◌&&◌, List, [], ◌∷◌, length, Option, Some, None, Result, Ok, Err, refl, sym, ap, ◌∙◌, subst, arith}
-use Rattle.std.specs.Prelude.{◌==◌, is_ok, IsOk, MatchResult, slice_get, if◌then◌else◌}
+use Rattle.std.specs.Prelude.{◌==◌, is_ok, IsOk, MatchResult, nat_lt, slice_get, if◌then◌else◌}
 use Rattle.std.specs.Option.{ForSome, option_map_or}
 use Rattle.std.proofs.lemmas.Option.{slice_get_within}
 use Rattle.std.proofs.lemmas.Bool.{eqb-true}
 use Rattle.osm_base.specs.Outcome.{◌>>=◌}
 use Rattle.osm_base.specs.Place.{Position}
 use Rattle.osm_base.specs.Stamp.{stamp_after}
-use Rattle.osm_base.specs.declared.limits.TheConstants.{MOMENT_LIMIT}
+use Rattle.osm_base.specs.declared.limits.TheConstants.{COMMENT_LIMIT, MOMENT_LIMIT}
 use Rattle.osm_base.specs.declared.people.Owner.{Owner}
-use Rattle.notes_core.specs.Act.{Effect, note, known, still_open, now_closed, judge, changed, with_note, opened, commented, comment_of, takes, after, settled, subject_of}
+use Rattle.notes_core.specs.Act.{Effect, note, known, still_open, now_closed, not_full, takes_comment, takes_reopening, judge, changed, with_note, opened, commented, comment_of, takes, after, settled, subject_of}
 use Rattle.notes_core.specs.World.{IsTimelyMoment}
 use Rattle.notes_core.specs.declared.commands.NoteCommand.{NoteCommand}
 use Rattle.notes_core.specs.declared.commands.NoteCommand.TheVariants as command
@@ -91,6 +91,30 @@ closed_same id n m is = go n.closed is where
   go None is = cc
   go (Some at) is = cc
 
+room_same : (id : ℕ) (n m : Note) → not_full id n ≡ Ok m → m ≡ n
+room_same id n m is = go (nat_lt (length n.comments) COMMENT_LIMIT) is where
+  go : (b : Bool) → (if b then Ok n else Err (refused.NoteFull id)) ≡ Ok m → m ≡ n
+  go true is = cc
+  go false is = cc
+
+-- two tests, of which each answers the note that it passes
+two_same :
+    (first second : Note → Result Note NoteRefusal) (n m : Note)
+    → ((x : Note) → first n ≡ Ok x → x ≡ n)
+    → ((y x : Note) → second y ≡ Ok x → x ≡ y)
+    → first n >>= second ≡ Ok m
+    → m ≡ n
+two_same first second n m one two is = go (first n) refl is where
+  go : (r : Result Note NoteRefusal) → first n ≡ r → r >>= second ≡ Ok m → m ≡ n
+  go (Ok x) at is = two x m is ∙ one x at
+  go (Err e) at is = cc
+
+comment_same : (id : ℕ) (n m : Note) → takes_comment id n ≡ Ok m → m ≡ n
+comment_same id n m is = two_same (still_open id) (not_full id) n m (λ x h. open_same id n x h) (λ y x h. room_same id y x h) is
+
+reopening_same : (id : ℕ) (n m : Note) → takes_reopening id n ≡ Ok m → m ≡ n
+reopening_same id n m is = two_same (now_closed id) (not_full id) n m (λ x h. closed_same id n x h) (λ y x h. room_same id y x h) is
+
 -- the note of an accepted command, and what that comes to
 pub record IsOnNote (S : Notes) (caller : Option Owner) (t : ℕ) (c : NoteCommand) (id : ℕ) : Type 0 where
   pub found : Note
@@ -106,8 +130,8 @@ on_note S caller t (command.Comment i text) id named ok = subst (λ (j : ℕ). I
   done : Note → Result Effect NoteRefusal
   done n = Ok (changed S i (commented n (comment_of caller t (command.Comment i text))))
 
-  p : IsPassed S i (still_open i)
-  p = passes S i (still_open i) done (open_same i) ok
+  p : IsPassed S i (takes_comment i)
+  p = passes S i (takes_comment i) done (comment_same i) ok
 on_note S caller t (command.CloseNote i text) id named ok = subst (λ (j : ℕ). IsOnNote S caller t (command.CloseNote i text) j) here (record { found = p.found; at = p.at; judged = ap (λ (r : Result Note NoteRefusal). r >>= done) p.passed }) where
   here : i ≡ id
   here = cc
@@ -124,8 +148,8 @@ on_note S caller t (command.Reopen i text) id named ok = subst (λ (j : ℕ). Is
   done : Note → Result Effect NoteRefusal
   done n = Ok (changed S i (commented n (comment_of caller t (command.Reopen i text))))
 
-  p : IsPassed S i (now_closed i)
-  p = passes S i (now_closed i) done (closed_same i) ok
+  p : IsPassed S i (takes_reopening i)
+  p = passes S i (takes_reopening i) done (reopening_same i) ok
 
 -- ---- entries
 

@@ -1,5 +1,6 @@
 -- What the definitions give for some commands and queries, one after another on one list of notes.
-use Rattle.std.proofs.Common.{◌≡◌, ℕ, true, false, List, [], ◌∷◌, pos, Option, Some, None, Ok, Err, codes, refl}
+use Rattle.std.proofs.Common.{◌≡◌, ℕ, true, false, List, [], ◌∷◌, pos, Option, Some, None, Ok, Err, codes, replicate, refl}
+use Rattle.std.specs.Prelude.{is_ok}
 use Rattle.osm_base.specs.Place.{Area, Position, at_position}
 use Rattle.osm_base.specs.declared.people.Owner.{Owner}
 use Rattle.notes_core.specs.Act.{empty, judge, settled, known}
@@ -10,7 +11,7 @@ use Rattle.notes_core.specs.declared.commands.NoteCommand.TheVariants.{OpenNote,
 use Rattle.notes_core.specs.declared.notes.Note.{Note}
 use Rattle.notes_core.specs.declared.notes.NoteAction.TheVariants as action
 use Rattle.notes_core.specs.declared.notes.NoteComment.{NoteComment}
-use Rattle.notes_core.specs.declared.notes.NoteRefusal.TheVariants.{NoNote, NoteClosed, NoteOpen, NotesArea}
+use Rattle.notes_core.specs.declared.notes.NoteRefusal.TheVariants.{NoNote, NoteClosed, NoteOpen, NoteFull, NotesArea}
 use Rattle.notes_core.specs.declared.notes.Notes.{Notes}
 
 abbrev munich : Position
@@ -86,6 +87,24 @@ unknown = refl
 unknown_first : known opened_state 0 ≡ Err (NoNote 0)
 unknown_first = refl
 
+-- one that has as many comments as it may have takes no further one
+abbrev full : Option ℕ → Notes
+full closed = notes (record { at = munich; created = 1700000000; closed = closed; comments = replicate 10000 gate }) 1700000010
+
+full_stays : judge (full None) alice 1700000020 (Comment 1 (codes "still")) ≡ Err (NoteFull 1)
+full_stays = refl
+
+full_stays_closed : judge (full (Some 1700000010)) alice 1700000020 (Reopen 1 (codes "again")) ≡ Err (NoteFull 1)
+full_stays_closed = refl
+
+-- it is closed all the same
+full_closes : is_ok (judge (full None) alice 1700000020 (CloseNote 1 [])) ≡ true
+full_closes = refl
+
+-- with one comment less there is room
+nearly_full : is_ok (judge (notes (record open_gate { comments = replicate 9999 gate }) 0) alice 1700000020 (Comment 1 (codes "last"))) ≡ true
+nearly_full = refl
+
 -- ---- looks
 
 one_comment : comments_of opened_state 1 ≡ 1
@@ -131,7 +150,7 @@ too_wide = refl
 -- ---- statuses
 
 abbrev statuses : List ℕ
-statuses = refusal_status (NoNote 2) ∷ refusal_status (NoteClosed 1700000010 1) ∷ refusal_status (NoteOpen 1) ∷ refusal_status (NotesArea 2500000050000000) ∷ []
+statuses = refusal_status (NoNote 2) ∷ refusal_status (NoteClosed 1700000010 1) ∷ refusal_status (NoteOpen 1) ∷ refusal_status (NoteFull 1) ∷ refusal_status (NotesArea 2500000050000000) ∷ []
 
-statuses_are : statuses ≡ 404 ∷ 409 ∷ 409 ∷ 400 ∷ []
+statuses_are : statuses ≡ 404 ∷ 409 ∷ 409 ∷ 409 ∷ 400 ∷ []
 statuses_are = refl

@@ -1,9 +1,10 @@
 -- Notes, and what a command does to them.
-use Rattle.std.specs.Prelude.{ℕ, ◌+◌, ◌-◌, ◌==◌, Bool, ◌&&◌, is_ok, if◌then◌else◌, List, [], ◌∷◌, ◌++◌, length, slice_get, slice_set, Option, Some, None, Result, Ok, Err}
+use Rattle.std.specs.Prelude.{ℕ, ◌+◌, ◌-◌, ◌==◌, Bool, ◌&&◌, nat_lt, is_ok, if◌then◌else◌, List, [], ◌∷◌, ◌++◌, length, slice_get, slice_set, Option, Some, None, Result, Ok, Err}
 use Rattle.std.specs.Option.{option_map_or}
 use Rattle.osm_base.specs.Outcome.{◌>>=◌}
 use Rattle.osm_base.specs.Place.{Position}
 use Rattle.osm_base.specs.Stamp.{stamp_after}
+use Rattle.osm_base.specs.declared.limits.TheConstants.{COMMENT_LIMIT}
 use Rattle.osm_base.specs.declared.people.Owner.{Owner}
 use Rattle.notes_core.specs.declared.commands.NoteCommand.{NoteCommand}
 use Rattle.notes_core.specs.declared.commands.NoteCommand.TheVariants as command
@@ -92,21 +93,38 @@ still_open id n = option_map_or (λ at. Err (refused.NoteClosed at id)) n.closed
 abbrev pub now_closed : ℕ → Note → Result Note NoteRefusal
 now_closed id n = option_map_or (λ at. Ok n) n.closed (Err (refused.NoteOpen id))
 
+-- there is room for one more comment
+abbrev pub not_full : ℕ → Note → Result Note NoteRefusal
+not_full id n = if nat_lt (length n.comments) COMMENT_LIMIT then Ok n else Err (refused.NoteFull id)
+
+abbrev pub takes_comment : ℕ → Note → Result Note NoteRefusal
+takes_comment id n = still_open id n >>= not_full id
+
+abbrev pub takes_reopening : ℕ → Note → Result Note NoteRefusal
+takes_reopening id n = now_closed id n >>= not_full id
+
 abbrev pub open_note : Notes → ℕ → Result Note NoteRefusal
 open_note S id = known S id >>= still_open id
 
 abbrev pub closed_note : Notes → ℕ → Result Note NoteRefusal
 closed_note S id = known S id >>= now_closed id
 
--- what a command of a caller comes to at a stamp
+-- the note that a comment is about, and the one that a reopening is about
+abbrev pub commentable_note : Notes → ℕ → Result Note NoteRefusal
+commentable_note S id = known S id >>= takes_comment id
+
+abbrev pub reopenable_note : Notes → ℕ → Result Note NoteRefusal
+reopenable_note S id = known S id >>= takes_reopening id
+
+-- what a command of a caller comes to at a stamp; a closing needs no room, so that an open note can always be closed
 abbrev pub judge : Notes → Option Owner → ℕ → NoteCommand → Result Effect NoteRefusal
 judge S caller t (command.OpenNote at text) = Ok (with_note S (opened at (comment_of caller t (command.OpenNote at text))))
 judge S caller t (command.Comment id text) =
-    open_note S id >>= λ n. Ok (changed S id (commented n (comment_of caller t (command.Comment id text))))
+    commentable_note S id >>= λ n. Ok (changed S id (commented n (comment_of caller t (command.Comment id text))))
 judge S caller t (command.CloseNote id text) =
     open_note S id >>= λ n. Ok (changed S id (commented n (comment_of caller t (command.CloseNote id text))))
 judge S caller t (command.Reopen id text) =
-    closed_note S id >>= λ n. Ok (changed S id (commented n (comment_of caller t (command.Reopen id text))))
+    reopenable_note S id >>= λ n. Ok (changed S id (commented n (comment_of caller t (command.Reopen id text))))
 
 abbrev pub settled : Notes → ℕ → Result Effect NoteRefusal → Notes
 settled S t (Ok done) = record done.state { last = t }

@@ -1,4 +1,5 @@
 pub mod Act
+pub mod Bound
 pub mod Search
 pub mod Plan
 pub mod World

@@ -1,10 +1,11 @@
 -- Notes as a machine.
-use Rattle.std.specs.Prelude.{⊤, ℕ, List, Option, Some, None, Result, Ok, Err}
+use Rattle.std.specs.Prelude.{ℕ, List, Option, Some, None, Result, Ok, Err}
 use Rattle.osm_base.specs.Stamp.{stamp_after}
 use Rattle.machine_law.specs.declared.tags.Settled.{Settled}
 use Rattle.machine_law.specs.declared.tags.Tag.{Tag}
 use Rattle.machine_law.specs.Rules.{Rules}
 use Rattle.notes_core.specs.Act.{Effect, empty, known, judge, after, takes, entry_of}
+use Rattle.notes_core.specs.Bound.{AreBounded}
 use Rattle.notes_core.specs.Plan.{Stands, IsPlanned, Differs}
 use Rattle.notes_core.specs.Search.{found, numbered}
 use Rattle.notes_core.specs.Shown.{effect_bytes, one_bytes, found_bytes}
@@ -51,5 +52,5 @@ note_rules = record {
   planned = IsPlanned;
   stands = Stands;
   differs = Differs;
-  consistent = λ S. ⊤;
+  consistent = AreBounded;
 }

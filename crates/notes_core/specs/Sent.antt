@@ -24,4 +24,5 @@ abbrev pub HasTimelyEnd : NoteRefusal → Type 0
 HasTimelyEnd (refused.NoteClosed at id) = IsTimelyMoment at
 HasTimelyEnd (refused.NoNote id) = Unit {0}
 HasTimelyEnd (refused.NoteOpen id) = Unit {0}
+HasTimelyEnd (refused.NoteFull id) = Unit {0}
 HasTimelyEnd (refused.NotesArea area) = Unit {0}

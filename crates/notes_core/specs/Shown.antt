@@ -2,6 +2,7 @@
 use Rattle.std.specs.Prelude.{ℕ, ◌/◌, ◌%◌, List, [], ◌∷◌, Option, Some, None, Result, Ok, Err, codes, flat_map}
 use Rattle.serde_json.specs.Data.{Data, string}
 use Rattle.serde_json.specs.Written.{compact_text}
+use Rattle.osm_base.specs.declared.limits.TheConstants.{COMMENT_LIMIT}
 use Rattle.osm_base.specs.declared.people.Owner.{Owner}
 use Rattle.osm_json.specs.Shown.{Field, field, field_if, record_of, list_of, natural, integer, moment, document}
 use Rattle.notes_core.specs.Act.{Effect}
@@ -59,6 +60,7 @@ abbrev pub refusal_status : NoteRefusal → ℕ
 refusal_status (refused.NoNote id) = 404
 refusal_status (refused.NoteClosed at id) = 409
 refusal_status (refused.NoteOpen id) = 409
+refusal_status (refused.NoteFull id) = 409
 refusal_status (refused.NotesArea area) = 400
 
 unfoldable pub refusal_data : NoteRefusal → Data
@@ -68,6 +70,10 @@ refusal_data (refused.NoteClosed at id) = record_of (
     ∷ field (codes "error") (string (codes "note_closed"))
     ∷ field (codes "id") (natural id) ∷ [])
 refusal_data (refused.NoteOpen id) = record_of (field (codes "error") (string (codes "note_open")) ∷ field (codes "id") (natural id) ∷ [])
+refusal_data (refused.NoteFull id) = record_of (
+    field (codes "error") (string (codes "note_full"))
+    ∷ field (codes "id") (natural id)
+    ∷ field (codes "limit") (natural COMMENT_LIMIT) ∷ [])
 refusal_data (refused.NotesArea area) = record_of (
     field (codes "area") (natural area)
     ∷ field (codes "error") (string (codes "notes_area"))

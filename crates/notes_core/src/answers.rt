@@ -33,7 +33,9 @@ fn status_of(refusal: &NoteRefusal) -> u16
 {
     match refusal {
         NoteRefusal::NoNote { .. } => 404,
-        NoteRefusal::NoteClosed { .. } | NoteRefusal::NoteOpen { .. } => 409,
+        NoteRefusal::NoteClosed { .. }
+        | NoteRefusal::NoteOpen { .. }
+        | NoteRefusal::NoteFull { .. } => 409,
         NoteRefusal::NotesArea { .. } => 400,
     }
 }

@@ -28,7 +28,7 @@ pub struct NotesMachine;
 impl Machine for NotesMachine {
     ghost use Rattle.notes_core.specs.World.{state_of, HasRoomFor};
     ghost use Rattle.notes_core.specs.Machine.{note_rules};
-    ghost use Rattle.notes_core.specs.Laws.{accepted_taken, empty_kept, taken_kept};
+    ghost use Rattle.notes_core.specs.Laws.{accepted_taken, empty_bounded, after_bounded};
 
     type World = NotesWorld;
 
@@ -117,9 +117,9 @@ impl Machine for NotesMachine {
 
     ghost entry_taken = { accepted_taken };
 
-    ghost start_consistent = { empty_kept };
+    ghost start_consistent = { empty_bounded };
 
-    ghost after_consistent = { taken_kept };
+    ghost after_consistent = { after_bounded };
 }
 
 fn plan_command(world: &NotesWorld, asked: NoteAsked) -> NotePlan

@@ -50,6 +50,8 @@ pub enum NoteRefusal {
     NoteClosed { closed_at: Stamp, id: u64 },
     /// A note that is open isn't reopened.
     NoteOpen { id: u64 },
+    /// A note of `COMMENT_LIMIT` comments takes no further one, but for one that closes it.
+    NoteFull { id: u64 },
     /// The area of the box, in square units of 1e-7 degrees, is above `NOTES_AREA_LIMIT`.
     NotesArea { area: u64 },
 }

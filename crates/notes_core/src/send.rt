@@ -17,7 +17,7 @@ use crate::kept::KeptNote;
 use crate::limits::NOTES_AREA_LIMIT;
 use crate::notes::{NoteAction, NoteComment, NoteRefusal};
 use json::Writer;
-use osm_base::{Coord, Memory, Owner, Stamp, Text};
+use osm_base::{COMMENT_LIMIT, Coord, Memory, Owner, Stamp, Text};
 use osm_json::{Shown, stamp_text, write_members, write_record};
 use std::alloc::Global;
 
@@ -278,6 +278,7 @@ pub(crate) fn write_refusal(
         NoteRefusal::NoNote { id } => write_named(out, "no_note", *id),
         NoteRefusal::NoteClosed { closed_at, id } => write_closed(alloc, out, *closed_at, *id),
         NoteRefusal::NoteOpen { id } => write_named(out, "note_open", *id),
+        NoteRefusal::NoteFull { id } => write_full(out, *id),
         NoteRefusal::NotesArea { area } => write_area(out, *area),
     }
 }
@@ -290,6 +291,21 @@ fn write_named(out: &mut Writer, error: &str, id: u64) -> Result<(), Memory>
     write_record(
         out,
         &[("error", Shown::Text(error)), ("id", Shown::Natural(id))],
+    )?;
+    Ok(())
+}
+
+#[tactic(auto, unfolding(crate::specs::Shown::refusal_data))]
+fn write_full(out: &mut Writer, id: u64) -> Result<(), Memory>
+    ensures { Sends result out.old out.new (tokens_of (refusal_data (NoteRefusal.NoteFull id))) }
+{
+    write_record(
+        out,
+        &[
+            ("error", Shown::Text("note_full")),
+            ("id", Shown::Natural(id)),
+            ("limit", Shown::Natural(COMMENT_LIMIT as u64)),
+        ],
     )?;
     Ok(())
 }

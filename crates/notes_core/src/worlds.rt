@@ -3,7 +3,7 @@ ghost use Rattle.std.specs.Prelude.{◌≡◌, ℕ, ◌+◌, ◌-◌, ◌<◌, �
 ghost use Rattle.osm_base.specs.declared.people.Owner.{Owner};
 ghost use Rattle.tile_grid.specs.Grid.{free_at};
 ghost use Rattle.notes_core.specs.declared.notes.Note.{Note};
-ghost use Rattle.notes_core.specs.Act.{empty, note, known, open_note, closed_note, judge, opened, comment_of, commented, after, takes};
+ghost use Rattle.notes_core.specs.Act.{empty, note, known, open_note, closed_note, not_full, commentable_note, reopenable_note, judge, opened, comment_of, commented, after, takes};
 ghost use Rattle.notes_core.specs.Plan.{comments_of};
 ghost use Rattle.notes_core.specs.Sent.{HasTimelyEnd};
 ghost use Rattle.notes_core.specs.World.{state_of, notes_of, spares_of, places_of, IsPlaced, HasRoomFor, HasCommentRoom, IsTimelyComment, IsTimelyMoment};
@@ -11,7 +11,7 @@ ghost use Rattle.notes_core.specs.World.{state_of, notes_of, spares_of, places_o
 use crate::commands::{NoteCommand, NoteEntry, NoteSubject};
 use crate::kept::KeptNote;
 use crate::notes::{NoteComment, NoteRefusal};
-use osm_base::{Coord, Memory, Stamp};
+use osm_base::{COMMENT_LIMIT, Coord, Memory, Stamp};
 use std::alloc::Global;
 use std::marker::Model;
 use tile_grid::Grid;
@@ -121,7 +121,8 @@ impl NotesWorld {
     }
 
     fn open_note(&self, id: u64) -> Result<&KeptNote, NoteRefusal>
-        ensures value { MatchResult result (λ found. open_note (state_of self.now) id ≡ Ok found.now.note) (λ refusal. open_note (state_of self.now) id ≡ Err refusal) }
+        ensures value { MatchResult result (λ found. open_note (state_of self.now) id ≡ Ok found.now.note)
+            (λ refusal. open_note (state_of self.now) id ≡ Err refusal) }
         ensures timely { IfErr result HasTimelyEnd }
     {
         let found = self.known(id)?;
@@ -132,7 +133,8 @@ impl NotesWorld {
     }
 
     fn closed_note(&self, id: u64) -> Result<&KeptNote, NoteRefusal>
-        ensures value { MatchResult result (λ found. closed_note (state_of self.now) id ≡ Ok found.now.note) (λ refusal. closed_note (state_of self.now) id ≡ Err refusal) }
+        ensures value { MatchResult result (λ found. closed_note (state_of self.now) id ≡ Ok found.now.note)
+            (λ refusal. closed_note (state_of self.now) id ≡ Err refusal) }
         ensures timely { IfErr result HasTimelyEnd }
     {
         let found = self.known(id)?;
@@ -151,21 +153,37 @@ impl NotesWorld {
     {
         match command {
             NoteCommand::OpenNote { .. } => Ok(()),
-            NoteCommand::Comment { id, .. } => self.is_open(*id),
-            NoteCommand::CloseNote { id, .. } => self.is_open(*id),
-            NoteCommand::Reopen { id, .. } => {
-                self.closed_note(*id)?;
-                Ok(())
-            }
+            NoteCommand::Comment { id, .. } => self.takes_comment(*id),
+            NoteCommand::CloseNote { id, .. } => self.takes_closing(*id),
+            NoteCommand::Reopen { id, .. } => self.takes_reopening(*id),
         }
     }
 
-    fn is_open(&self, id: u64) -> Result<(), NoteRefusal>
-        ensures value { MatchResult result (λ _. IsOk (open_note (state_of self.now) id)) (λ refusal. open_note (state_of self.now) id ≡ Err refusal) }
+    fn takes_comment(&self, id: u64) -> Result<(), NoteRefusal>
+        ensures value { MatchResult result (λ _. IsOk (commentable_note (state_of self.now) id))
+            (λ refusal. commentable_note (state_of self.now) id ≡ Err refusal) }
+        ensures timely { IfErr result HasTimelyEnd }
+    {
+        let found = self.open_note(id)?;
+        has_room(id, found)
+    }
+
+    fn takes_closing(&self, id: u64) -> Result<(), NoteRefusal>
+        ensures value { MatchResult result (λ _. IsOk (open_note (state_of self.now) id))
+            (λ refusal. open_note (state_of self.now) id ≡ Err refusal) }
         ensures timely { IfErr result HasTimelyEnd }
     {
         self.open_note(id)?;
         Ok(())
+    }
+
+    fn takes_reopening(&self, id: u64) -> Result<(), NoteRefusal>
+        ensures value { MatchResult result (λ _. IsOk (reopenable_note (state_of self.now) id))
+            (λ refusal. reopenable_note (state_of self.now) id ≡ Err refusal) }
+        ensures timely { IfErr result HasTimelyEnd }
+    {
+        let found = self.closed_note(id)?;
+        has_room(id, found)
     }
 
     /// Whether an entry may come next: its command is accepted at its stamp, and that is no earlier
@@ -252,6 +270,18 @@ impl NotesWorld {
     {
         self.last = comment.stamp;
         add_comment(&mut self.kept, id as usize - 1, comment);
+    }
+}
+
+/// Whether there is room for one more comment of a note, or why there isn't.
+fn has_room(id: u64, found: &KeptNote) -> Result<(), NoteRefusal>
+    ensures value { MatchResult result (λ _. not_full id found.now.note ≡ Ok found.now.note) (λ refusal. not_full id found.now.note ≡ Err refusal) }
+    ensures timely { IfErr result HasTimelyEnd }
+{
+    if found.count() < COMMENT_LIMIT as u64 {
+        Ok(())
+    } else {
+        Err(NoteRefusal::NoteFull { id })
     }
 }
 
