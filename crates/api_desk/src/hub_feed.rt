@@ -4,7 +4,7 @@ ghost use Rattle.osm_base.specs.Status.{IsStatus};
 ghost use Rattle.http_wire.specs.declared.message.Message.{Message};
 ghost use Rattle.http_link.specs.Desk.{counted_reply};
 ghost use Rattle.user_table.specs.Users.{Users};
-ghost use Rattle.api_desk.specs.HubDesk.{Replies, GoesOn, ShowsFeed};
+ghost use Rattle.api_desk.specs.HubDesk.{MapReplies, GoesOn, ShowsFeed};
 ghost use Rattle.api_desk.specs.Request.{request_of, of_feed};
 ghost use Rattle.api_desk.specs.declared.feed.FeedCall.TheVariants as feed;
 
@@ -15,7 +15,7 @@ use map_machine::{MapMachine, MapWorld};
 use osm_base::{Memory, Stamp};
 use osm_outside::Gate;
 use shared_front::HubName;
-use snapshot_hub::Reading;
+use snapshot_hub::{Reading, Session, Snapshot};
 use std::alloc::Global;
 use std::sync::Wait;
 
@@ -36,7 +36,10 @@ impl Reading<MapMachine> for LastStamp {
 
 /// The reply to a call for the state, by the map that is published. All that any session was told of
 /// is in it.
-fn answer_state<N: HubName>(session: &mut MapSession<N>, alloc: Global) -> Result<Reply, Memory>
+fn answer_state<N: HubName, S: Snapshot<N, MapMachine>>(
+    session: &mut Session<N, MapMachine, S>,
+    alloc: Global,
+) -> Result<Reply, Memory>
     ensures ok { IfOk result (λ reply. ShowsFeed session.old feed.State reply session.new) }
     ensures err { OnErr result (GoesOn session.old session.new) }
     ensures status { IfOk result (λ reply. IsStatus reply.status) }
@@ -71,7 +74,7 @@ pub(crate) fn answer_feed<N: HubName, G: Gate + Drop, R: Wait + Drop, W: Wait>(
     call: FeedCall,
 ) -> Result<Reply, Memory>
     ensures answers { (users : Users) (message : Message) (moment : ℕ) → request_of users message ≡ of_feed call
-        → Replies users session.old message moment (counted_reply result) session.new }
+        → MapReplies users session.old message moment (counted_reply result) session.new }
     ensures status { IfOk result (λ reply. IsStatus reply.status) }
 {
     match call {
