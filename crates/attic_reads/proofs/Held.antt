@@ -7,7 +7,7 @@ use Rattle.osm_base.specs.Key.{lists_key}
 use Rattle.osm_base.specs.Place.{Area}
 use Rattle.osm_base.specs.declared.keys.Kind.TheVariants.{Node}
 use Rattle.osm_base.specs.declared.keys.Key.{Key}
-use Rattle.osm_element.specs.Elements.{key, key_of_member, current}
+use Rattle.osm_element.specs.Elements.{key, key_of_member, current, refs_in, refs_of}
 use Rattle.osm_element.specs.declared.contents.Content.{Content}
 use Rattle.osm_element.specs.declared.contents.Member.{Member}
 use Rattle.osm_element.specs.declared.elements.Elements.{Elements}
@@ -38,6 +38,22 @@ held-in E a k = last-passes (holds_in a) refl (current E k)
 
 pub listed-among : (E : Elements) (ks : List Key) (k : Key) → lists_among ks (held E k) ≡ is_last_shown E k && lists_one E ks k
 listed-among E ks k = last-passes (lists_among ks) refl (current E k)
+
+-- what an element listed, if it is shown
+pub shown-refs : (E : Elements) (k : Key) → refs_in (held E k) ≡ if is_last_shown E k then refs_of E k else []
+shown-refs E k = along (current E k)
+  where
+    along : (o : Option Version)
+        → refs_in (option_and_then unmarked_content o)
+        ≡ if is_some (option_and_then (λ (v : Version). v.content) o) && option_map_or (λ (v : Version). not (is_some (hidden false v))) o false then refs_in (option_and_then (λ (v : Version). v.content) o) else []
+    along None = refl
+    along (Some v) = by_parts v.content v.redaction
+      where
+        by_parts : (c : Option (Content ℕ)) (r : Option ℕ) → refs_in (if is_some r then None else c) ≡ if is_some c && not (is_some r) then refs_in c else []
+        by_parts None None = refl
+        by_parts None (Some m) = refl
+        by_parts (Some c) None = refl
+        by_parts (Some c) (Some m) = refl
 
 -- -- what a content lists, looked up without a list of keys
 

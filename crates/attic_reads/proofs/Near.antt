@@ -132,19 +132,17 @@ node-listed ids x = lists_node_mapped ids x ∙ ⊎_elim (λ t. same t ids ∙ a
         ap (λ (b : Bool). (b && (id == x.id)) || list_any (λ id. key_eq (key Node id) x) ids) (turned Node x.kind ∙ f)
         ∙ none f ids
 
-once : (b : Bool) (n : ℕ) → n ≡ (if b then 1 else 0) → b ≡ true → 0 < n
-once b n e t = let one : n ≡ 1 = e ∙ ap (λ (b : Bool). if b then 1 else 0) t in omega (arith, one)
-
 -- the nodes in an area, among those that ever lay in a cell that it touches
 pub nodes-found :
     (touched : (a : Area) (p : Position) → IsArea a.left a.bottom a.right a.top → area_holds a p ≡ true → touches a (cell_of p) ≡ true)
+    (placed : (E : Elements) (g : List (List Held)) (c : Cell) (n : ℕ) → IsPlacedEver E g → has_lain E c n ≡ true → 0 < times g c n)
     (t : ℕ) (E : Elements) (g : List (List Held)) (a : Area) (near : List ℕ)
     → IsArea a.left a.bottom a.right a.top
     → IsPlacedEver E g
     → IsStrictlyIncreasing near
     → ((c : Cell) (n : ℕ) → touches a c ≡ true → 0 < times g c n → lists_id near n ≡ true)
     → filter (λ k. is_last_shown (elements_by t E) k && is_in (elements_by t E) a k) (map (key Node) near) ≡ nodes_in (elements_by t E) a
-nodes-found touched t E g a near is placed up all =
+nodes-found touched placed t E g a near is ever_there up all =
     kind-filter-are F Node (is_in F a) (map (key Node) near) (nodes-rising near (AllPairs-from_increasing near up))
     (λ x shown inside. node-listed near x ∙ ⊎_elim
     (λ yes. ap (λ (b : Bool). b && lists_id near x.id) yes ∙ there x (kind_eq-same x.kind Node yes) (position F x) refl inside ∙ sym yes)
@@ -164,7 +162,7 @@ nodes-found touched t E g a near is placed up all =
         let lain : ever (λ held. lies c (option_and_then position_in held)) E x ≡ true
         = past-ever (λ held. lies c (option_and_then position_in held)) t E x refl (ap (lies c) at ∙ itself p) in
         let lain_here : has_lain E c x.id ≡ true = sym (ap (λ (kind : Kind). ever (λ held. lies c (option_and_then position_in held)) E (key kind x.id)) node) ∙ lain in
-        all c x.id (touched a p is inside) (once (has_lain E c x.id) (times g c x.id) (placed.holds c x.id) lain_here)
+        all c x.id (touched a p is inside) (placed E g c x.id ever_there lain_here)
 
 pub near-rising : (near : List ℕ) → IsStrictlyIncreasing near → IsRising (map (key Node) near)
 near-rising near up = nodes-rising near (AllPairs-from_increasing near up)

@@ -25,7 +25,7 @@ fn unmarked_content(version: &Version) -> Option<&Content<u64>>
 }
 
 /// What an element held at a stamp, if it was visible and its version isn't marked.
-fn held(store: &Store, key: Key, at: u64) -> Option<&Content<u64>>
+pub fn held(store: &Store, key: Key, at: u64) -> Option<&Content<u64>>
     requires { AreInOrder store.now.elements }
     ensures { option_copied result ≡ held (elements_by at store.now.elements) key }
 {

@@ -14,6 +14,7 @@ ghost use Rattle.attic_reads.specs.Attic.{AreInOrder, is_candidate};
 use crate::contents::{lay_in, listed_one};
 use crate::histories::ordered;
 use history_store::Store;
+use indexed_map::nodes_that_lay_there_are_placed;
 use osm_base::{Box7, Key, Kind, Memory};
 use osm_world::World;
 use rising_lists::keys_sorted_once;
@@ -30,6 +31,7 @@ pub fn nodes_in(alloc: Global, world: &World, at: u64, within: &Box7) -> Result<
     ensures found { IfOk result (λ found. found.items ≡ nodes_in (elements_by at (state_of world.now).elements) within.now) }
 {
     boxes_touch_what_they_hold();
+    nodes_that_lay_there_are_placed();
     let near = world.grid_ever().rows_of(alloc, within)?;
     let found = nodes_among(alloc, ordered(world), at, within, near.as_slice())?;
     Ok(found)

@@ -4,8 +4,9 @@
 //! box's ids are sorted once when they are asked for. Cells are made with room, and stay when
 //! their last node leaves.
 //!
-//! A cell looks through its ids when one is taken out. A million nodes in one cell make each move
-//! there a walk; places where so many lie in 0.01 by 0.01 degrees are not expected.
+//! A cell looks through its ids when one is taken out, from the last one on. A million nodes in one
+//! cell make it a walk when one of the first leaves; places where so many lie in 0.01 by 0.01 degrees
+//! are not expected.
 ghost use Rattle.std.specs.Prelude.{◌≡◌, ◌==◌, ℕ, true, ◌+◌, ◌-◌, ◌<◌, ◌≤◌, ◌∷◌, [], ◌++◌, length, count_by, slice_index, is_ok, if◌then◌else◌};
 ghost use Rattle.tile_grid.specs.Tile.{no_tile, times_in};
 
@@ -108,14 +109,17 @@ impl Tile {
     }
 }
 
-/// Where an id stands that is there.
+/// Where an id stands that is there. What was placed last is looked at first, since a node that has
+/// just come is the likeliest to leave.
 fn place_of(ids: &[u64], id: u64) -> usize
     requires { 0 < times_in ids.now id }
     ensures within { result < length ids.now }
     ensures found { slice_index ids.now result ≡ id }
 {
-    for (place, other) in ids.iter().enumerate() {
-        if *other == id {
+    let mut place = ids.len();
+    while place > 0 {
+        place -= 1;
+        if ids[place] == id {
             return place;
         }
     }

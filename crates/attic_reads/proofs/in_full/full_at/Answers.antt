@@ -5,8 +5,8 @@ use Rattle.osm_change.specs.declared.reads.ReadFault.{ReadFault}
 use Rattle.osm_change.specs.declared.reads.Shown.{Shown}
 use Rattle.osm_element.specs.Elements.{keys}
 use Rattle.osm_element.specs.declared.elements.Elements.{Elements}
-use Rattle.osm_model.specs.Past.{elements_by, is_last_shown, full_unmarked}
-use Rattle.osm_model.specs.Reads.{current_shown, in_full}
+use Rattle.osm_model.specs.Past.{elements_by, is_last_shown, in_full_unmarked, full_unmarked}
+use Rattle.osm_model.specs.Reads.{current_shown}
 use Rattle.attic_reads.specs.Attic.{AreInOrder}
 use Rattle.attic_reads.proofs.in_full.full_at.Goals as goal
 
@@ -19,7 +19,7 @@ with_listed-requires c = let P : Elements → Type 0 = λ E. AreInOrder E in sub
 pub returns : goal.returns
 returns c =
     let F : Elements = elements_by c.args.at c.store-store.result.now.elements in
-    let all : List Shown = map (current_shown F) (filter (λ x. in_full F c.args.key x && is_last_shown F x) (keys F)) in
+    let all : List Shown = map (current_shown F) (filter (λ x. in_full_unmarked F c.args.key x && is_last_shown F x) (keys F)) in
     let found : ◌≡◌ {A = Result (List Shown) ReadFault} (Ok c.in_ok-found.found) (Ok all) = ap (λ (l : List Shown). Ok l) c.in_ok-found.ensures in
     inl (
     found
