@@ -2,7 +2,7 @@
 use crate::desks::MomentDesk;
 use crate::link_of;
 use http_link::{LinkEnd, serve_desk};
-use osm_base::Memory;
+use osm_base::{BODY_LIMIT, Memory};
 use osm_outside::{Clock, Failed, Link, MemLink, Outside, Sink, Source, Trace};
 use std::alloc::Global;
 
@@ -67,6 +67,6 @@ const REPLY: &[u8] =
 
 pub fn the_clock_is_read_after_the_last_byte(alloc: Global) -> Result<bool, Memory> {
     let mut link = counted(alloc, b"GET / HTTP/1.1\r\n\r\n", 6)?;
-    let end = serve_desk(alloc, &mut MomentDesk, &mut link);
+    let end = serve_desk(alloc, &mut MomentDesk, &mut link, BODY_LIMIT);
     Ok(end == LinkEnd::Ended && link.link.written() == REPLY)
 }

@@ -2,7 +2,7 @@
 use crate::desks::LengthDesk;
 use http_link::{LinkEnd, serve_desk};
 use http_wire::WireEnd;
-use osm_base::{Bytes, Memory};
+use osm_base::{BODY_LIMIT, Bytes, Memory};
 use osm_outside::{BadSink, MemLink};
 use row_tally::Tally;
 use std::alloc::Global;
@@ -44,7 +44,7 @@ fn link(
 
 /// Whether the link comes to that end with so many replies.
 fn comes(alloc: Global, mut link: MemLink, replies: usize, wanted: LinkEnd) -> bool {
-    let end = serve_desk(alloc, &mut LengthDesk, &mut link);
+    let end = serve_desk(alloc, &mut LengthDesk, &mut link, BODY_LIMIT);
     end == wanted && are_replies(link.written(), replies)
 }
 
@@ -95,7 +95,7 @@ fn a_write_that_takes_nothing_ends_the_link(alloc: Global) -> Result<bool, Memor
     for empty in 0..3_usize {
         let whole = link(alloc, INPUT, Vec::new(alloc), Vec::new(alloc))?;
         let mut bad = BadSink::new(whole, empty as u64);
-        let end = serve_desk(alloc, &mut LengthDesk, &mut bad);
+        let end = serve_desk(alloc, &mut LengthDesk, &mut bad, BODY_LIMIT);
         if end != LinkEnd::WriteFault || !are_replies(bad.inner().written(), empty) {
             return Ok(false);
         }

@@ -2,7 +2,7 @@
 use crate::desks::LengthDesk;
 use crate::link_of;
 use http_link::{LinkEnd, serve_desk};
-use osm_base::Memory;
+use osm_base::{BODY_LIMIT, Memory};
 use osm_outside::{Clock, Failed, Link, MemLink, Outside, Sink, Source};
 use std::alloc::Global;
 
@@ -67,6 +67,6 @@ fn held(alloc: Global, input: &[u8], request: usize) -> Result<HeldLink, Memory>
 pub fn each_reply_comes_before_the_next_request(alloc: Global) -> Result<bool, Memory> {
     let input = b"GET /a HTTP/1.1\r\n\r\nGET /b HTTP/1.1\r\n\r\nGET /c HTTP/1.1\r\n\r\n";
     let mut link = held(alloc, input, 19)?;
-    let end = serve_desk(alloc, &mut LengthDesk, &mut link);
+    let end = serve_desk(alloc, &mut LengthDesk, &mut link, BODY_LIMIT);
     Ok(end == LinkEnd::Ended && link.link.written().len() == 213)
 }

@@ -4,7 +4,7 @@ ghost use Rattle.osm_outside.specs.Event.{Gave, Took};
 
 use crate::desks::LengthDesk;
 use http_link::{LinkEnd, serve_desk};
-use osm_base::Memory;
+use osm_base::{BODY_LIMIT, Memory};
 use osm_outside::{Clock, Outside, Sink, Source};
 use osm_real::StreamLink;
 use row_tally::Tally;
@@ -110,12 +110,12 @@ const REQUEST: &[u8] = b"GET /a HTTP/1.1\r\n\r\n";
 fn a_failing_reader_ends_the_link(rt: HostRuntime) -> bool {
     let reader = REQUEST.chain(Broken);
     let mut link = StreamLink::new(reader, Vec::new(rt.alloc()), rt);
-    serve_desk(rt.alloc(), &mut LengthDesk, &mut link) == LinkEnd::ReadFault
+    serve_desk(rt.alloc(), &mut LengthDesk, &mut link, BODY_LIMIT) == LinkEnd::ReadFault
 }
 
 fn a_failing_writer_ends_the_link(rt: HostRuntime) -> bool {
     let mut link = StreamLink::new(REQUEST, Broken, rt);
-    serve_desk(rt.alloc(), &mut LengthDesk, &mut link) == LinkEnd::WriteFault
+    serve_desk(rt.alloc(), &mut LengthDesk, &mut link, BODY_LIMIT) == LinkEnd::WriteFault
 }
 
 pub fn play(rt: HostRuntime, tally: &mut Tally) {

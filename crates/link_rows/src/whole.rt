@@ -1,9 +1,9 @@
 //! Links in memory, served to their ends, and what is left of their input then.
 use crate::desks::LengthDesk;
-use crate::link_of;
+use crate::{link_of, memory_link};
 use http_link::{LinkEnd, serve_desk};
 use http_wire::WireEnd;
-use osm_base::Memory;
+use osm_base::{BODY_LIMIT, Memory, PIECE_LIMIT};
 use row_tally::Tally;
 use std::alloc::Global;
 
@@ -24,7 +24,7 @@ fn is_wanted(bytes: &[u8], wanted: Option<&[u8]>) -> bool {
 /// Whether that comes of a link with this input in pieces of that size.
 fn comes(alloc: Global, input: &[u8], cut: usize, outcome: &Outcome) -> Result<bool, Memory> {
     let mut link = link_of(alloc, input, cut)?;
-    let end = serve_desk(alloc, &mut LengthDesk, &mut link);
+    let end = serve_desk(alloc, &mut LengthDesk, &mut link, BODY_LIMIT);
     Ok(
         end == outcome.end
             && is_wanted(link.written(), outcome.written)
@@ -135,6 +135,42 @@ fn the_last_request_that_is_answered_leaves_the_next(alloc: Global) -> Result<bo
     comes(alloc, input.as_slice(), 18, &LAST)
 }
 
+/// The end of a link of that limit on bodies, which comes to the end of its input behind a head with that length.
+fn end_behind_length(alloc: Global, body_limit: usize, length: usize) -> Result<LinkEnd, Memory> {
+    let input = format!(in alloc; "POST / HTTP/1.1\r\nContent-Length: {length}\r\n\r\n")?;
+    let mut link = link_of(alloc, input.as_bytes(), 100)?;
+    Ok(serve_desk(alloc, &mut LengthDesk, &mut link, body_limit))
+}
+
+fn each_limit_on_bodies_is_the_longest_body(alloc: Global) -> Result<bool, Memory> {
+    let cut = LinkEnd::Refused(WireEnd::Truncated);
+    let long = LinkEnd::Refused(WireEnd::BodyLong);
+    Ok(
+        end_behind_length(alloc, BODY_LIMIT, 33_554_432)? == cut
+            && end_behind_length(alloc, BODY_LIMIT, 33_554_433)? == long
+            && end_behind_length(alloc, PIECE_LIMIT, 33_554_433)? == cut
+            && end_behind_length(alloc, PIECE_LIMIT, 33_619_968)? == cut
+            && end_behind_length(alloc, PIECE_LIMIT, 33_619_969)? == long
+            && end_behind_length(alloc, 0, 0)? == LinkEnd::Ended
+            && end_behind_length(alloc, 0, 1)? == long
+            && end_behind_length(alloc, usize::MAX, usize::MAX)? == cut,
+    )
+}
+
+const LONG_HEAD: &[u8] = b"POST / HTTP/1.1\r\nContent-Length: 33619968\r\n\r\n";
+
+const LONG_REPLY: &[u8] =
+    b"HTTP/1.1 200 OK\r\nContent-Type: application/json\r\nContent-Length: 1\r\n\r\n8";
+
+/// A body of as many bytes as a piece of the feed may have, where that is the limit.
+fn the_longest_piece_is_answered(alloc: Global) -> Result<bool, Memory> {
+    let mut input = LONG_HEAD.to_vec(alloc)?;
+    input.resize(LONG_HEAD.len() + 33_619_968, b' ')?;
+    let mut link = memory_link(alloc, input.as_slice(), Vec::new(alloc), 200)?;
+    let end = serve_desk(alloc, &mut LengthDesk, &mut link, PIECE_LIMIT);
+    Ok(end == LinkEnd::Ended && link.written() == LONG_REPLY)
+}
+
 pub fn play<R: Print>(rt: &R, alloc: Global, tally: &mut Tally) {
     tally.note(rt, "answers in any cuts", answers_in_any_cuts(alloc));
     for (name, input, cut, outcome) in &ROWS {
@@ -144,5 +180,15 @@ pub fn play<R: Print>(rt: &R, alloc: Global, tally: &mut Tally) {
         rt,
         "the last request that is answered leaves the next",
         the_last_request_that_is_answered_leaves_the_next(alloc),
+    );
+    tally.note(
+        rt,
+        "each limit on bodies is the longest body",
+        each_limit_on_bodies_is_the_longest_body(alloc),
+    );
+    tally.note(
+        rt,
+        "the longest piece is answered",
+        the_longest_piece_is_answered(alloc),
     );
 }

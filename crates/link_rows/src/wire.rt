@@ -1,7 +1,7 @@
 //! Single messages and replies.
 use crate::memory_link;
 use http_wire::{Message, Wire, WireEnd, write_reply};
-use osm_base::Memory;
+use osm_base::{BODY_LIMIT, Memory};
 use osm_outside::MemLink;
 use row_tally::Tally;
 use std::alloc::Global;
@@ -13,7 +13,7 @@ fn slow_link(alloc: Global, input: &[u8]) -> Result<MemLink, Memory> {
 }
 
 fn first_of(alloc: Global, link: &mut MemLink) -> Result<Message, WireEnd> {
-    let mut wire = Wire::new(alloc)?;
+    let mut wire = Wire::new(alloc, BODY_LIMIT)?;
     wire.read_message(alloc, link)
 }
 

@@ -3,6 +3,7 @@ ghost use Rattle.std.specs.Prelude.{◌≡◌};
 
 use crate::links::{GET, Links, POST, numbers_of, port_of};
 use crate::numbers::Numbers;
+use link_workers::Outcome;
 use osm_base::Memory;
 use osm_outside::MemPort;
 use row_tally::Tally;
@@ -11,7 +12,7 @@ use std::alloc::Global;
 use std::marker::Brand;
 use std::sync::Wait;
 use std::thread::Threads;
-use step_hub::{Outcome, serve_ports};
+use step_hub::serve_ports;
 
 /// Serves ports over the numbers, none of which is there at first.
 fn serve<R: Threads + Wait + Sync>(

@@ -1,7 +1,7 @@
 //! Workers on ports in memory.
 use crate::desk::{CountDesk, reply_of};
-use link_workers::{Closer, DeskService, Worker, end_sessions, give_back, serve_all};
-use osm_base::{Bytes, Memory};
+use link_workers::{DeskService, Worker, give_back, serve_all};
+use osm_base::{BODY_LIMIT, Bytes, Memory};
 use osm_outside::{Host, HostFault, MemHost, MemLink, MemPort};
 use row_tally::Tally;
 use std::alloc::Global;
@@ -76,7 +76,12 @@ fn each_worker_serves_its_links<R: Threads + Wait + Sync>(
     workers.push(worker(port(alloc, 3, &[])?))?;
     workers.push(worker(port(alloc, 3, &[1])?))?;
     workers.push(worker(port(alloc, 0, &[])?))?;
-    serve_all(rt, alloc, &DeskService::new(), workers.as_mut_slice());
+    serve_all(
+        rt,
+        alloc,
+        &DeskService::new(BODY_LIMIT),
+        workers.as_mut_slice(),
+    );
     Ok(
         is_served(&workers[0], 2, false)
             && is_served(&workers[1], 3, false)
@@ -99,47 +104,6 @@ fn a_host_gives_its_ports_once(alloc: Global) -> Result<bool, Memory> {
     Ok(few && again && host.returned().len() == 2)
 }
 
-/// Adds up, as decimal digits, what the sessions answered.
-#[derive(Drop)]
-struct Digits {
-    left: u32,
-    digits: u64,
-}
-
-impl Closer<CountDesk> for Digits {
-    ghost use Rattle.std.specs.Prelude.{⊤};
-
-    ghost left = { λ c. c.left };
-
-    ghost ends = { λ _ _ _ _. ⊤ };
-
-    fn end(&mut self, session: &mut CountDesk) {
-        self.left -= 1;
-        self.digits = self
-            .digits
-            .saturating_mul(10)
-            .saturating_add(session.answered());
-    }
-}
-
-fn sessions_end_in_order(alloc: Global) -> Result<bool, Memory> {
-    let mut workers = Vec::new(alloc);
-    for _ in 0..3 {
-        workers.push(worker(port(alloc, 0, &[])?))?;
-    }
-    let mut more = 0_u64;
-    for worker in workers.iter_mut() {
-        worker.session.count_more(more);
-        more = more.saturating_add(3);
-    }
-    let mut closer = Digits { left: 3, digits: 0 };
-    if workers.len() > 3 {
-        return Ok(false);
-    }
-    end_sessions(&mut closer, workers.as_mut_slice());
-    Ok(closer.digits == 36)
-}
-
 pub fn play<R: Threads + Wait + Sync + Print>(rt: &R, alloc: Global, tally: &mut Tally) {
     tally.note(
         rt,
@@ -151,5 +115,4 @@ pub fn play<R: Threads + Wait + Sync + Print>(rt: &R, alloc: Global, tally: &mut
         "a host gives its ports once",
         a_host_gives_its_ports_once(alloc),
     );
-    tally.note(rt, "sessions end in order", sessions_end_in_order(alloc));
 }

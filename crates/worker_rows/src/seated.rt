@@ -2,7 +2,7 @@
 use crate::desk::{CountDesk, reply_of};
 use crate::held::port_of;
 use link_workers::{DeskService, any_failed, give_back, seat_all, serve_all, unseat_all};
-use osm_base::{Bytes, Memory};
+use osm_base::{BODY_LIMIT, Bytes, Memory};
 use osm_outside::{Host, MemHost, MemPort};
 use row_tally::Tally;
 use std::alloc::Global;
@@ -75,7 +75,12 @@ fn serve_host<R: Threads + Wait + Sync>(
         give_back(host, ports);
         return Err(Memory);
     };
-    serve_all(rt, alloc, &DeskService::new(), workers.as_mut_slice());
+    serve_all(
+        rt,
+        alloc,
+        &DeskService::new(BODY_LIMIT),
+        workers.as_mut_slice(),
+    );
     let failed = any_failed(workers.as_slice());
     unseat_all(workers, &mut sessions, &mut ports);
     give_back(host, ports);
