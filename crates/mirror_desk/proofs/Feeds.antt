@@ -1,23 +1,20 @@
 -- A link on which pieces of one journal are posted.
-use Rattle.std.proofs.Common.{◌≡◌, ℕ, ◌+◌, ◌-◌, ◌≤◌, List, [], ◌∷◌, ◌++◌, length, take, drop, Option, Some, None, Result, Ok, Err, ◌⊎◌, inl, inr, ⊎_elim, refl, sym, ap, ◌∙◌, subst}
+use Rattle.std.proofs.Common.{◌≡◌, ℕ, ◌+◌, ◌-◌, ◌≤◌, List, [], ◌∷◌, length, take, drop, Option, Some, None, Ok, ◌⊎◌, inl, inr, ⊎_elim, refl, sym, ap, ◌∙◌, subst}
 use Rattle.std.specs.Prelude.{All, Contains, IsOk, map, slice_range}
 use Rattle.std.proofs.lemmas.List.Elements.{All-cons, All-contains, All-drop, All-head, All-nil, All-tail, All-take}
 use mathlib.Core.List.{IsPrefix}
-use Rattle.osm_base.specs.declared.memory.Memory.{Memory}
-use Rattle.osm_model.specs.Journal.{IsLegal}
 use Rattle.osm_model.specs.declared.commands.Entry.{Entry}
 use Rattle.http_link.specs.declared.desk.Reply.{Reply}
 use Rattle.http_link.specs.Exchange.{Exchange, Chain}
 use Rattle.user_table.specs.Users.{Users}
-use Rattle.replication_feed.specs.Piece.{pieces, IsPiece, IsFeed, IsPieceText}
+use Rattle.replication_feed.specs.Piece.{pieces, IsPiece, IsPieceText}
 use Rattle.replication_feed.specs.Text.{text_of}
 use Rattle.replication_feed.specs.declared.pieces.Piece.{Piece}
 use Rattle.journal_follower.specs.Calls.{Call, AreCalls, AreOf, Agrees, after_all}
 use Rattle.journal_follower.specs.Taken.{taken, after}
-use Rattle.journal_follower.specs.declared.answers.Taken.{Taken}
 use Rattle.mirror_desk.specs.Answers.{Told, took, reply_of, TakesPiece, TakesNone, IsRow, MirrorAnswers}
 use Rattle.mirror_desk.specs.Desk.{MirrorHasServed}
-use Rattle.mirror_desk.specs.Feeds.{IsOfJournal, AsksOf, PostsOf, ArePosted, TellsAgreeing, IsToldAgreeing, FollowsJournal}
+use Rattle.mirror_desk.specs.Feeds.{IsOfJournal, AsksOf, PostsOf, ArePosted, IsToldAgreeing, FollowsJournal}
 use Rattle.mirror_desk.specs.Request.{Ask, refuses, forbids, reads, states, takes, request_of}
 
 abbrev call : List Entry → Piece → Call
@@ -134,7 +131,7 @@ chain_took tell users old (e ∷ es) (p ∷ ps) new typed posted chain =
     record {
       calls = call old p ∷ more.calls;
       pieces_are = ap (λ (qs : List Piece). p ∷ qs) more.pieces_are;
-      came = All-cons Came (call old p) more.calls tt more.came;
+      came = All-cons Came (call old p) more.calls refl more.came;
       comes_to = ap (λ (es : List Entry). after_all es more.calls) (sym step) ∙ more.comes_to;
     }
 
