@@ -4,13 +4,14 @@ from __future__ import annotations
 
 import os
 import re
+import traceback
 from collections.abc import Awaitable, Callable
 
 from aiohttp import web
 
 from . import calls_about, calls_changesets, calls_elements, calls_notes
 from .call import Call, Gateway
-from .log import tell
+from .log import shown, tell
 from .refusals import Refused
 
 Handler = Callable[[Call], Awaitable[web.StreamResponse]]
@@ -80,7 +81,7 @@ def check_host(gateway: Gateway, request: web.Request) -> None:
     named = request.headers.get("Host")
     if named is None and request.version >= (1, 1):
         raise Refused(400, "The field Host is missing")
-    host = re.fullmatch(r"(\[[0-9a-f:.]+\]|[^:\[\]]*)(:[0-9]{1,5})?", (named or "localhost").lower())
+    host = re.fullmatch(r"(\[[0-9a-f:.]+\]|[^:\[\]]*)(:[0-9]{1,5})?", (named if named is not None else "localhost").lower())
     if not host or host[1].strip("[]") not in gateway.words.hosts:
         raise Refused(421, f"This host isn't {(named or '')[:100]}; --host says what else it is called")
     origin = request.headers.get("Origin")
@@ -89,7 +90,7 @@ def check_host(gateway: Gateway, request: web.Request) -> None:
 
 
 def unfound(request: web.Request, why: web.HTTPException) -> web.StreamResponse:
-    """A path or a method that no call has, told apart where OSM has one."""
+    """A path or a method that no call has, told apart where OSM has one; and what aiohttp refuses by itself."""
     text = next((text for path, text in UNSERVED if path.fullmatch(request.path)), None)
     if text is None and isinstance(why, web.HTTPMethodNotAllowed):
         text = f"There is no {why.method} here, but {' and '.join(sorted(why.allowed_methods))}"
@@ -141,14 +142,16 @@ def around(gateway: Gateway) -> object:
             reply = options(request) if request.method == "OPTIONS" else await handler(request)
         except Refused as why:
             reply = refused(why)
-        except (web.HTTPNotFound, web.HTTPMethodNotAllowed) as why:
+        except web.HTTPException as why:
             reply = unfound(request, why)
-        except TimeoutError:
-            tell(f"the reader of {request.method} {request.path} was too slow")
-            raise
+        except ConnectionError:
+            raise  # its sender is gone
+        except Exception as why:
+            tell(f"{shown(request.method)} {shown(request.path)}: {''.join(traceback.format_exception(why))}")
+            reply = refused(Refused(500, f"The gateway failed at this: {type(why).__name__}"))
         texts = request.get("texts")
         if texts is not None and texts.lost:
-            tell(f"{texts.lost} characters that XML can't hold are U+FFFD in the reply to {request.method} {request.path}")
+            tell(f"{texts.lost} characters that XML can't hold are U+FFFD in the reply to {request.method} {shown(request.path)}")
         return reply
 
     return answer

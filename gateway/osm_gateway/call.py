@@ -15,6 +15,7 @@ from aiohttp import web
 
 from .degrees import NotDecimal, degrees_of, units_of
 from .links import Links
+from .log import shown, tell
 from .people import People, User
 from .refusals import Asked, Refused, refusal
 from .spool import Coding, Spool
@@ -199,14 +200,25 @@ class Call:
             reply.content_length = sum([len(part.encode()) async for part in self.gateway.turns.parts(pieces)])
             return reply
         self.compress(reply, length)
-        async with asyncio.timeout(WRITING):
-            async for part in self.gateway.turns.parts(pieces):
-                if not reply.prepared:
-                    await reply.prepare(self.request)
-                    self.request["head"] = head_of(reply)
-                await reply.write(part.encode("utf-8"))
-            await reply.write_eof()
+        try:
+            async with asyncio.timeout(WRITING):
+                await self.write(reply, pieces)
+        except (TimeoutError, ConnectionError, Refused) as why:
+            if not reply.prepared:
+                raise
+            # The reply has begun, so all that its reader can be told is that the link ends.
+            tell(f"{self.request.method} {shown(self.request.path)} ended in its middle: {why or 'its reader was too slow'}")
+            if self.request.transport:
+                self.request.transport.abort()
         return reply
+
+    async def write(self, reply: web.StreamResponse, pieces: Iterator[str]) -> None:
+        async for part in self.gateway.turns.parts(pieces):
+            if not reply.prepared:
+                await reply.prepare(self.request)
+                self.request["head"] = head_of(reply)
+            await reply.write(part.encode("utf-8"))
+        await reply.write_eof()
 
 
 def head_of(reply: web.StreamResponse) -> int:

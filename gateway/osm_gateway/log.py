@@ -9,6 +9,7 @@ import time
 
 from aiohttp import web
 from aiohttp.abc import AbstractAccessLogger
+from aiohttp.http_exceptions import HttpProcessingError
 
 UNSHOWN = re.compile(r'[^\x20\x21\x23-\x5b\x5d-\x7e]')
 
@@ -20,6 +21,23 @@ def shown(text: str) -> str:
 
 def tell(line: str) -> None:
     print(f"gateway: {line}", file=sys.stderr, flush=True)
+
+
+class Faults(logging.Handler):
+    """What aiohttp tells of: bytes that are no request of HTTP in a line, all else with where it was."""
+
+    def emit(self, record: logging.LogRecord) -> None:
+        why = record.exc_info[1] if record.exc_info else None
+        if isinstance(why, HttpProcessingError):
+            tell(f"no request of HTTP: {shown(str(why))[:200]}")
+        else:
+            tell(self.format(record))
+
+
+def hear_faults() -> None:
+    logger = logging.getLogger("aiohttp")
+    logger.addHandler(Faults())
+    logger.propagate = False
 
 
 def moment() -> str:

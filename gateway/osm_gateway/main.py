@@ -11,7 +11,7 @@ from aiohttp import web
 from .app import app_of
 from .call import Gateway
 from .links import Address, Links
-from .log import CommonLog, tell
+from .log import CommonLog, hear_faults, tell
 from .people import BadUsers, People, people_of
 from .words import Words, read_words
 
@@ -75,4 +75,5 @@ def main() -> int:
     words = read_words()
     people = read_people(words.users)
     many_files()
+    hear_faults()
     return asyncio.run(serve(words, people))

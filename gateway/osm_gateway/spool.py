@@ -56,7 +56,10 @@ class Coding:
             yield data
             return
         while data:
-            yield self.inflate.decompress(data, PIECE)
+            try:
+                yield self.inflate.decompress(data, PIECE)
+            except zlib.error as why:
+                raise ValueError(str(why)) from None
             data = self.inflate.unconsumed_tail
 
     def is_whole(self) -> bool:

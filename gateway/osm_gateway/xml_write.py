@@ -10,6 +10,7 @@ from .rows import Box, Changeset, Comment, Done, Element, Note, edges
 from .xml_texts import Texts
 
 GENERATOR = "Hegunsap"
+BEGINNING = "1970-01-01T00:00:00Z"
 HEAD = '<?xml version="1.0" encoding="UTF-8"?>\n'
 SLICE = 1000
 """Members that are written in one piece."""
@@ -79,10 +80,10 @@ def done(it: Done) -> str:
 
 
 def user(texts: Texts, it: User, mine: bool) -> str:
-    """What the users text says of a user; when the account was made, and all counts, are not known here and left out."""
+    """What the users text says of a user; counts aren't known here and left out, and JOSM can't do without a beginning."""
     roles = "<roles><moderator/></roles>" if it.moderator else "<roles/>"
     more = "<languages><lang>en</lang></languages>" if mine else ""
-    return f"<user{texts.attributes(id=it.id, display_name=it.name)}><description/>{roles}{more}</user>\n"
+    return f"<user{texts.attributes(id=it.id, display_name=it.name, account_created=BEGINNING)}><description/>{roles}{more}</user>\n"
 
 
 # ---- notes
