@@ -38,10 +38,11 @@ class Request:
 
 @dataclass
 class Standing:
-    """A stand-in for the server: keeps what it was asked, and answers what it was told to."""
+    """A stand-in for the server: keeps what it was asked, and answers what it was told to, or what its paths have."""
 
     got: list[Request] = field(default_factory=list)
     next: Reply = field(default_factory=lambda: Reply(404, b'{"error":"no_path"}', False))
+    paths: dict[str, Reply] = field(default_factory=dict)
 
     def __enter__(self) -> Standing:
         standing = self
@@ -50,7 +51,9 @@ class Standing:
             def handle(self) -> None:
                 while (found := request_of(self.rfile)) is not None:
                     standing.got.append(found)
-                    self.wfile.write(BODY.format(standing.next.status, len(standing.next.body)).encode() + standing.next.body)
+                    reply = standing.paths.get(found.path, standing.next)
+                    self.wfile.write(BODY.format(reply.status, len(reply.body)).encode())
+                    self.wfile.write(reply.body)
 
         class Serving(socketserver.ThreadingTCPServer):
             daemon_threads, allow_reuse_address = True, True
