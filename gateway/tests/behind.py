@@ -16,7 +16,7 @@ from typing import Any
 
 HERE = os.path.dirname(os.path.abspath(__file__))
 TOP = os.path.dirname(os.path.dirname(HERE))
-sys.path[:0] = [os.path.join(TOP, "examples"), os.path.join(TOP, "gateway")]
+sys.path += [os.path.join(TOP, "examples"), os.path.join(TOP, "gateway")]
 
 from serving import Server, free_port  # noqa: E402
 

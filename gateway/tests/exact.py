@@ -4,6 +4,7 @@ from __future__ import annotations
 
 import random
 from fractions import Fraction
+from typing import Any
 
 from behind import Wrong, want
 from osm_gateway.call import Form, box_of, quality
@@ -11,7 +12,7 @@ from osm_gateway.degrees import NotDecimal, degrees_of, units_of
 from osm_gateway.people import BadUsers, people_of
 from osm_gateway.refusals import Refused
 from osm_gateway.spool import Spool
-from osm_gateway.walk import OPENED, NotJson, Sort, Walk
+from osm_gateway.walk import OPENED, NotJson, Path, Sort, Walk
 from osm_gateway.xml_texts import Texts
 
 # Ruby's Float#round, of `(lat * 10000000).round`, goes to the nearest whole number, and by halves away from zero.
@@ -72,7 +73,7 @@ def texts() -> str:
 
 def walks() -> str:
     text = '{"bounds":{"minlat7":1},"elements":[{"id":1,"tags":{"},{\\"":"x"}},{"id":23}],"version":"0.6"}'
-    wanted: list[object] = []
+    wanted: list[tuple[Path, Any]] = []
     for length in (1, 2, 3, 5, 7, len(text)):
         pieces = (text[place : place + length] for place in range(0, len(text), length))
         found = [(it.path, it.value) for it in Walk(pieces, OPENED).events() if it.sort is Sort.VALUE]

@@ -120,7 +120,7 @@ def document_of(text: bytes, single: bool = False) -> Row:
     root = ET.fromstring(text)
     assert root.attrib["version"] == "0.6"
     if root.tag == "diffResult":
-        rows = [{"type": it.tag, **{name: int(value) for name, value in it.attrib.items()}} for it in root]
+        rows: list[Row] = [{"type": it.tag, **{name: int(value) for name, value in it.attrib.items()}} for it in root]
         return {"diffResult": rows, "version": "0.6"}
     if root.tag == "osmChange":
         return {"osmChange": [{block.tag: [element_of(it) for it in block]} for block in root], "version": "0.6"}

@@ -80,7 +80,7 @@ def refusals(program: str) -> None:
         for users, more, text in (("1 a b c\n", (), "line 1"), ("1 a user A\n", ("--links", "0"), "--links"), ("1 a user A\n", (), "can't listen")):
             gateway = Gateway(1, users=users, more=more, port=there.port if text == "can't listen" else 0)
             try:
-                gateway.answers = lambda: False  # type: ignore[method-assign]
+                gateway.answers = lambda: False  # type: ignore
                 gateway.__enter__()
                 raise Wrong(f"{text}: the gateway starts")
             except Wrong as why:

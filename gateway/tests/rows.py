@@ -135,7 +135,8 @@ def changeset_body(body: bytes) -> Body:
 
 
 def change_body(body: bytes, changeset: int) -> Body:
-    wanted, degrees = [], []
+    wanted: list[forms.Row] = []
+    degrees: list[forms.Row] = []
     for block in json.loads(body)["osmChange"]:
         action = next(name for name in forms.ACTIONS if name in block)
         unused = {"if-unused": True} if action == "delete" and block.get("if-unused") else {}
