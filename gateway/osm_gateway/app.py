@@ -1,0 +1,181 @@
+"""The table of calls, and what stands around each of them: hosts, origins, refusals, fields of replies."""
+
+from __future__ import annotations
+
+import os
+import re
+import traceback
+from collections.abc import Awaitable, Callable
+
+from aiohttp import web
+
+from . import calls_about, calls_changesets, calls_elements, calls_notes
+from .call import Call, Gateway
+from .log import shown, tell
+from .refusals import Refused
+
+Handler = Callable[[Call], Awaitable[web.StreamResponse]]
+PAGE = os.path.join(os.path.dirname(os.path.dirname(os.path.abspath(__file__))), "page")
+LEAFLET = "/usr/share/javascript/leaflet"
+"""Of Debian's libjs-leaflet."""
+END = r"{end:(?:\.json|\.xml)?}"
+KIND, KINDS, ID, VERSION = "{kind:node|way|relation}", "{kinds:nodes|ways|relations}", "{id:[0-9]{1,19}}", "{version:[0-9]{1,19}}"
+TABLE: tuple[tuple[str, str, Handler], ...] = (
+    ("GET", "/api/versions", calls_about.versions),
+    ("GET", "/api/capabilities", calls_about.capabilities),
+    ("GET", "/api/0.6/capabilities", calls_about.capabilities),
+    ("GET", "/api/0.6/permissions", calls_about.permissions),
+    ("GET", "/api/0.6/user/details", calls_about.user_details),
+    ("GET", "/api/0.6/user/preferences", calls_about.preferences),
+    ("GET", f"/api/0.6/user/{ID}", calls_about.user),
+    ("GET", "/api/0.6/users", calls_about.users),
+    ("PUT", "/api/0.6/changeset/create", calls_changesets.create),
+    ("POST", "/api/0.6/changesets", calls_changesets.create),
+    ("GET", "/api/0.6/changesets", calls_changesets.read_some),
+    ("GET", f"/api/0.6/changeset/{ID}", calls_changesets.read),
+    ("PUT", f"/api/0.6/changeset/{ID}", calls_changesets.update),
+    ("PUT", f"/api/0.6/changeset/{ID}/close", calls_changesets.close),
+    ("POST", f"/api/0.6/changeset/{ID}/upload", calls_changesets.upload),
+    ("GET", f"/api/0.6/changeset/{ID}/download", calls_changesets.download),
+    ("GET", "/api/0.6/map", calls_elements.read_map),
+    ("PUT", f"/api/0.6/{KIND}/create", calls_elements.create),
+    ("POST", "/api/0.6/{kind:node|way|relation}s", calls_elements.create),
+    ("GET", f"/api/0.6/{KINDS}", calls_elements.read_many),
+    ("GET", f"/api/0.6/{KIND}/{ID}", calls_elements.read),
+    ("PUT", f"/api/0.6/{KIND}/{ID}", calls_elements.modify),
+    ("DELETE", f"/api/0.6/{KIND}/{ID}", calls_elements.delete),
+    ("GET", f"/api/0.6/{KIND}/{ID}/{{what:history|relations|[0-9]{{1,19}}}}", calls_elements.read),
+    ("GET", f"/api/0.6/{{kind:way|relation}}/{ID}/full", calls_elements.read),
+    ("GET", f"/api/0.6/node/{ID}/ways", calls_elements.read),
+    ("POST", f"/api/0.6/{KIND}/{ID}/{VERSION}/redact", calls_elements.redact),
+    ("POST", "/api/0.6/redactions", calls_elements.new_redaction),
+    ("GET", "/api/0.6/replication/{piece:state|[0-9]{1,19}}", calls_elements.feed),
+    ("POST", "/api/0.6/notes", calls_notes.create),
+    ("GET", "/api/0.6/notes", calls_notes.search),
+    ("GET", f"/api/0.6/notes/{ID}", calls_notes.read),
+    ("POST", f"/api/0.6/notes/{ID}/{{what:comment|close|reopen}}", calls_notes.change),
+)
+UNSERVED = (
+    (re.compile(r"/api/0\.6/changeset/[0-9]+/(comment|subscribe|unsubscribe)"), "Discussions of changesets aren't served here"),
+    (re.compile(r"/api/0\.6/(gpx.*|trackpoints|user/gpx_files|gpx/create)"), "GPS traces aren't served here"),
+    (re.compile(r"/api/0\.6/notes/(search|feed)"), "A search of the texts of notes isn't served here"),
+    (re.compile(r"/api/0\.6/user/preferences.*"), "Preferences aren't kept here"),
+    (re.compile(r"/api/0\.6/(changeset/[0-9]+/expand_bbox|user_blocks.*|user/messages.*|map\.gz)"), "This isn't served here"),
+    (re.compile(r"/api/0\.[0-57-9].*|/api/1.*"), "This is version 0.6 of the API"),
+)
+"""What OSM's API has and nobody behind the gateway."""
+
+
+def served(gateway: Gateway, handler: Handler) -> Callable[[web.Request], Awaitable[web.StreamResponse]]:
+    async def answer(request: web.Request) -> web.StreamResponse:
+        return await handler(Call(gateway, request))
+
+    return answer
+
+
+# ---- what stands around each call
+
+
+def check_host(gateway: Gateway, request: web.Request) -> None:
+    """A page of another name that resolves to this host must not speak for its reader."""
+    named = request.headers.get("Host")
+    if named is None and request.version >= (1, 1):
+        raise Refused(400, "The field Host is missing")
+    host = re.fullmatch(r"(\[[0-9a-f:.]+\]|[^:\[\]]*)(:[0-9]{1,5})?", (named if named is not None else "localhost").lower())
+    if not host or host[1].strip("[]") not in gateway.words.hosts:
+        raise Refused(421, f"This host isn't {(named or '')[:100]}; --host says what else it is called")
+    origin = request.headers.get("Origin")
+    if origin and request.method not in ("GET", "HEAD", "OPTIONS") and origin.split("://", 1)[-1] != named:
+        raise Refused(403, "Pages of other hosts may read here, and change nothing")
+
+
+def unfound(request: web.Request, why: web.HTTPException) -> web.StreamResponse:
+    """A path or a method that no call has, told apart where OSM has one; and what aiohttp refuses by itself."""
+    text = next((text for path, text in UNSERVED if path.fullmatch(request.path)), None)
+    if text is None and isinstance(why, web.HTTPMethodNotAllowed):
+        text = f"There is no {why.method} here, but {' and '.join(sorted(why.allowed_methods))}"
+    reply = refused(Refused(404 if text and why.status == 405 and "aren't" in text else why.status, text or f"There is no {request.path}"))
+    if isinstance(why, web.HTTPMethodNotAllowed):
+        reply.headers["Allow"] = why.headers["Allow"]
+    return reply
+
+
+def refused(why: Refused) -> web.Response:
+    """The text stands in the field Error too, where JOSM reads it."""
+    reply = web.Response(status=why.status, text=why.text, content_type="text/plain")
+    reply.headers["Error"] = re.sub(r"[^\x20-\x7e]+", "?", why.text)[:1000]
+    if why.status == 401:
+        reply.headers["WWW-Authenticate"] = 'Basic realm="Hegunsap: a name, and the token as the password", charset="UTF-8"'
+    if why.status == 503:
+        reply.headers["Retry-After"] = "5"
+    return reply
+
+
+def options(request: web.Request) -> web.Response:
+    found = request.match_info.http_exception
+    if isinstance(found, web.HTTPMethodNotAllowed):
+        allowed = {*found.allowed_methods, "OPTIONS"}
+        fields = {"Allow": ", ".join(sorted(allowed)), "Access-Control-Allow-Methods": "GET, HEAD, OPTIONS"}
+        return web.Response(status=204, headers={**fields, "Access-Control-Allow-Headers": "Authorization, Accept", "Access-Control-Max-Age": "3600"})
+    return refused(Refused(404, f"There is no {request.path}"))
+
+
+async def fields(request: web.Request, reply: web.StreamResponse) -> None:
+    """Pages of any host may read; what is read depends on who asks and in which form."""
+    if request.method in ("GET", "HEAD", "OPTIONS"):
+        reply.headers["Access-Control-Allow-Origin"] = "*"
+        reply.headers["Access-Control-Expose-Headers"] = "Error"
+    if request.path.startswith("/api/"):
+        reply.headers["Cache-Control"] = "no-cache"
+        reply.headers["Vary"] = "Accept, Accept-Encoding, Authorization"
+    else:
+        reply.headers["Content-Security-Policy"] = "default-src 'self'; style-src 'self' 'unsafe-inline'; img-src 'self' data:"
+    reply.headers["X-Content-Type-Options"] = "nosniff"
+    reply.headers["Server"] = "Hegunsap"
+
+
+def around(gateway: Gateway) -> object:
+    @web.middleware
+    async def answer(request: web.Request, handler: Callable[[web.Request], Awaitable[web.StreamResponse]]) -> web.StreamResponse:
+        try:
+            check_host(gateway, request)
+            reply = options(request) if request.method == "OPTIONS" else await handler(request)
+        except Refused as why:
+            reply = refused(why)
+        except web.HTTPException as why:
+            reply = unfound(request, why)
+        except ConnectionError:
+            raise  # its sender is gone
+        except Exception as why:
+            tell(f"{shown(request.method)} {shown(request.path)}: {''.join(traceback.format_exception(why))}")
+            reply = refused(Refused(500, f"The gateway failed at this: {type(why).__name__}"))
+        texts = request.get("texts")
+        if texts is not None and texts.lost:
+            tell(f"{texts.lost} characters that XML can't hold are U+FFFD in the reply to {request.method} {shown(request.path)}")
+        return reply
+
+    return answer
+
+
+# ---- the page
+
+
+def file_of(path: str) -> Callable[[web.Request], Awaitable[web.StreamResponse]]:
+    async def answer(_: web.Request) -> web.StreamResponse:
+        return web.FileResponse(path)
+
+    return answer
+
+
+def app_of(gateway: Gateway) -> web.Application:
+    app = web.Application(middlewares=[around(gateway)])  # type: ignore[list-item]
+    for method, path, handler in TABLE:
+        app.router.add_route(method, path + END, served(gateway, handler))
+        if method == "GET":
+            app.router.add_route("HEAD", path + END, served(gateway, handler))
+    app.router.add_get("/", file_of(os.path.join(PAGE, "index.html")))
+    app.router.add_static("/page", PAGE)
+    if os.path.isdir(LEAFLET):
+        app.router.add_static("/leaflet", LEAFLET, follow_symlinks=True)
+    app.on_response_prepare.append(fields)
+    return app

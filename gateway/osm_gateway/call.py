@@ -1,0 +1,255 @@
+"""One call: what was asked, in which form, by whom; and what is answered."""
+
+from __future__ import annotations
+
+import asyncio
+import json
+import re
+from collections.abc import Iterable, Iterator
+from dataclasses import dataclass, field
+from enum import Enum
+from typing import Any
+from urllib.parse import quote
+
+from aiohttp import web
+
+from .degrees import NotDecimal, degrees_of, units_of
+from .links import Links
+from .log import shown, tell
+from .people import People, User
+from .refusals import Asked, Refused, refusal
+from .spool import Coding, Spool
+from .turns import Turns
+from .walk import OPENED, Event, NotJson, Walk
+from .words import Words
+from .xml_texts import Texts
+
+XML_BODY = 1 << 26
+"""Bytes of an XML document that is read: twice those of the server's JSON, which says the same in fewer."""
+JSON_BODY = 1 << 25
+READING, WRITING = 300.0, 300.0
+WHOLE = 1 << 15
+"""A reply of the server up to this length is answered in one piece."""
+
+
+class Form(Enum):
+    XML = "application/xml"
+    JSON = "application/json"
+
+
+@dataclass
+class Gateway:
+    words: Words
+    people: People
+    server: Links
+    notes: Links | None
+    turns: Turns = field(default_factory=Turns)
+
+
+def quality(accepted: str, *types: str) -> float:
+    """How much one of these types is wanted by an Accept field, from 0 to 1."""
+    best = 0.0
+    for part in accepted.split(","):
+        name, *parameters = [it.strip() for it in part.split(";")]
+        given = [it[2:] for it in parameters if it.lower().startswith("q=")]
+        weight = float(given[0]) if given and re.fullmatch(r"[01](\.[0-9]{0,3})?", given[0]) else 1.0
+        if name.lower() in types:
+            best = max(best, weight)
+    return best
+
+
+def form_of(request: web.Request) -> Form:
+    """By the end of the path, or else by the field Accept; XML where it doesn't matter."""
+    end = request.match_info.get("end", "")
+    if end:
+        return Form.JSON if end == ".json" else Form.XML
+    accepted = request.headers.get("Accept", "")
+    xml = quality(accepted, "application/xml", "text/xml", "*/*", "application/*", "text/*")
+    return Form.JSON if quality(accepted, "application/json") > xml else Form.XML
+
+
+class Call:
+    def __init__(self, gateway: Gateway, request: web.Request) -> None:
+        self.gateway, self.request = gateway, request
+        self.form, self.texts = form_of(request), Texts()
+        self.token = gateway.people.token_of(request.headers.get("Authorization"))
+        user = gateway.people.by_token.get(self.token or "")
+        request["user"] = user.name if user else None
+        request["texts"] = self.texts
+
+    @property
+    def wants_json(self) -> bool:
+        return self.form is Form.JSON
+
+    def user(self) -> User:
+        return self.gateway.people.known(self.token)
+
+    # ---- what was asked
+
+    def path(self, name: str) -> int:
+        """A number of the path, which has digits alone there."""
+        number = int(self.request.match_info[name])
+        if number >= 1 << 63:
+            raise Refused(404, f"The number {number} is too large")
+        return number
+
+    def query(self, name: str) -> str | None:
+        return self.request.query.get(name)
+
+    def passed_on(self, *names: str) -> dict[str, str]:
+        """Parameters that the server has under the same name."""
+        given = {name: self.request.query[name] for name in names if name in self.request.query}
+        if "bbox" in given:
+            given["bbox"] = box_of(given["bbox"])
+        for name in ("at", "redaction", "user"):
+            if name in given and not re.fullmatch("[0-9]{1,19}", given[name]):
+                raise Refused(400, f"The parameter {name} is a number")
+        return given
+
+    async def body(self, limit: int = JSON_BODY) -> Spool:
+        """The body, as it was before it was coded."""
+        request, spool = self.request, Spool()
+        coding = Coding(request.headers.get("Content-Encoding", "").strip().lower())
+        if not coding.known:
+            raise Refused(415, "The Content-Encoding isn't gzip or deflate")
+        try:
+            async with asyncio.timeout(READING):
+                async for data in request.content.iter_any():
+                    for piece in coding.undone(data):
+                        spool.write(piece)
+                        if spool.size > limit:
+                            raise Refused(413, f"The document has more than {limit} bytes")
+                    await asyncio.sleep(0)
+        except TimeoutError:
+            raise Refused(408, f"The document didn't come within {READING:.0f} seconds") from None
+        except ValueError as why:
+            raise Refused(400, f"The document's coding can't be undone: {why}") from None
+        if not coding.is_whole():
+            raise Refused(400, "The document's coding ends too early")
+        return spool
+
+    def too_long(self, limit: int) -> None:
+        """Refuses a document by what is said of its length, before it is read."""
+        if (self.request.content_length or 0) > limit:
+            raise Refused(413, f"The document has more than {limit} bytes")
+
+    async def document(self) -> tuple[Spool, bool]:
+        """The body, and whether it is JSON: its type says so, or its first byte."""
+        self.too_long(XML_BODY)
+        spool = await self.body(XML_BODY)
+        first = next(spool.pieces(), b"").lstrip()[:1]
+        said = self.request.content_type
+        is_json = said == "application/json" or first == b"{" if first != b"<" else False
+        if is_json and spool.size > JSON_BODY:
+            raise Refused(413, f"A document of JSON has more than {JSON_BODY} bytes")
+        return spool, is_json
+
+    # ---- the server
+
+    async def ask(
+        self, method: str, path: str, query: dict[str, str] | None = None, body: Spool | None = None, asked: Asked | None = None,
+        server: Links | None = None,
+    ) -> Spool:  # fmt: skip
+        """The body of the server's reply, or its refusal in OSM's words."""
+        parameters = "&".join(f"{name}={quote(value, safe=',.-')}" for name, value in (query or {}).items())
+        target = f"/api/0.6/{path}{'?' if parameters else ''}{parameters}"
+        reply = await (server or self.gateway.server).ask(method, target, self.token, body)
+        if reply.status != 200:
+            raise refusal(reply.status, reply.body.whole(), asked or Asked())
+        return reply.body
+
+    async def value(self, *words: Any, **more: Any) -> Any:
+        """The same, of a small reply, as a value."""
+        return json.loads((await self.ask(*words, **more)).whole())
+
+    async def sent(self, pieces: Iterable[str]) -> Spool:
+        """A body for the server, written in turns."""
+        spool = Spool()
+        try:
+            async for part in self.gateway.turns.parts(pieces):
+                spool.write(part.encode("utf-8"))
+                if spool.size > JSON_BODY:
+                    raise Refused(413, f"The document has more than {JSON_BODY} bytes as the server reads it")
+        except UnicodeError:
+            raise Refused(400, "A text of the document is no Unicode") from None
+        return spool
+
+    # ---- what is answered
+
+    def text(self, it: object) -> web.StreamResponse:
+        return web.Response(text=str(it), content_type="text/plain")
+
+    def answer(self, text: str) -> web.StreamResponse:
+        """A small document."""
+        reply = web.Response(text=text, content_type=self.form.value, charset="utf-8")
+        self.compress(reply, len(text))
+        return reply
+
+    def compress(self, reply: web.StreamResponse, length: int) -> None:
+        """Never deflate, which osmosis reads in another form."""
+        if length > 1000 and quality(self.request.headers.get("Accept-Encoding", ""), "gzip", "*") > 0:
+            reply.enable_compression(web.ContentCoding.gzip)
+
+    async def answer_in_parts(self, pieces: Iterator[str], length: int) -> web.StreamResponse:
+        """A document of a reply of that length; what is long is written while it is made."""
+        if length <= WHOLE:
+            return self.answer("".join(pieces))
+        reply = web.StreamResponse()
+        reply.content_type, reply.charset = self.form.value, "utf-8"
+        if self.request.method == "HEAD":
+            reply.content_length = sum([len(part.encode()) async for part in self.gateway.turns.parts(pieces)])
+            return reply
+        self.compress(reply, length)
+        try:
+            async with asyncio.timeout(WRITING):
+                await self.write(reply, pieces)
+        except (TimeoutError, ConnectionError, Refused) as why:
+            if not reply.prepared:
+                raise
+            # The reply has begun, so all that its reader can be told is that the link ends.
+            tell(f"{self.request.method} {shown(self.request.path)} ended in its middle: {why or 'its reader was too slow'}")
+            if self.request.transport:
+                self.request.transport.abort()
+        return reply
+
+    async def write(self, reply: web.StreamResponse, pieces: Iterator[str]) -> None:
+        async for part in self.gateway.turns.parts(pieces):
+            if not reply.prepared:
+                await reply.prepare(self.request)
+                self.request["head"] = head_of(reply)
+            await reply.write(part.encode("utf-8"))
+        await reply.write_eof()
+
+
+def head_of(reply: web.StreamResponse) -> int:
+    """Bytes that were written before the body."""
+    writer: Any = reply._payload_writer  # pylint: disable=protected-access
+    return int(writer.output_size)
+
+
+def events_of(*spools: Spool) -> Iterator[Event]:
+    """What the replies have, one after another."""
+    for spool in spools:
+        try:
+            yield from Walk(spool.texts(), OPENED).events()
+        except (NotJson, UnicodeDecodeError) as why:
+            raise Refused(502, f"The server's reply can't be read: {why}") from None
+
+
+FORM = "The parameter bbox is required, and must be of the form min_lon,min_lat,max_lon,max_lat"
+WORLD = (
+    "The latitudes must be between -90 and 90, longitudes between -180 and 180 "
+    "and the minima must be less than the maxima."
+)  # fmt: skip
+
+
+def box_of(text: str | None) -> str:
+    """A box as the server reads it, edges rounded as positions are: Java's clients write 5.0E-4."""
+    try:
+        edges = [units_of(part) for part in (text or "").split(",")]
+        west, south, east, north = edges
+    except (NotDecimal, ValueError):
+        raise Refused(400, FORM) from None
+    if not (-1_800_000_000 <= west <= east <= 1_800_000_000 and -900_000_000 <= south <= north <= 900_000_000):
+        raise Refused(400, WORLD)
+    return ",".join(map(degrees_of, edges))

@@ -1,0 +1,153 @@
+"""Changesets: opened, read, closed, uploaded to, downloaded, and looked for."""
+
+from __future__ import annotations
+
+from collections.abc import Iterator
+from datetime import datetime, timezone
+from typing import Any
+
+from aiohttp import web
+
+from . import documents, json_read, json_write, xml_write
+from .call import Call, events_of
+from .calls_elements import texts_of
+from .changes import ENCODER, change_of
+from .refusals import Asked, Operations, Refused
+from .rows import Changeset
+from .xml_read import ChangeReader, TagsReader
+
+MOST = 100
+"""Changesets in one reply, as many as the server gives."""
+
+
+async def tags_of(call: Call) -> dict[str, Any] | None:
+    """What a new changeset or new tags say; None where the body is empty."""
+    body, is_json = await call.document()
+    if body.size > 1 << 20:
+        raise Refused(413, "The tags of a changeset have more than 1048576 bytes")
+    if not body.whole().strip():
+        return None
+    if is_json:
+        return json_read.changeset(texts_of(body))
+    found: list[dict[str, Any]] = [row for row in TagsReader().read(body.pieces()) if row is not None]
+    return found[0]
+
+
+async def create(call: Call) -> web.StreamResponse:
+    call.user()
+    tags = await tags_of(call)
+    body = await call.sent([ENCODER.encode(tags)]) if tags is not None else None
+    return call.text(await call.value("PUT", "changeset/create", body=body))
+
+
+def one(call: Call, it: Changeset) -> web.StreamResponse:
+    discussed = "include_discussion" in call.request.query
+    if call.wants_json:
+        return call.answer(json_write.document(changeset=json_write.changeset(it, discussed)))
+    return call.answer(xml_write.opened("osm") + xml_write.changeset(call.texts, it, discussed) + xml_write.closed("osm"))
+
+
+async def read(call: Call) -> web.StreamResponse:
+    return one(call, (await call.value("GET", f"changeset/{call.path('id')}"))["changeset"])
+
+
+async def update(call: Call) -> web.StreamResponse:
+    call.user()
+    tags = await tags_of(call)
+    if tags is None:
+        raise Refused(400, "Cannot parse valid changeset from xml string . The document is empty")
+    body = await call.sent([ENCODER.encode(tags)])
+    return one(call, (await call.value("PUT", f"changeset/{call.path('id')}", body=body))["changeset"])
+
+
+async def close(call: Call) -> web.StreamResponse:
+    await call.ask("PUT", f"changeset/{call.path('id')}/close")
+    return call.text("")
+
+
+async def upload(call: Call) -> web.StreamResponse:
+    call.user()
+    number, operations = call.path("id"), Operations()
+    body, is_json = await call.document()
+    found = json_read.change(texts_of(body)) if is_json else ChangeReader().read(body.pieces())
+    sent = await call.sent(change_of(found, operations))
+    body.close()
+    reply = await call.ask("POST", f"changeset/{number}/upload", body=sent, asked=Asked(number, operations))
+    write = documents.done_json if call.wants_json else documents.done_xml
+    return await call.answer_in_parts(write(events_of(reply)), reply.size)
+
+
+async def download(call: Call) -> web.StreamResponse:
+    reply = await call.ask("GET", f"changeset/{call.path('id')}/download")
+    events = events_of(reply)
+    pieces = documents.download_json(events) if call.wants_json else documents.download_xml(events, call.texts)
+    return await call.answer_in_parts(pieces, reply.size)
+
+
+# ---- looking for changesets
+
+
+def moment(text: str, name: str) -> datetime:
+    """A moment as ISO 8601 or as OSM shows it; UTC where it doesn't say."""
+    try:
+        it = datetime.fromisoformat(text.strip().removesuffix(" UTC"))
+    except ValueError:
+        raise Refused(400, f"The parameter {name} can't be read: {text[:100]} is no moment") from None
+    return it if it.tzinfo else it.replace(tzinfo=timezone.utc)
+
+
+def passes(call: Call, it: Changeset) -> bool:
+    """Whether it passes the filters by time. The server has none, so they sift its newest hundred."""
+    created, closed = moment(it["created_at"], ""), moment(it["closed_at"], "") if "closed_at" in it else None
+    earliest, _, latest = (call.query("time") or "").partition(",")
+    if earliest and closed and closed < moment(earliest, "time") or latest and created > moment(latest, "time"):
+        return False
+    start, end = call.query("from"), call.query("to")
+    return not (start and created < moment(start, "from") or end and created >= moment(end, "to"))
+
+
+async def named(call: Call, ids: str) -> list[Changeset]:
+    """Those that are there of a list of ids, the newest first."""
+    numbers = [it.strip() for it in ids.split(",")]
+    if not all(it.isascii() and it.isdigit() and len(it) <= 19 for it in numbers):
+        raise Refused(400, "No changesets were given to search for")
+    if len(numbers) > MOST:
+        raise Refused(400, f"The parameter changesets takes {MOST} ids")
+    found = []
+    for number in sorted({int(it) for it in numbers}, reverse=True):
+        try:
+            found.append((await call.value("GET", f"changeset/{number}"))["changeset"])
+        except Refused as why:
+            if why.status != 404:
+                raise
+    return found
+
+
+async def searched(call: Call) -> list[Changeset]:
+    query = call.passed_on("user", "bbox")
+    query |= {name: "true" for name in ("open", "closed") if call.query(name) not in (None, "false")}
+    name = call.query("display_name")
+    if name is not None:
+        user = call.gateway.people.by_name.get(name)
+        if user is None or "user" in query:
+            raise Refused(*((404, f"There is no user {name}") if user is None else (400, "provide either the user ID or display name, but not both")))
+        query["user"] = str(user.id)
+    rows: list[Changeset] = (await call.value("GET", "changesets", query))["changesets"]
+    return rows
+
+
+async def read_some(call: Call) -> web.StreamResponse:
+    limit = call.query("limit") or str(MOST)
+    if not (limit.isascii() and limit.isdigit() and 1 <= int(limit[:9]) <= MOST):
+        raise Refused(400, f"Changesets limit must be between 1 and {MOST}")
+    if call.query("order") not in (None, "newest"):
+        raise Refused(400, "The newest changesets come first here, there is no other order")
+    ids = call.query("changesets")
+    found = await searched(call) if ids is None else await named(call, ids)
+    rows = iter([it for it in found if passes(call, it)][: int(limit)])
+    if call.wants_json:
+        return call.answer("".join(documents.listed_json("changesets", rows, json_write.changeset)))
+    return call.answer("".join(documents.listed_xml(rows, lambda it: xml_write.changeset(call.texts, it))))
+
+
+__all__ = ["close", "create", "download", "read", "read_some", "update", "upload"]

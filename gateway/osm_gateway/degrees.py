@@ -1,0 +1,35 @@
+"""Positions: OSM's decimals of degrees, and the server's whole units of 1e-7 degrees. No float stands between them."""
+
+from __future__ import annotations
+
+import re
+from decimal import ROUND_HALF_UP, Context, Decimal
+
+SCALE = 10_000_000
+LONGEST = 100
+"""Characters of a decimal that is read."""
+DECIMAL = re.compile(r"[+-]?(?:[0-9]+(?:\.[0-9]*)?|\.[0-9]+)(?:[eE][+-]?[0-9]{1,3})?")
+EXACT = Context(prec=2 * LONGEST)
+
+
+class NotDecimal(ValueError):
+    """A text is no decimal."""
+
+
+def rounded(value: Decimal) -> int:
+    """Units of so many degrees; half a unit goes away from zero, as by OSM's `(lat * 10000000).round`."""
+    return int(EXACT.scaleb(value, 7).to_integral_value(rounding=ROUND_HALF_UP))
+
+
+def units_of(text: str) -> int:
+    """The units that a decimal in degrees stands for, with an exponent too: Java's clients write 5.0E-4."""
+    text = text.strip(" \t\r\n")
+    if len(text) > LONGEST or not DECIMAL.fullmatch(text):
+        raise NotDecimal(text[:LONGEST])
+    return rounded(Decimal(text))
+
+
+def degrees_of(units: int) -> str:
+    """The decimal with seven places."""
+    sign, size = ("-", -units) if units < 0 else ("", units)
+    return f"{sign}{size // SCALE}.{size % SCALE:07}"

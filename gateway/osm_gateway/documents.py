@@ -1,0 +1,106 @@
+"""Replies of the server as whole documents, in pieces: what the walk over a reply tells, written as XML or JSON."""
+
+from __future__ import annotations
+
+from collections.abc import Callable, Iterator
+from typing import Any
+
+from . import json_write, xml_write
+from .walk import Event, Sort
+from .xml_texts import Texts
+
+Events = Iterator[Event]
+Pieces = Iterator[str]
+
+
+def rows(events: Events, member: str) -> Iterator[Any]:
+    """The items of the list that is that member."""
+    path = (member, "*")
+    return (event.value for event in events if event.path == path and event.sort is Sort.VALUE)
+
+
+# ---- XML
+
+
+def elements_xml(events: Events, texts: Texts, bounded: bool = True) -> Pieces:
+    yield xml_write.opened("osm")
+    for event in events:
+        if event.path == ("elements", "*"):
+            yield from xml_write.element(texts, event.value)
+        elif event.path == ("bounds",) and bounded:
+            yield xml_write.bounds(event.value)
+    yield xml_write.closed("osm")
+
+
+def download_xml(events: Events, texts: Texts) -> Pieces:
+    yield xml_write.opened("osmChange")
+    for sort, path, value in events:
+        if len(path) == 4:
+            yield from xml_write.element(texts, value)
+        elif len(path) == 3 and sort is not Sort.VALUE:
+            yield f"<{'/' if sort is Sort.CLOSED else ''}{path[2]}>\n"
+    yield xml_write.closed("osmChange")
+
+
+def done_xml(events: Events) -> Pieces:
+    yield xml_write.opened("diffResult")
+    yield from map(xml_write.done, rows(events, "diffResult"))
+    yield xml_write.closed("diffResult")
+
+
+def listed_xml(items: Iterator[Any], write: Callable[[Any], str]) -> Pieces:
+    """Changesets, users or notes in an osm document."""
+    yield xml_write.opened("osm")
+    yield from map(write, items)
+    yield xml_write.closed("osm")
+
+
+# ---- JSON
+
+
+def parted(items: Iterator[Iterator[str]]) -> Pieces:
+    """The items with commas between them."""
+    comma = ""
+    for item in items:
+        yield comma
+        yield from item
+        comma = ",\n"
+
+
+def elements_json(events: Events) -> Pieces:
+    yield json_write.HEAD
+    comma = ',"elements":[\n'
+    for event in events:
+        if event.path == ("elements", "*"):
+            yield comma
+            yield from json_write.element(event.value)
+            comma = ",\n"
+        elif event.path == ("bounds",):
+            yield f',"bounds":{json_write.bounds(event.value)}'
+    yield ("" if comma == ",\n" else comma) + "\n]}\n"
+
+
+def download_json(events: Events) -> Pieces:
+    yield f'{json_write.HEAD},"osmChange":[\n'
+    block = row = ""
+    for sort, path, value in events:
+        if len(path) == 4:
+            yield row
+            yield from json_write.element(value)
+            row = ",\n"
+        elif len(path) == 3 and sort is Sort.OPENED:
+            yield f'{block}{{"{path[2]}":['
+            block, row = ",\n", ""
+        elif len(path) == 3 and sort is Sort.CLOSED:
+            yield "]}"
+    yield "\n]}\n"
+
+
+def done_json(events: Events) -> Pieces:
+    return listed_json("diffResult", rows(events, "diffResult"), json_write.done)
+
+
+def listed_json(name: str, items: Iterator[Any], write: Callable[[Any], str]) -> Pieces:
+    yield f'{json_write.HEAD},"{name}":[\n'
+    yield from parted(iter((write(item),)) for item in items)
+    yield "\n]}\n"

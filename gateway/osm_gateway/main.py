@@ -1,0 +1,79 @@
+"""Starts the gateway and ends it in order."""
+
+from __future__ import annotations
+
+import asyncio
+import resource
+import signal
+
+from aiohttp import web
+
+from .app import app_of
+from .call import Gateway
+from .links import Address, Links
+from .log import CommonLog, hear_faults, tell
+from .people import BadUsers, People, people_of
+from .words import Words, read_words
+
+ENDING = 20.0
+"""Seconds that calls which are being answered have at the end."""
+LINE = 1 << 14
+FILES = 1 << 16
+
+
+def read_people(path: str) -> People:
+    try:
+        with open(path, encoding="utf-8", newline="\n") as file:
+            return people_of(file.read())
+    except OSError as why:
+        raise SystemExit(f"gateway: the users text can't be read: {why}") from None
+    except (BadUsers, UnicodeDecodeError) as why:
+        raise SystemExit(f"gateway: {path}: {why}") from None
+
+
+def many_files() -> None:
+    """Room for as many links of clients as this user may have."""
+    soft, hard = resource.getrlimit(resource.RLIMIT_NOFILE)
+    wanted = FILES if hard == resource.RLIM_INFINITY else min(FILES, hard)
+    if soft < wanted:
+        resource.setrlimit(resource.RLIMIT_NOFILE, (wanted, hard))
+
+
+def links_of(name: str, address: Address, words: Words) -> Links:
+    return Links(f"the server of {name}, http://{address.host}:{address.port},", address, words.links, tell)
+
+
+async def serve(words: Words, people: People) -> int:
+    server = links_of("the map", words.server, words)
+    notes = links_of("notes", words.notes, words) if words.notes else None
+    gateway = Gateway(words, people, server, notes)
+    ended = asyncio.Event()
+    for number in (signal.SIGTERM, signal.SIGINT):
+        asyncio.get_running_loop().add_signal_handler(number, ended.set)
+    runner = web.AppRunner(
+        app_of(gateway), access_log_class=CommonLog, access_log=None if words.quiet else CommonLog.sink(), auto_decompress=False,
+        max_line_size=LINE, max_field_size=LINE, keepalive_timeout=75,
+    )  # fmt: skip
+    await runner.setup()
+    try:
+        await web.TCPSite(runner, words.host, words.port, backlog=1024, shutdown_timeout=ENDING).start()
+    except OSError as why:
+        tell(f"can't listen on {words.host}:{words.port}: {why}")
+        await runner.cleanup()
+        return 6
+    tell(f"http://{words.host}:{words.port} in front of http://{words.server.host}:{words.server.port}")
+    await ended.wait()
+    tell("ending")
+    await runner.cleanup()
+    for links in filter(None, (server, notes)):
+        links.close()
+    tell("ended")
+    return 0
+
+
+def main() -> int:
+    words = read_words()
+    people = read_people(words.users)
+    many_files()
+    hear_faults()
+    return asyncio.run(serve(words, people))

@@ -1,0 +1,102 @@
+"""The users text, and who calls."""
+
+from __future__ import annotations
+
+import base64
+import binascii
+import re
+import time
+from dataclasses import dataclass, field
+
+from .refusals import Refused
+
+
+@dataclass(frozen=True)
+class User:
+    id: int
+    token: str
+    name: str
+    moderator: bool
+
+
+LINE = re.compile(r"([0-9]{1,19}) ([!-~]{1,128}) (user|moderator)(?:/[0-9]{1,19})? (.{1,255})", re.DOTALL)
+
+
+class BadUsers(ValueError):
+    """A line of the users text can't be read."""
+
+
+@dataclass
+class People:
+    """The users, by their tokens, and from which moment on a new changeset takes 50,000 changes."""
+
+    by_token: dict[str, User] = field(default_factory=dict)
+    by_id: dict[int, User] = field(default_factory=dict)
+    by_name: dict[str, User] = field(default_factory=dict)
+    large_from: int | None = None
+
+    def add(self, it: User) -> None:
+        if it.token in self.by_token or it.id in self.by_id or it.name in self.by_name:
+            raise BadUsers("its id, token or name is that of an earlier line")
+        self.by_token[it.token] = self.by_id[it.id] = self.by_name[it.name] = it
+
+    def changes(self) -> int:
+        """The most changes that a changeset of now takes."""
+        return 50_000 if self.large_from is not None and time.time() >= self.large_from else 10_000
+
+    # ---- who calls
+
+    def token_of(self, field_value: str | None) -> str | None:
+        """The token of an Authorization field: a Bearer's, or the password of a user that Basic names. None without one."""
+        kind, _, rest = (field_value or "").strip(" \t").partition(" ")
+        rest = rest.strip(" \t")
+        if not kind:
+            return None
+        if kind.lower() == "bearer" and re.fullmatch("[!-~]{1,128}", rest):
+            return rest
+        if kind.lower() == "basic":
+            return self.basic(rest)
+        raise Refused(401, "Couldn't authenticate you")
+
+    def basic(self, text: str) -> str:
+        try:
+            name, _, token = base64.b64decode(text, validate=True).decode("utf-8").partition(":")
+        except (binascii.Error, UnicodeDecodeError):
+            raise Refused(401, "Couldn't authenticate you") from None
+        user = self.by_token.get(token)
+        if user is None or user.name != name:
+            raise Refused(401, "Couldn't authenticate you")
+        return token
+
+    def known(self, token: str | None) -> User:
+        user = self.by_token.get(token or "")
+        if user is None:
+            raise Refused(401, "Couldn't authenticate you")
+        return user
+
+
+def people_of(text: str) -> People:
+    """The users that a text has, by the rules of docs/API.md."""
+    people = People()
+    for number, line in enumerate(text.split("\n"), 1):
+        line = line.removesuffix("\r")
+        if not line or line.startswith("#"):
+            continue
+        try:
+            read_line(people, line)
+        except BadUsers as why:
+            raise BadUsers(f"line {number}: {why}") from None
+    return people
+
+
+def read_line(people: People, line: str) -> None:
+    if line.startswith("@"):
+        setting = re.fullmatch(r"@large-from ([0-9]{1,40})", line)
+        if not setting or people.large_from is not None:
+            raise BadUsers("a line that begins with @ is @large-from SECONDS, once")
+        people.large_from = int(setting[1])
+        return
+    found = LINE.fullmatch(line)
+    if not found:
+        raise BadUsers("it isn't ID TOKEN ROLE NAME")
+    people.add(User(int(found[1]), found[2], found[4], found[3] == "moderator"))

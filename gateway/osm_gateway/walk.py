@@ -1,0 +1,155 @@
+"""A JSON text read in pieces: lists that are opened are told item by item, so that no more than an item is in memory at once."""
+
+from __future__ import annotations
+
+import json
+import re
+from collections.abc import Iterator
+from enum import Enum, auto
+from typing import Any, NamedTuple
+
+Path = tuple[str, ...]
+"""The members from the outermost value on; an item of a list is `*`."""
+
+SPACE = re.compile(r"[ \t\r\n]*")
+PIECE = 1 << 15
+
+
+class Sort(Enum):
+    OPENED = auto()
+    VALUE = auto()
+    CLOSED = auto()
+
+
+class Event(NamedTuple):
+    sort: Sort
+    path: Path
+    value: Any = None
+
+
+class NotJson(ValueError):
+    """The text isn't JSON, or a value of it is too long."""
+
+
+def no_number(text: str) -> Any:
+    raise NotJson(f"{text} is no number")
+
+
+
+class Walk:
+    """Reads the text that an iterator gives piece by piece.
+
+    `opened` has the paths whose lists or objects are opened. `longest` is the most characters that a value may have, or 0.
+    """
+
+    def __init__(self, pieces: Iterator[str], opened: frozenset[Path], longest: int = 0, parse_float: Any = None) -> None:
+        self.pieces, self.opened, self.longest = pieces, opened, longest
+        self.scan = json.JSONDecoder(parse_float=parse_float, parse_constant=no_number).raw_decode
+        self.text, self.place, self.ended = "", 0, False
+
+    def events(self) -> Iterator[Event]:
+        yield from self.value(())
+        if self.next_character():
+            raise NotJson("something follows the value")
+
+    # ---- the text
+
+    def more(self, least: int = 1) -> bool:
+        """Whether at least so many characters more are there now."""
+        parts, came = [self.text[self.place :]], 0
+        while came < least and not self.ended:
+            piece = next(self.pieces, None)
+            if piece is None:
+                self.ended = True
+            else:
+                parts.append(piece)
+                came += len(piece)
+        self.text, self.place = "".join(parts), 0
+        return came >= least
+
+    def next_character(self) -> str:
+        """The next one that is no space, where the place then is; empty at the end."""
+        while True:
+            match = SPACE.match(self.text, self.place)
+            self.place = match.end() if match else self.place
+            if self.place < len(self.text):
+                return self.text[self.place]
+            if not self.more():
+                return ""
+
+    def take(self, wanted: str) -> str:
+        found = self.next_character()
+        if not found or found not in wanted:
+            raise NotJson(f"where {' or '.join(wanted)} should be, {found or 'the end'} is")
+        self.place += 1
+        return found
+
+    def whole(self) -> Any:
+        """A value that isn't opened."""
+        self.next_character()
+        while True:
+            try:
+                value, end = self.scan(self.text, self.place)
+                # A number at the end of what is there may go on.
+                if end < len(self.text) or self.ended:
+                    self.place = end
+                    return value
+            except json.JSONDecodeError as why:
+                if self.ended:
+                    raise NotJson(str(why)) from None
+            except RecursionError:
+                raise NotJson("its values lie too deep in each other") from None
+            except NotJson:
+                raise
+            except ValueError as why:
+                raise NotJson(str(why)) from None
+            held = len(self.text) - self.place
+            if 0 < self.longest < held:
+                raise NotJson(f"a value has more than {self.longest} characters")
+            # Twice as much before the next try, so that a long value isn't read again for each piece.
+            self.more(max(held, 1))
+
+    # ---- values
+
+    def value(self, path: Path) -> Iterator[Event]:
+        first = self.next_character()
+        if first not in ("[", "{") or path not in self.opened:
+            yield Event(Sort.VALUE, path, self.whole())
+            return
+        self.place += 1
+        yield Event(Sort.OPENED, path)
+        yield from self.items((*path, "*")) if first == "[" else self.members(path)
+        yield Event(Sort.CLOSED, path)
+
+    def items(self, path: Path) -> Iterator[Event]:
+        if self.next_character() == "]":
+            self.place += 1
+            return
+        plain = path not in self.opened
+        while True:
+            if plain:
+                yield Event(Sort.VALUE, path, self.whole())
+            else:
+                yield from self.value(path)
+            if self.take(",]") == "]":
+                return
+
+    def members(self, path: Path) -> Iterator[Event]:
+        if self.next_character() == "}":
+            self.place += 1
+            return
+        while True:
+            if self.next_character() != '"':
+                raise NotJson("where a member's name should be, none is")
+            name = self.whole()
+            self.take(":")
+            yield from self.value((*path, name))
+            if self.take(",}") == "}":
+                return
+
+
+OPENED: frozenset[Path] = frozenset(
+    {(), ("elements",), ("changesets",), ("notes",), ("diffResult",), ("osmChange",), ("osmChange", "*")}
+    | {("osmChange", "*", action) for action in ("create", "modify", "delete")}
+)
+"""What is opened of a reply of the server, and of a change in OSM's JSON."""

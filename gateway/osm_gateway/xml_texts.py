@@ -1,0 +1,36 @@
+"""Texts in XML: what has to be escaped, and what no XML can hold."""
+
+from __future__ import annotations
+
+import re
+
+REPLACEMENT = "\ufffd"
+SPECIAL = re.compile("[^\x20-\x21\x23-\x25\x27-\x3b\x3d\x3f-\ud7ff\ue000-\ufffd\U00010000-\U0010ffff]")
+"""What doesn't stand for itself in an attribute: a tab or a line's end would be read as a space."""
+ESCAPES = {"&": "&amp;", "<": "&lt;", ">": "&gt;", '"': "&quot;", "\t": "&#9;", "\n": "&#10;", "\r": "&#13;"}
+
+
+class Texts:
+    """Writes texts as they stand in XML, and counts the characters that it can't hold: these are U+FFFD."""
+
+    def __init__(self) -> None:
+        self.lost = 0
+
+    def one(self, found: re.Match[str]) -> str:
+        escape = ESCAPES.get(found[0])
+        if escape is None:
+            self.lost += 1
+            return REPLACEMENT
+        return escape
+
+    def __call__(self, text: str) -> str:
+        return SPECIAL.sub(self.one, text)
+
+    def attributes(self, **values: str | int | bool | None) -> str:
+        """` name="value"` for each that isn't None."""
+        return "".join(f' {name}="{self.shown(value)}"' for name, value in values.items() if value is not None)
+
+    def shown(self, value: str | int | bool) -> str:
+        if isinstance(value, bool):
+            return "true" if value else "false"
+        return self(value) if isinstance(value, str) else str(value)

@@ -1,0 +1,116 @@
+"""Rows of the server as OSM's XML. Each function gives pieces, so that an element with many members is written in several."""
+
+from __future__ import annotations
+
+from collections.abc import Iterator
+
+from .degrees import degrees_of
+from .people import User
+from .rows import Box, Changeset, Comment, Done, Element, Note, edges
+from .xml_texts import Texts
+
+GENERATOR = "Hegunsap"
+BEGINNING = "1970-01-01T00:00:00Z"
+HEAD = '<?xml version="1.0" encoding="UTF-8"?>\n'
+SLICE = 1000
+"""Members that are written in one piece."""
+
+
+def utc(time: str) -> str:
+    """The form in which OSM shows times of notes and in its refusals."""
+    return time.replace("T", " ").replace("Z", " UTC")
+
+
+def opened(name: str) -> str:
+    return f'{HEAD}<{name} version="0.6" generator="{GENERATOR}">\n'
+
+
+def closed(name: str) -> str:
+    return f"</{name}>\n"
+
+
+def tags(texts: Texts, it: dict[str, str]) -> str:
+    return "".join([f'  <tag k="{texts(key)}" v="{texts(value)}"/>\n' for key, value in it.items()])
+
+
+
+def references(texts: Texts, it: Element) -> Iterator[str]:
+    if "nodes" in it:
+        yield "".join([f'  <nd ref="{ref}"/>\n' for ref in it["nodes"]])
+    members = it.get("members", [])
+    for place in range(0, len(members), SLICE):
+        part = members[place : place + SLICE]
+        yield "".join([f'  <member type="{row["type"]}" ref="{row["ref"]}" role="{texts(row["role"])}"/>\n' for row in part])
+
+
+def element(texts: Texts, it: Element) -> Iterator[str]:
+    kind = it["type"]
+    start = (
+        f'<{kind} id="{it["id"]}" visible="{"true" if it["visible"] else "false"}" version="{it["version"]}" '
+        f'changeset="{it["changeset"]}" timestamp="{it["timestamp"]}" user="{texts(it["user"])}" uid="{it["uid"]}"'
+    )
+    if "redaction" in it:
+        start += f' redaction="{it["redaction"]}"'
+    if "lat7" in it:
+        start += f' lat="{degrees_of(it["lat7"])}" lon="{degrees_of(it["lon7"])}"'
+    if it.get("tags") or it.get("nodes") or it.get("members"):
+        yield f"{start}>\n"
+        yield from references(texts, it)
+        yield f"{tags(texts, it.get('tags', {}))}</{kind}>\n"
+    else:
+        yield f"{start}/>\n"
+
+
+def bounds(it: Box) -> str:
+    return "<bounds" + "".join(f' {side}="{degrees_of(units)}"' for side, units in edges(it).items()) + "/>\n"
+
+
+def changeset(texts: Texts, it: Changeset, discussed: bool = False) -> str:
+    start = texts.attributes(
+        id=it["id"], created_at=it["created_at"], closed_at=it.get("closed_at"), open=it["open"], user=it["user"], uid=it["uid"]
+    )
+    start += "".join(f' {side[:3]}_{side[3:]}="{degrees_of(units)}"' for side, units in edges(it).items())
+    start += texts.attributes(comments_count=0, changes_count=it["changes_count"])
+    return f"<changeset{start}>\n{tags(texts, it['tags'])}{'  <discussion/>' if discussed else ''}</changeset>\n"
+
+
+def done(it: Done) -> str:
+    rest = "".join(f' {name}="{it[name]}"' for name in ("old_id", "new_id", "new_version") if name in it)  # type: ignore[literal-required]
+    return f"<{it['type']}{rest}/>\n"
+
+
+def user(texts: Texts, it: User, mine: bool) -> str:
+    """What the users text says of a user; counts aren't known here and left out, and JOSM can't do without a beginning."""
+    roles = "<roles><moderator/></roles>" if it.moderator else "<roles/>"
+    more = "<languages><lang>en</lang></languages>" if mine else ""
+    return f"<user{texts.attributes(id=it.id, display_name=it.name, account_created=BEGINNING)}><description/>{roles}{more}</user>\n"
+
+
+# ---- notes
+
+
+def inner(texts: Texts, name: str, it: str | int) -> str:
+    return f"<{name}>{texts(str(it))}</{name}>"
+
+
+def paragraph(text: str) -> str:
+    """A comment's text as HTML."""
+    return "<p>" + text.replace("&", "&amp;").replace("<", "&lt;").replace(">", "&gt;") + "</p>"
+
+
+def comment(texts: Texts, it: Comment) -> str:
+    who = "".join(inner(texts, name, it[name]) for name in ("uid", "user") if name in it)  # type: ignore[literal-required]
+    said = inner(texts, "action", it["action"]) + inner(texts, "text", it["text"]) + inner(texts, "html", paragraph(it["text"]))
+    return f"<comment>{inner(texts, 'date', utc(it['date']))}{who}{said}</comment>\n"
+
+
+def note(texts: Texts, it: Note, site: str) -> str:
+    here = f"{site}/api/0.6/notes/{it['id']}"
+    rows = {"id": str(it["id"]), "url": here}
+    rows |= {f"{call}_url": f"{here}/{call}" for call in (("comment", "close") if it["status"] == "open" else ("reopen",))}
+    rows |= {"date_created": utc(it["date_created"]), "status": it["status"]}
+    if "closed_at" in it:
+        rows["date_closed"] = utc(it["closed_at"])
+    start = f'<note lon="{degrees_of(it["lon7"])}" lat="{degrees_of(it["lat7"])}">'
+    said = "".join(comment(texts, row) for row in it["comments"])
+    return f"{start}{''.join(inner(texts, name, value) for name, value in rows.items())}<comments>{said}</comments></note>\n"

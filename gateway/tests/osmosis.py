@@ -1,0 +1,78 @@
+"""osmosis reads a made-up town by `--read-api`, and osmium reads what comes out: both have to be the town."""
+
+from __future__ import annotations
+
+import gzip
+import os
+import subprocess
+import tempfile
+from typing import Any
+
+from behind import BOB, TOP, Gateway, Site, Wrong, want
+
+EXAMPLES = os.path.join(TOP, "examples")
+BOX = {"left": "-30.0005", "bottom": "44.9995", "right": "-29.99", "top": "45.01"}
+
+
+def command(*words: str) -> str:
+    done = subprocess.run(words, capture_output=True, text=True, timeout=300, check=False)
+    if done.returncode:
+        raise Wrong(f"{words[0]} ended with status {done.returncode}: {done.stdout[-800:]}{done.stderr[-1500:]}")
+    return done.stdout
+
+
+def opl(path: str) -> list[str]:
+    """The elements of a file, a line each, in osmium's own form and order."""
+    sorted_path = f"{path}.sorted.opl"
+    command("osmium", "sort", "--overwrite", "-o", sorted_path, path)
+    with open(sorted_path, encoding="utf-8") as file:
+        return file.read().splitlines()
+
+
+def loaded(gateway: Gateway, folder: str, server: int) -> None:
+    """A small town, by the importer of examples/, straight to the server."""
+    town = f"{folder}/town.osm.pbf"
+    command(f"{EXAMPLES}/town.py", "--blocks", "4", town)
+    command(f"{EXAMPLES}/import_osm.py", "--server", f"http://127.0.0.1:{server}", "--token", "alicetoken", "--links", "2", town)
+
+
+def run(program: str) -> str:
+    with tempfile.TemporaryDirectory() as folder, Site(program) as gateway:
+        loaded(gateway, folder, gateway.server)
+        box = ",".join(BOX.values())
+        by_gateway, by_osmosis = f"{folder}/gateway.osm", f"{folder}/osmosis.osm"
+        text = gateway.well("GET", f"map?bbox={box}")
+        with open(by_gateway, "w", encoding="utf-8") as file:
+            file.write(text)
+        edges = [f"{side}={value}" for side, value in BOX.items()]
+        url = f"url=http://127.0.0.1:{gateway.port}/api/0.6"
+        command("osmosis", "-q", "--read-api", *edges, url, "--write-xml", by_osmosis)
+        rows = opl(by_gateway)
+        want(opl(by_osmosis), rows, "what osmosis read")
+        if len(rows) < 400:
+            raise Wrong(f"the town has {len(rows)} elements alone")
+        packed = gateway.api("GET", f"map?bbox={box}", Accept_Encoding="gzip")
+        want((packed.fields["Content-Encoding"], gzip.decompress(packed.body).decode()), ("gzip", text), "the map in gzip")
+        want(gateway.api("GET", f"map?bbox={box}", Accept_Encoding="deflate").fields["Content-Encoding"], None, "deflate")
+        changes = checked(gateway, folder, len(rows))
+    version = command("osmium", "--version").split("\n", 1)[0].split()[-1]
+    osmosis = command("dpkg-query", "-W", "-f", "${Version}", "osmosis")
+    return f"osmosis {osmosis} reads {len(rows)} elements as they are, osmium {version} too, and {changes} changes of downloads"
+
+
+def checked(gateway: Gateway, folder: str, least: int) -> int:
+    """What osmium says of the map and of a changeset's download."""
+    info: Any = command("osmium", "fileinfo", "-e", "-g", "data.count.nodes", f"{folder}/gateway.osm")
+    if not 0 < int(info) < least:
+        raise Wrong(f"osmium counts {info} nodes of {least} elements")
+    command("osmium", "check-refs", f"{folder}/gateway.osm")
+    changeset = gateway.changeset(BOB)
+    body = f'<osmChange><create><node id="-1" changeset="{changeset}" lat="0.5" lon="0.5"/></create></osmChange>'
+    gateway.well("POST", f"changeset/{changeset}/upload", body, BOB)
+    with open(f"{folder}/one.osc", "w", encoding="utf-8") as file:
+        file.write(gateway.well("GET", f"changeset/{changeset}/download"))
+    with open(f"{folder}/first.osc", "w", encoding="utf-8") as file:
+        file.write(gateway.well("GET", "changeset/1/download"))
+    counts = [int(command("osmium", "fileinfo", "-e", "-g", "data.count.nodes", f"{folder}/{name}.osc")) for name in ("one", "first")]
+    want(counts[0], 1, "nodes of a download")
+    return sum(counts)
