@@ -111,6 +111,13 @@ def family(pid: int) -> list[int]:
         return []
 
 
+def seconds_of(pid: int) -> tuple[float, float]:
+    """The processor time of a process so far, of the program itself and of the kernel for it."""
+    with open(f"/proc/{pid}/stat") as file:
+        fields = file.read().rpartition(")")[2].split()
+    return int(fields[11]) / TICKS, int(fields[12]) / TICKS
+
+
 class Server:
     """`PROGRAM serve` on a free port or that one, with these users, one line each, until the end of a `with`.
 
@@ -156,10 +163,7 @@ class Server:
         return len(os.listdir(f"/proc/{self.pid}/fd"))
 
     def seconds(self) -> tuple[float, float]:
-        """The processor time so far, of the program itself and of the kernel for it."""
-        with open(f"/proc/{self.pid}/stat") as file:
-            fields = file.read().rpartition(")")[2].split()
-        return int(fields[11]) / TICKS, int(fields[12]) / TICKS
+        return seconds_of(self.pid)
 
     def megabytes(self, which: str = "VmRSS") -> float:
         """The memory that is held, or at most was (VmHWM)."""

@@ -2,14 +2,11 @@
 
 from __future__ import annotations
 
-import gzip
-import io
 import re
+import zlib
 from collections.abc import Iterable, Iterator
 from typing import Any
 from xml.sax.saxutils import quoteattr
-
-from made import KINDS
 
 Element = dict[str, Any]
 # What no text of XML 1.0 can have, nor tell by a number.
@@ -52,10 +49,10 @@ def lines(element: Element) -> Iterator[str]:
 
 
 def text_of(elements: Iterable[Element]) -> Iterator[str]:
-    """The whole text: nodes, ways, relations, each by id and version, neighbours of one action together."""
+    """The whole text, versions in their order, neighbours of one action together."""
     yield '<?xml version="1.0" encoding="UTF-8"?>\n<osmChange version="0.6" generator="hegunsap">\n'
     action = ""
-    for element in sorted(elements, key=lambda it: (KINDS.index(it["type"]), it["id"], it["version"])):
+    for element in elements:
         if action_of(element) != action:
             yield (f"  </{action}>\n" if action else "") + f"  <{action_of(element)}>\n"
             action = action_of(element)
@@ -63,10 +60,10 @@ def text_of(elements: Iterable[Element]) -> Iterator[str]:
     yield (f"  </{action}>\n" if action else "") + "</osmChange>\n"
 
 
-def packed(elements: Iterable[Element]) -> bytes:
-    """The bytes of the file: the same for the same versions, whenever they are written."""
-    out = io.BytesIO()
-    with gzip.GzipFile(fileobj=out, mode="wb", mtime=0) as file:
-        for text in text_of(elements):
-            file.write(text.encode())
-    return out.getvalue()
+def packed(elements: Iterable[Element]) -> Iterator[bytes]:
+    """The file, part by part: the same for the same versions, whenever it is written."""
+    packer = zlib.compressobj(wbits=31)  # gzip's form, without a time
+    for text in text_of(elements):
+        if part := packer.compress(text.encode()):
+            yield part
+    yield packer.flush()

@@ -9,6 +9,7 @@ from dataclasses import dataclass
 from kept_link import Link, Lost, Reply, Site
 
 MOST = 128  # pieces that are asked for at once
+LARGE = 8 << 20  # bytes; a piece may have 32 MiB
 NUMBER = re.compile(rb'"number":(\d+),"version":\d+}$')
 
 
@@ -31,6 +32,11 @@ class Taken:
     def add(self, piece: bytes) -> None:
         self.number += 1
         self.first, self.last = self.first or piece, piece
+
+
+def next_window(window: int, pieces: list[bytes], most: int) -> int:
+    """How many pieces are asked for behind these: twice as many, but few where they are large."""
+    return max(1, window // 2) if sum(map(len, pieces)) > LARGE else min(2 * window, most)
 
 
 def is_end(reply: Reply) -> bool:
@@ -86,7 +92,7 @@ class Feed:
         except Lost:
             if not pieces:
                 raise
-        self.window = min(2 * self.window, MOST) if len(pieces) == self.window else 1
+        self.window = next_window(self.window, pieces, MOST) if len(pieces) == self.window else 1
         return pieces
 
     def checked(self, body: bytes, number: int) -> bytes:

@@ -47,11 +47,12 @@ def sync(path: str) -> None:
         os.close(descriptor)
 
 
-def write_whole(path: str, data: bytes) -> None:
+def write_whole(path: str, parts: Iterable[bytes]) -> None:
     """No reader finds a part of it, and it is on the disk before anything is written behind it."""
     new = path + ".new"
     with open(new, "wb") as file:
-        file.write(data)
+        for part in parts:
+            file.write(part)
         file.flush()
         os.fsync(file.fileno())
     os.replace(new, path)
@@ -85,9 +86,9 @@ class Folder:
         self.make_folders(os.path.dirname(base))
         write_whole(base + ".osc.gz", packed(elements))
         known = {name: value for name, value in asdict(state).items() if name != "sequence"}
-        write_whole(base + ".pieces.json", (json.dumps(known) + "\n").encode())
-        write_whole(base + ".state.txt", state.text().encode())
-        write_whole(os.path.join(self.path, "state.txt"), state.text().encode())
+        write_whole(base + ".pieces.json", [(json.dumps(known) + "\n").encode()])
+        write_whole(base + ".state.txt", [state.text().encode()])
+        write_whole(os.path.join(self.path, "state.txt"), [state.text().encode()])
 
     def make_folders(self, path: str) -> None:
         if not os.path.isdir(path):

@@ -5,8 +5,9 @@ from __future__ import annotations
 import hashlib
 import time
 from collections import deque
-from collections.abc import Sequence
+from collections.abc import Iterator, Sequence
 
+from change_file import Element
 from feed import Feed, OtherJournal, Unusable
 from folder import Folder, State
 from kept_link import Lost
@@ -15,6 +16,8 @@ from own_mirror import OwnMirror
 
 MOST_VERSIONS = 50_000  # from so many on a file ends, at the end of a piece
 MOST_POSTED = 500  # pieces that are held back for the mirror
+MOST_BYTES = 8 << 20  # of them
+MANY = 500  # versions that are read at once
 
 
 class Follower:
@@ -30,6 +33,7 @@ class Follower:
         self.is_level = False
         self.ahead: deque[bytes] = deque()
         self.unposted: list[bytes] = []
+        self.unposted_bytes = 0
         self.counts, self.digest = Counts(), hashlib.sha256()
         self.versions: dict[Version, None] = {}
         self.at = 0
@@ -112,13 +116,14 @@ class Follower:
                 self.versions.update(dict.fromkeys(self.new_ones(text, made)))
                 return
         self.unposted.append(text)
-        if len(self.unposted) >= MOST_POSTED:
+        self.unposted_bytes += len(text)
+        if len(self.unposted) >= MOST_POSTED or self.unposted_bytes >= MOST_BYTES:
             self.post()
 
     def new_ones(self, text: bytes, made: Made) -> Sequence[Version]:
         """Which of the uncertain versions a piece made: those that weren't there before and are there behind it."""
         self.post()
-        paths = [f"{it.path}?show_redactions=true" for it in made.perhaps]
+        paths = [it.path for it in made.perhaps]
         before = self.mirror.read(paths)
         self.mirror.post([text])
         after = self.mirror.read(paths)
@@ -127,20 +132,26 @@ class Follower:
     def post(self) -> None:
         self.mirror.post(self.unposted)
         self.unposted.clear()
+        self.unposted_bytes = 0
 
     def publish(self) -> State:
         """One file with every version of the interval that no redaction hides at its end."""
         assert self.state is not None
-        names = list(self.versions)
-        elements = self.mirror.read([f"{it.path}?show_redactions=true" for it in names])
-        for name, element in zip(names, elements):
-            if element is None:
-                raise Unusable(f"the mirror has no {name.path}, which the feed tells of")
-        shown = [it for it in elements if it is not None and "redaction" not in it]
         # Moments of files rise, so that none is found in place of another by its moment.
         moment = max(self.at, self.state.moment + 1)
         state = State(self.state.sequence + 1, moment, self.mirror.length, self.digest.hexdigest())
-        self.folder.publish(state, shown)
+        self.folder.publish(state, self.shown())
         self.state = state
         self.versions.clear()
         return state
+
+    def shown(self) -> Iterator[Element]:
+        """Read from the mirror while they are written, so that few are in memory at a time."""
+        names = sorted(self.versions, key=lambda it: it.place)
+        for start in range(0, len(names), MANY):
+            part = names[start : start + MANY]
+            for name, element in zip(part, self.mirror.read([it.path for it in part])):
+                if element is None:
+                    raise Unusable(f"the mirror has no {name.path}, which the feed tells of")
+                if "redaction" not in element:
+                    yield element

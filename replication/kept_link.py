@@ -54,11 +54,12 @@ class Link:
         found = LENGTH.search(head)
         if found is None or not head.startswith(b"HTTP/1.1 "):
             raise Lost(f"{self.url}: a reply begins with {head[:60]!r}")
-        start, stop = end + 4, end + 4 + int(found[1])
-        while len(self.held) < stop:
+        self.read, length = end + 4, int(found[1])
+        while len(self.held) - self.read < length:
             self.take_more()
-        self.read = stop
-        return Reply(int(head[9:12]), bytes(self.held[start:stop]), CLOSES.search(head) is not None)
+        body = bytes(self.held[self.read : self.read + length])
+        self.read += length
+        return Reply(int(head[9:12]), body, CLOSES.search(head) is not None)
 
     def take_more(self) -> None:
         try:
@@ -67,10 +68,8 @@ class Link:
             raise Lost(f"{self.url}: {why!r}") from why
         if not part:
             raise Lost(f"{self.url} ended the link")
-        # What was read is let go here, once a part and not once a reply.
-        if self.read and len(self.held) - self.read < 1 << 16:
-            del self.held[: self.read]
-            self.read = 0
+        del self.held[: self.read]  # here, once a part and not once a reply
+        self.read = 0
         self.held += part
 
     def close(self) -> None:

@@ -18,7 +18,13 @@ class Version:
 
     @property
     def path(self) -> str:
-        return f"{self.kind}/{self.id}/{self.number}"
+        """Where a moderator reads it, redacted or not."""
+        return f"{self.kind}/{self.id}/{self.number}?show_redactions=true"
+
+    @property
+    def place(self) -> tuple[int, int, int]:
+        """In a file: by kind, id and number."""
+        return KINDS.index(self.kind), self.id, self.number
 
 
 @dataclass

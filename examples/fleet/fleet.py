@@ -1,11 +1,17 @@
-#!/usr/bin/env python3
-"""Runs a fleet: examples/fleet/fleet.py [--program PROGRAM] [--mirror PROGRAM] [--uploads 2000] [--seconds 5]
+#!/usr/bin/python3
+"""Runs a fleet and tries it: examples/fleet/fleet.py [--engine postgresql] [--uploads 2000] [--seconds 5] [PART ..]
 
-Starts `osm serve`, four mirrors, nginx with nginx.conf in front of them, feeder.py and keep.py, on free ports of the loopback. While
-uploads go through nginx it kills a mirror and starts it again, ends the feeder and starts it again, and watches that no mirror's number
-goes back. Then each mirror has to answer reads byte for byte as the server does, and a new mirror too that was fed from the file. At
-last wrk reads through nginx with 1, 2 and 4 mirrors, for so many seconds each. Needs Debian's nginx-light, and wrk where there are
-seconds. Status 0 where all is as it should be.
+Starts `osm serve`, four mirrors, an engine, writer.py, a carrier for each mirror, keep.py, and nginx with nginx.conf in front, on free
+ports of the loopback. Status 0 where all is as it should be. The parts:
+
+- level: while uploads go through nginx, a mirror, a carrier, the engine and the writer are killed and started again, one after another;
+  then each mirror is level, no mirror's number went back, and nine kinds of reads are the server's byte for byte, those of a mirror too
+  that was fed from the file of keep.py;
+- news: how long after the reply to an upload all four mirrors have it;
+- reads: by wrk, through nginx with 1, 2 and 4 mirrors, for so many seconds each;
+- anew: the server is killed and started again; the writer tells of the other journal, and nothing of it comes to a mirror.
+
+Needs Debian's nginx-light, redis-server and python3-redis (or postgresql and python3-psycopg2), and wrk where there are seconds.
 """
 
 from __future__ import annotations
@@ -13,163 +19,159 @@ from __future__ import annotations
 import argparse
 import os
 import re
-import shutil
-import signal
 import subprocess
 import sys
 import tempfile
-import threading
 import time
+from collections.abc import Callable
 from contextlib import ExitStack
+from functools import partial
 from typing import Any
 
-HERE = os.path.dirname(os.path.abspath(__file__))
+import scripts
+from running import ENGINES, HERE, USERS, Front, Process, Watch, Wrong, new_mirror, number, same_reads, script, url, wait_until
+from serving import Link, Server, free_port
+
 TOP = os.path.join(HERE, "..", "..")
-sys.path.insert(0, os.path.join(HERE, ".."))
-
-from serving import Link, Lost, Server, free_port
-
-USERS = "1 alicetoken user alice\n2 bobtoken moderator bob\n"
-NGINX = shutil.which("nginx", path=os.environ.get("PATH", "") + ":/usr/sbin") or "nginx"
-MAIN = """
-worker_processes {processes};
-daemon off;
-pid {folder}/nginx.pid;
-error_log {folder}/error.log;
-events {{ worker_connections 1024; }}
-http {{
-    access_log off;
-    client_body_temp_path {folder}/client;
-    proxy_temp_path {folder}/proxy;
-    fastcgi_temp_path {folder}/fastcgi;
-    uwsgi_temp_path {folder}/uwsgi;
-    scgi_temp_path {folder}/scgi;
-    include {folder}/site.conf;
-}}
-"""
 SERVER_WORKERS = 12
-MIRROR_WORKERS = 24
 MIRRORS = 4
+PARTS = ("level", "news", "reads", "anew")
+MOST_NEWS = 0.05  # seconds
 
 
-class Wrong(Exception):
-    """What isn't as it should be."""
+class Fleet:
+    """All that runs, until the end of the stack."""
+
+    def __init__(self, words: argparse.Namespace, folder: str, stack: ExitStack) -> None:
+        self.program, self.mirror_program, self.folder, self.stack = words.program, words.mirror, folder, stack
+        self.server = Server(words.program, SERVER_WORKERS, USERS, port=free_port())
+        self.mirrors: list[Server] = []
+        stack.callback(self.end_servers)
+        self.mirrors += [new_mirror(words.mirror) for _ in range(MIRRORS)]
+        self.engine = ENGINES[words.engine](folder)
+        stack.callback(self.engine.kill)
+        self.ports = [it.port for it in self.mirrors]
+        self.writer = self.add("writer.py", "--server", url(self.server.port), "--engine", self.engine.url)
+        self.carriers = [self.add("carrier.py", "--mirror", url(port), "--engine", self.engine.url) for port in self.ports]
+        self.kept = os.path.join(folder, "journal.txt")
+        self.keeper = self.add("keep.py", self.kept, "--server", url(self.server.port))
+        self.link, self.changeset, self.uploads = Link(self.server.port, "alicetoken", 900), 0, 0
+
+    def end_servers(self) -> None:
+        for server in (self.server, *self.mirrors):
+            server.__exit__()
+
+    def add(self, name: str, *words: str) -> Process:
+        process = script(name, *words)
+        self.stack.callback(process.kill)
+        return process
+
+    def edit_through(self, port: int) -> None:
+        self.link = Link(port, "alicetoken", 900)
+        if not self.changeset:
+            self.changeset = self.link.ask("PUT", "changeset/create", {"tags": {"comment": "fleet"}}).read()
+
+    def upload(self, count: int = 1) -> None:
+        """Uploads of a node each, and every tenth time with a way of it and of the one before."""
+        for place in range(self.uploads, self.uploads + count):
+            new = {"type": "node", "id": -1, "lat7": 481000000 + place, "lon7": 115000000 + place, "tags": {"n": str(place)}}
+            blocks: list[dict[str, Any]] = [{"create": [new]}]
+            if place % 10 == 9:
+                blocks.append({"create": [{"type": "way", "id": -1, "nodes": [-1, place], "tags": {"highway": "path"}}]})
+            reply = self.link.ask("POST", f"changeset/{self.changeset}/upload", {"osmChange": blocks})
+            if reply.status != 200:
+                raise Wrong(f"upload {place}: {reply.status} {reply.body.decode()}")
+        self.uploads += count
+
+    def level(self, what: str, since: float = 0.0) -> float:
+        """Waits until all mirrors have what the server has, and tells how long that took, or was since that moment."""
+        wanted, start = number(self.server.port), since or time.monotonic()
+        for port in self.ports:
+            wait_until(what, wanted, port)
+        return time.monotonic() - start
+
+    def kill_mirror(self, place: int) -> None:
+        self.mirrors[place].process.kill()
+        self.mirrors[place].__exit__()
+
+    def start_mirror(self, place: int) -> None:
+        self.mirrors[place] = new_mirror(self.mirror_program, self.ports[place])
+
+    def check_reads(self) -> int:
+        return min(same_reads(self.server.port, port, f"mirror {place}", self.uploads) for place, port in enumerate(self.ports, 1))
 
 
-def number(port: int) -> int:
-    reply = Link(port, kept=1).ask("GET", "replication/state")
-    return int(reply.read()["sequenceNumber"])
+def level(fleet: Fleet, words: argparse.Namespace) -> None:
+    part = words.uploads // 10
+    with Front(fleet.folder, fleet.server.port, fleet.ports, 2) as front:
+        watches = [Watch(port) for place, port in enumerate(fleet.ports) if place != 1]
+        fleet.edit_through(front.port)
+        fleet.upload(2 * part)
+        print(f"{number(fleet.server.port)} pieces, all at four mirrors {fleet.level('a mirror'):.2f} s after the last upload", flush=True)
+        breaks: tuple[tuple[str, Callable[[], None], Callable[[], None]], ...] = (
+            ("a mirror", partial(fleet.kill_mirror, 1), partial(fleet.start_mirror, 1)),
+            ("a carrier", fleet.carriers[2].kill, fleet.carriers[2].start),
+            ("the engine", fleet.engine.kill, fleet.engine.start),
+            ("the writer", fleet.writer.kill, fleet.writer.start),
+        )
+        for what, kill, start in breaks:
+            kill()
+            fleet.upload(2 * part)
+            began = time.monotonic()
+            start()
+            seconds = fleet.level(what, began)
+            told = f"{what} killed, {2 * part} uploads, started again: level {seconds:.2f} s later"
+            print(f"{told}, at {number(fleet.server.port)} pieces", flush=True)
+        for watch in watches:
+            watch.judge()
+    kinds, asked = fleet.check_reads(), sum(len(it.numbers) for it in watches)
+    print(f"no number went back in {asked} answers; {kinds} kinds of reads are the server's, byte for byte", flush=True)
+    with new_mirror(fleet.mirror_program) as new:
+        most, until = number(fleet.server.port), time.monotonic() + 30
+        while sum(1 for _ in open(fleet.kept, "rb")) < most and time.monotonic() < until:
+            time.sleep(0.05)
+        start_time = time.monotonic()
+        words_of_keep = [sys.executable, os.path.join(HERE, "keep.py"), fleet.kept, "--feed", url(new.port), "--token", "bobtoken"]
+        subprocess.run(words_of_keep, check=True, stdout=subprocess.DEVNULL)
+        seconds = time.monotonic() - start_time
+        same_reads(fleet.server.port, new.port, "the mirror of the file", fleet.uploads)
+    print(f"a new mirror has the file's {most} pieces after {seconds:.2f} s, and its reads are the server's", flush=True)
 
 
-class Watch(threading.Thread):
-    """Asks a mirror for its number on one link, for as long as that lasts, and keeps what came."""
-
-    def __init__(self, port: int) -> None:
-        super().__init__(daemon=True)
-        self.link, self.numbers, self.goes_on = Link(port), [0], True
-        self.start()
-
-    def run(self) -> None:
-        while self.goes_on:
-            try:
-                self.numbers.append(int(self.link.ask("GET", "replication/state").read()["sequenceNumber"]))
-            except (OSError, Lost):
-                return
-            time.sleep(0.002)
-
-    def judge(self) -> None:
-        self.goes_on = False
-        self.join()
-        for before, after in zip(self.numbers, self.numbers[1:]):
-            if after < before:
-                raise Wrong(f"port {self.link.port}: the number went back from {before} to {after}")
+def news(fleet: Fleet, words: argparse.Namespace) -> None:
+    fleet.edit_through(fleet.server.port)
+    fleet.upload()
+    fleet.level("a mirror")
+    links = [Link(port) for port in fleet.ports]
+    times = []
+    for _ in range(words.news):
+        time.sleep(0.05)
+        fleet.upload()
+        start, wanted = time.monotonic(), f"node/{fleet.uploads}"
+        for link in links:
+            while link.ask("GET", wanted).status != 200:
+                time.sleep(0.001)
+        times.append(time.monotonic() - start)
+    times.sort()
+    half, most = times[len(times) // 2], times[-1]
+    told = f"an upload is at all four mirrors {1000 * half:.1f} ms after its reply, half of the time, and {1000 * most:.1f} ms at most"
+    print(f"{told}; of {len(times)} uploads {sum(it <= MOST_NEWS for it in times)} within {1000 * MOST_NEWS:.0f} ms", flush=True)
 
 
-class Front:
-    """nginx before a server and some of the mirrors."""
-
-    def __init__(self, folder: str, server: int, mirrors: list[int], processes: int) -> None:
-        self.folder, self.port = folder, free_port()
-        with open(os.path.join(HERE, "nginx.conf"), encoding="utf-8") as file:
-            text = file.read().replace("127.0.0.1:8080;", f"127.0.0.1:{server};").replace("127.0.0.1:8090;", f"127.0.0.1:{self.port};")
-        for place in range(MIRRORS):
-            line = rf"    server 127\.0\.0\.1:{8081 + place} .*\n"
-            text = re.sub(line, lambda it: it[0].replace(str(8081 + place), str(mirrors[place])) if place < len(mirrors) else "", text)
-        for path, what in (("site.conf", text), ("main.conf", MAIN.format(folder=folder, processes=processes))):
-            with open(os.path.join(folder, path), "w", encoding="utf-8") as file:
-                file.write(what)
-        os.chmod(folder, 0o755)
-        words = [NGINX, "-e", f"{folder}/error.log", "-c", f"{folder}/main.conf"]
-        subprocess.run([*words, "-t", "-q"], check=True)
-        self.process = subprocess.Popen(words)
-
-    def __enter__(self) -> Front:
-        until = time.monotonic() + 10
-        while True:
-            try:
-                Link(self.port, kept=1).ask("GET", "node/1")
-                return self
-            except (OSError, Lost):
-                if time.monotonic() > until:
-                    raise
-                time.sleep(0.05)
-
-    def __exit__(self, *_: object) -> None:
-        self.process.send_signal(signal.SIGTERM)
-        self.process.wait()
+def reads(fleet: Fleet, words: argparse.Namespace) -> None:
+    if not words.seconds:
+        return
+    fleet.edit_through(fleet.server.port)
+    fleet.upload()
+    fleet.level("a mirror")
+    for count in (1, 2, 4):
+        with Front(fleet.folder, fleet.server.port, fleet.ports[:count], 2) as front:
+            print(f"{count} mirrors: {reads_a_second(front.port, words.seconds):.0f} reads a second through nginx")
+    print(f"straight at one mirror: {reads_a_second(fleet.ports[0], words.seconds):.0f} reads a second", flush=True)
 
 
-class Script:
-    """One of this folder's scripts, running until it is ended."""
-
-    def __init__(self, name: str, *words: str) -> None:
-        self.words = [sys.executable, os.path.join(HERE, name), *words, "--token", "bobtoken"]
-        self.process: subprocess.Popen[bytes] | None = None
-
-    def __enter__(self) -> Script:
-        self.process = subprocess.Popen(self.words, stderr=subprocess.DEVNULL)
-        return self
-
-    def __exit__(self, *_: object) -> None:
-        if self.process is not None:
-            self.process.kill()
-            self.process.wait()
-            self.process = None
-
-
-def upload(link: Link, changeset: int, place: int) -> None:
-    """One upload: a node, and every tenth time a way of it and of the one before."""
-    blocks: list[dict[str, Any]] = [{"create": [{"type": "node", "id": -1, "lat7": 481000000 + place, "lon7": 115000000 + place, "tags": {"n": str(place)}}]}]
-    if place % 10 == 9:
-        blocks.append({"create": [{"type": "way", "id": -1, "nodes": [-1, place], "tags": {"highway": "path"}}]})
-    reply = link.ask("POST", f"changeset/{changeset}/upload", {"osmChange": blocks})
-    if reply.status != 200:
-        raise Wrong(f"upload {place}: {reply.status} {reply.body.decode()}")
-
-
-def wait_until(what: str, wanted: int, port: int, seconds: float = 120) -> float:
-    """Waits until a mirror has that number, and tells how long."""
-    start = time.monotonic()
-    while number(port) != wanted:
-        if time.monotonic() - start > seconds:
-            raise Wrong(f"{what} has {number(port)} of {wanted} pieces after {seconds} seconds")
-        time.sleep(0.01)
-    return time.monotonic() - start
-
-
-def same_reads(server: int, mirror: int, name: str, most: int) -> None:
-    paths = ["map?bbox=11.5,48.1,11.6,48.2", "changesets", "changeset/1", "changeset/1/download", "changeset/2", "replication/state"]
-    paths += [f"node/{it}" for it in range(1, most, 37)] + [f"way/{it}/full" for it in range(1, most // 10, 7)]
-    paths += ["node/10/ways", "node/10/history", "node/10/1", "nodes?nodes=1,2,3", "way/1/relations", "node/999999", "way/1/1"]
-    links = Link(server), Link(mirror)
-    for path in paths:
-        wanted, came = (link.ask("GET", path) for link in links)
-        if (wanted.status, wanted.body) != (came.status, came.body):
-            raise Wrong(f"{name}: GET {path}: {came.status} {came.body[:200]!r} in place of {wanted.status} {wanted.body[:200]!r}")
-
-
-def reads(port: int, seconds: int) -> float:
-    words = ["wrk", "-t", "2", "-c", "16", "-d", f"{seconds}s", f"http://127.0.0.1:{port}/api/0.6/node/1"]
+def reads_a_second(port: int, seconds: int) -> float:
+    words = ["wrk", "-t", "2", "-c", "16", "-d", f"{seconds}s", f"{url(port)}/api/0.6/node/1"]
     told = subprocess.run(words, capture_output=True, check=True, text=True).stdout
     found = re.search(r"Requests/sec: *([0-9.]+)", told)
     if found is None or "Non-2xx" in told:
@@ -177,64 +179,67 @@ def reads(port: int, seconds: int) -> float:
     return float(found[1])
 
 
-def play(words: argparse.Namespace, folder: str, stack: ExitStack) -> None:
-    server = stack.enter_context(Server(words.program, SERVER_WORKERS, USERS))
-    mirrors = [Server(words.mirror, MIRROR_WORKERS, USERS, command=()) for _ in range(MIRRORS)]
-    stack.callback(lambda: [it.__exit__() for it in mirrors])
-    ports = [it.port for it in mirrors]
-    urls = [word for port in ports for word in ("--mirror", f"http://127.0.0.1:{port}")]
-    source = ("--server", f"http://127.0.0.1:{server.port}")
-    kept = os.path.join(folder, "journal.txt")
-    feeder = stack.enter_context(Script("feeder.py", *source, *urls))
-    stack.enter_context(Script("keep.py", kept, *source))
-    with Front(folder, server.port, ports, 2) as front:
-        watches = [Watch(port) for port in ports]
-        link = Link(front.port, "alicetoken", 900)
-        changeset = link.ask("PUT", "changeset/create", {"tags": {"comment": "fleet"}}).read()
-        for place in range(words.uploads):
-            upload(link, changeset, place)
-            if place == words.uploads // 4:
-                mirrors[1].process.kill()
-                mirrors[1].__exit__()
-            if place == words.uploads // 2:
-                mirrors[1] = Server(words.mirror, MIRROR_WORKERS, USERS, command=(), port=ports[1])
-                watches.append(Watch(ports[1]))
-            if place == words.uploads * 3 // 4:
-                feeder.__exit__()
-                feeder.__enter__()
-        most = number(server.port)
-        print(f"{most} pieces, of {words.uploads} uploads and a changeset, while the second mirror was killed and started again, and the feeder too")
-        for place, port in enumerate(ports):
-            print(f"mirror {place + 1} has all of them {wait_until(f'mirror {place + 1}', most, port):.2f} seconds after the last upload")
-            same_reads(server.port, port, f"mirror {place + 1}", words.uploads)
-        for watch in watches:
-            watch.judge()
-        print(f"no number went back in {sum(len(it.numbers) for it in watches)} answers, and reads are the server's, byte for byte")
-    new = stack.enter_context(Server(words.mirror, MIRROR_WORKERS, USERS, command=()))
-    until = time.monotonic() + 30
-    while sum(1 for _ in open(kept, "rb")) < most and time.monotonic() < until:
-        time.sleep(0.05)
-    start = time.monotonic()
-    subprocess.run([*Script("keep.py", kept, "--feed", f"http://127.0.0.1:{new.port}").words], check=True, stdout=subprocess.DEVNULL)
-    same_reads(server.port, new.port, "the mirror of the file", words.uploads)
-    print(f"a new mirror has the file's pieces after {time.monotonic() - start:.2f} seconds, and its reads are the server's")
-    for count in (1, 2, 4) if words.seconds else ():
-        with Front(folder, server.port, ports[:count], 2) as front:
-            print(f"{count} mirrors: {reads(front.port, words.seconds):.0f} reads a second through nginx")
-    if words.seconds:
-        print(f"straight at one mirror: {reads(ports[0], words.seconds):.0f} reads a second")
+def anew(fleet: Fleet, _: argparse.Namespace) -> None:
+    fleet.edit_through(fleet.server.port)
+    fleet.upload(5)
+    fleet.level("a mirror")
+    pieces, old = number(fleet.server.port), [answers(port) for port in fleet.ports]
+    fleet.server.process.kill()
+    fleet.server.__exit__()
+    fleet.server = Server(fleet.program, SERVER_WORKERS, USERS, port=fleet.server.port)
+    for process in (fleet.writer, fleet.keeper):
+        check_end(process, "another journal")
+    # Once it is longer than the journal of before, it has another piece under a number.
+    fleet.changeset = fleet.uploads = 0
+    fleet.edit_through(fleet.server.port)
+    fleet.upload(pieces + 20)
+    for process in (fleet.writer, fleet.keeper):
+        process.start()
+        check_end(process, "another journal")
+    # Who begins a new journal in the engine gets it, and whoever has the old one is given nothing of it.
+    fleet.writer = fleet.add("writer.py", "--new", "--server", url(fleet.server.port), "--engine", fleet.engine.url)
+    for process in fleet.carriers:
+        check_end(process, "another journal")
+        process.start()
+        check_end(process, "another journal")
+    if [answers(port) for port in fleet.ports] != old:
+        raise Wrong("a mirror of the old journal has changed")
+    for place, process in enumerate(fleet.carriers):
+        fleet.kill_mirror(place)
+        fleet.start_mirror(place)
+        process.start()
+    seconds = fleet.level("a mirror that was started anew")
+    fleet.check_reads()
+    told = "the writer and the keeper end with status 3, and so do the carriers of the old journal's mirrors, which have what they had"
+    print(f"the server is another one: {told}; mirrors that are started anew are level after {seconds:.2f} s", flush=True)
+
+
+def answers(port: int) -> list[bytes]:
+    link = Link(port)
+    return [link.ask("GET", path).body for path in ("replication/state", "changesets", "map?bbox=11.5,48.1,11.6,48.2")]
+
+
+def check_end(process: Process, text: str) -> None:
+    status = process.end()
+    if status != 3 or not any(text in line for line in process.said):
+        raise Wrong(f"{' '.join(process.words[1:3])} ended with status {status}: {process.said}")
 
 
 def main() -> int:
-    parser = argparse.ArgumentParser(description=(__doc__ or "").split("\n")[0])
+    parser = argparse.ArgumentParser(usage=scripts.usage(__doc__))
     parser.add_argument("--program", default=os.path.join(TOP, "crates/osm/out/osm"))
     parser.add_argument("--mirror", default=os.path.join(TOP, "crates/osm_mirror/out/osm_mirror"))
+    parser.add_argument("--engine", choices=tuple(ENGINES), default="redis")
     parser.add_argument("--uploads", type=int, default=2000)
+    parser.add_argument("--news", type=int, default=100)
     parser.add_argument("--seconds", type=int, default=5)
+    parser.add_argument("part", nargs="*", choices=[[], *PARTS], default=[])
     words = parser.parse_args()
     with tempfile.TemporaryDirectory() as folder, ExitStack() as stack:
         try:
-            play(words, folder, stack)
+            fleet = Fleet(words, folder, stack)
+            for name in words.part or PARTS:
+                globals()[name](fleet, words)
         except Wrong as why:
             print(f"wrong: {why}")
             return 1

@@ -1,10 +1,10 @@
-#!/usr/bin/env python3
-"""Keeps a server's journal in a file, a piece a line: keep.py FILE --server URL --token TOKEN
-Or brings a mirror what such a file has: keep.py FILE --feed MIRROR --token TOKEN
+#!/usr/bin/python3
+"""Keeps a server's journal in a file, a piece a line: examples/fleet/keep.py FILE --server URL --token TOKEN
+Or brings a mirror what such a file has: examples/fleet/keep.py FILE --feed MIRROR --token TOKEN
 
-A line is written and flushed to the disk (fsync) before the next piece is asked for. A last line that was cut off is cut away. Before
-anything is added, the last piece of the file is compared with the server's of that number: the file of another journal is left alone,
-status 1. Keeping goes on until it is ended; feeding ends with the file.
+Lines are written and flushed to the disk (fsync) before more pieces are asked for. A last line that was cut off is cut away. The first and
+the last piece of the file are compared with the server's on each link: the file of another journal is left alone, status 3, and so is a
+mirror that has another one. Keeping goes on until it is ended; feeding ends with the file.
 """
 
 from __future__ import annotations
@@ -14,60 +14,73 @@ import json
 import os
 import sys
 import time
+from array import array
+from typing import BinaryIO
 
-from feeder import PAUSE, Feed, Site
+import scripts
+from feed import Feed, Taken
+from kept_link import Lost
+from mirror import Mirror
+
+MANY = 64  # pieces that a mirror is given at once
+PAUSE = 0.2  # seconds between two questions where there is nothing new
 
 
-def held(path: str) -> tuple[int, bytes]:
-    """How many whole lines a file has, and the last of them; what stands behind that is cut away."""
-    count, last, end = 0, b"", 0
-    with open(path, "ab+") as file:
+class Lines:
+    """A file's whole lines, as the pieces of a journal."""
+
+    def __init__(self, file: BinaryIO) -> None:
+        self.file, self.starts = file, array("Q", [0])
         file.seek(0)
         for line in file:
             if line.endswith(b"\n"):
-                count, last, end = count + 1, line[:-1], end + len(line)
-        file.truncate(end)
-    return count, last
+                self.starts.append(self.starts[-1] + len(line))
+
+    def __len__(self) -> int:
+        return len(self.starts) - 1
+
+    def piece(self, number: int) -> bytes:
+        self.file.seek(self.starts[number - 1])
+        return self.file.read(self.starts[number] - self.starts[number - 1] - 1)
+
+    def ends(self) -> Taken:
+        return Taken(len(self), self.piece(1), self.piece(len(self))) if len(self) else Taken()
 
 
-def keep(path: str, feed: Feed) -> int:
-    count, last = held(path)
-    is_checked = count == 0
-    with open(path, "ab") as file:
+def keep(path: str, server: str, token: str) -> None:
+    trouble = scripts.Trouble("keep")
+    with open(path, "ab+") as file:
+        lines = Lines(file)
+        file.truncate(lines.starts[-1])
+        feed = Feed(server, token, lines.ends())
+        del lines
         while True:
             try:
-                piece = feed.piece(count + 1 if is_checked else count)
-            except ConnectionError as why:
-                print(why, file=sys.stderr, flush=True)
-                piece, is_checked = None, count == 0
-            if piece is None:
+                pieces = feed.next_pieces()
+                trouble.end()
+            except Lost as why:
+                trouble.tell(why)
+                pieces = []
+            if not pieces:
                 time.sleep(PAUSE)
-            elif is_checked:
-                file.write(piece + b"\n")
-                file.flush()
-                os.fsync(file.fileno())
-                count, last = count + 1, piece
-            elif piece == last:
-                is_checked = True
-            else:
-                print(f"{path} has another journal than {feed.server.url}: piece {count} differs", file=sys.stderr)
-                return 1
+                continue
+            file.writelines(it + b"\n" for it in pieces)
+            file.flush()
+            os.fsync(file.fileno())
 
 
-def give(path: str, mirror: Site) -> int:
-    wanted = mirror.length() or 1
+def give(path: str, url: str, token: str) -> None:
     with open(path, "rb") as file:
-        for number, line in enumerate(file, 1):
-            if number >= wanted:
-                status, body = mirror.ask("POST", "", line.rstrip(b"\n"))
-                if status != 200:
-                    print(f"piece {number}: {status} {body.decode()}", file=sys.stderr)
-                    return 1
-    print(json.dumps({"pieces": mirror.length()}))
-    return 0
+        lines = Lines(file)
+        mirror = Mirror(url, token, lines)
+        mirror.begin()
+        while mirror.number < len(lines):
+            first = mirror.number + 1
+            mirror.take([lines.piece(it) for it in range(first, min(len(lines), first + MANY - 1) + 1)])
+    print(json.dumps({"pieces": mirror.number}))
 
 
-if __name__ == "__main__":
+def main() -> int:
     parser = argparse.ArgumentParser(description="Keeps a server's journal in a file, or brings a mirror what such a file has.")
     parser.add_argument("file")
     parser.add_argument("--token", required=True)
@@ -76,5 +89,13 @@ if __name__ == "__main__":
     which.add_argument("--feed")
     words = parser.parse_args()
     if words.server:
-        sys.exit(keep(words.file, Feed(words.server, words.token)))
-    sys.exit(give(words.file, Site(words.feed, words.token)))
+        return scripts.run("keep", lambda: keep(words.file, words.server, words.token))
+    try:
+        return scripts.run("keep", lambda: give(words.file, words.feed, words.token))
+    except Lost as why:
+        scripts.say("keep", why)
+        return 1
+
+
+if __name__ == "__main__":
+    sys.exit(main())

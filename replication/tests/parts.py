@@ -5,10 +5,13 @@ from __future__ import annotations
 import gzip
 import hashlib
 import os
+import random
 import shutil
 import signal
+import socket
 import subprocess
 import sys
+import threading
 import time
 import uuid
 import xml.etree.ElementTree as xml
@@ -18,6 +21,7 @@ from dataclasses import dataclass
 import change_file
 import edits
 import followers
+import kept_link
 import osm_file
 import same
 from edits import Session
@@ -135,13 +139,40 @@ def from_nothing(folder: Folder, out: str) -> None:
         followers.run(["pyosmium-up-to-date", out], statuses=(0, 1))
 
 
+def cut(_: Programs, __: str) -> str:
+    """Replies of one link, small and large, that come in pieces of any length."""
+    drawn = random.Random(7)
+    bodies = [bytes([65 + it % 26]) * drawn.choice([0, 1, 300, 70_000, 300_000]) for it in range(500)]
+    text = b"".join(b"HTTP/1.1 200 OK\r\nContent-Type: application/json\r\nContent-Length: %d\r\n\r\n%b" % (len(it), it) for it in bodies)
+    with socket.create_server(("127.0.0.1", 0)) as listener:
+
+        def answer() -> None:
+            stream, _ = listener.accept()
+            with stream:
+                place = 0
+                while place < len(text):
+                    end = place + drawn.choice([1, 7, 100, 5_000, 200_000])
+                    stream.sendall(text[place:end])
+                    place = end
+                while stream.recv(1 << 16):
+                    pass
+
+        threading.Thread(target=answer, daemon=True).start()
+        site = kept_link.Site(url(listener.getsockname()[1]))
+        found = [reply.body for reply in site.exchange([site.get("node/1")] * len(bodies))]
+        site.close()
+    if found != bodies:
+        raise Wrong("bodies come out otherwise than they were sent")
+    return f"{len(bodies)} replies come out whole, however they were cut"
+
+
 def written(_: Programs, folder: str) -> str:
     who = {"changeset": 7, "timestamp": "2026-11-29T00:00:00Z", "uid": 2, "user": 'Jo "&" <Al>\n'}
     place = {"type": "node", "id": 4, "version": 1, "visible": True, "lat7": -5, "lon7": 1800000000, **who}
     elements: list[change_file.Element] = [
-        {"type": "way", "id": 9, "version": 3, "visible": True, "nodes": [4, 4], "tags": {}, **who},
-        {"type": "node", "id": 4, "version": 2, "visible": False, **who},
         {**place, "tags": {"a\0": "1\ufffe", "a\1": "2", "b": "\U0001f333"}},
+        {"type": "node", "id": 4, "version": 2, "visible": False, **who},
+        {"type": "way", "id": 9, "version": 3, "visible": True, "nodes": [4, 4], "tags": {}, **who},
     ]
     shown = """changeset="7" uid="2" user='Jo "&amp;" &lt;Al&gt;&#10;'"""
     moment = 'timestamp="2026-11-29T00:00:00Z"'
@@ -164,7 +195,7 @@ def written(_: Programs, folder: str) -> str:
   </modify>
 </osmChange>
 """
-    found = gzip.decompress(change_file.packed(elements)).decode()
+    found = gzip.decompress(b"".join(change_file.packed(elements))).decode()
     if found != wanted:
         raise Wrong(f"it is {found}")
     state = State(1234567, 1700000000, 5, "")
@@ -302,4 +333,10 @@ def end_mirror(running: Running) -> None:
             os.kill(int(child), signal.SIGKILL)
 
 
-PARTS: dict[str, Callable[[Programs, str], str]] = {"written": written, "followed": followed, "killed": killed, "restarted": restarted}
+PARTS: dict[str, Callable[[Programs, str], str]] = {
+    "cut": cut,
+    "written": written,
+    "followed": followed,
+    "killed": killed,
+    "restarted": restarted,
+}

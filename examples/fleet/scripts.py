@@ -1,0 +1,54 @@
+"""What the programs of this folder share: where links and feeds are found, what they say, and with which status they end."""
+
+from __future__ import annotations
+
+import os
+import sys
+import time
+from collections.abc import Callable
+
+HERE = os.path.dirname(os.path.abspath(__file__))
+sys.path.insert(1, os.path.join(HERE, "..", "..", "replication"))
+
+from feed import OtherJournal, Unusable
+
+AGAIN = 0.1  # seconds before one who doesn't answer is asked again
+
+
+class Trouble:
+    """Says once what doesn't go on, and once that it goes on again."""
+
+    def __init__(self, name: str) -> None:
+        self.name, self.text, self.since = name, "", 0.0
+
+    def tell(self, why: object) -> None:
+        if not self.text:
+            self.since = time.monotonic()
+        if str(why) != self.text:
+            self.text = str(why)
+            say(self.name, f"{why}; it is asked again")
+
+    def end(self) -> None:
+        if self.text:
+            say(self.name, f"goes on after {time.monotonic() - self.since:.1f} s")
+            self.text = ""
+
+
+def say(name: str, text: object) -> None:
+    print(f"{name}: {text}", file=sys.stderr, flush=True)
+
+
+def usage(doc: str | None) -> str:
+    return (doc or "").split("\n\n")[0].partition(": ")[2]
+
+
+def run(name: str, work: Callable[[], None]) -> int:
+    """1 where it can't be gone on with, 3 where there is another journal."""
+    try:
+        work()
+    except (OtherJournal, Unusable) as why:
+        say(name, why)
+        return 3 if isinstance(why, OtherJournal) else 1
+    except KeyboardInterrupt:
+        return 130
+    return 0

@@ -1,0 +1,69 @@
+#!/usr/bin/python3
+"""Brings a server's pieces into the engine: examples/fleet/writer.py --server URL --token TOKEN --engine redis://127.0.0.1:6380
+
+Goes on behind the last piece that the engine has, until it is ended. It asks the server for the piece that comes next each 10 milliseconds
+on a kept link, and for more at once where there is more. Status 3 where the server has another journal than the engine, since it was
+started anew: then nothing is added. With --new a new journal is begun in the engine; mirrors and carriers have to be started anew for it.
+"""
+
+from __future__ import annotations
+
+import argparse
+import sys
+import time
+
+import scripts
+from engine import Behind, Engine, EngineLost, open_engine
+from feed import Feed
+from kept_link import Lost
+
+PAUSE = 0.01  # seconds between two questions where there is nothing new
+
+
+class Writer:
+    def __init__(self, server: str, token: str, engine: str) -> None:
+        self.server, self.token, self.engine = server, token, engine
+        self.trouble = scripts.Trouble("writer")
+
+    def run(self, is_new: bool) -> None:
+        while True:
+            try:
+                engine = open_engine(self.engine)
+                name = engine.journal()
+                if not name or is_new:
+                    name, is_new = engine.begin(name), False
+                self.write(engine, name)
+            except Behind:
+                self.trouble.tell("another writer adds pieces to this engine")
+            except EngineLost as why:
+                self.trouble.tell(why)
+            time.sleep(scripts.AGAIN)
+
+    def write(self, engine: Engine, name: str) -> None:
+        feed = Feed(self.server, self.token, engine.ends(name))
+        while True:
+            number = feed.taken.number
+            try:
+                pieces = feed.next_pieces()
+                self.trouble.end()
+            except Lost as why:
+                self.trouble.tell(why)
+                time.sleep(scripts.AGAIN)
+                continue
+            if pieces:
+                engine.add(name, number, pieces)
+            else:
+                time.sleep(PAUSE)
+
+
+def main() -> int:
+    parser = argparse.ArgumentParser(usage=scripts.usage(__doc__))
+    for name in ("--server", "--token", "--engine"):
+        parser.add_argument(name, required=True)
+    parser.add_argument("--new", action="store_true", help="begin a new journal in the engine")
+    words = parser.parse_args()
+    return scripts.run("writer", lambda: Writer(words.server, words.token, words.engine).run(words.new))
+
+
+if __name__ == "__main__":
+    sys.exit(main())
