@@ -1,5 +1,5 @@
--- A desk of a hub may go to another thread. The toolchain derives no such fact of it, since the router of its table of routes is a
--- tree of boxed nodes; so it is shown field by field.
+-- A desk of a hub may go to another thread. The toolchain derives no such fact of it, since the router of the table of routes that it
+-- borrows is a tree of boxed nodes; so it is shown field by field.
 use denote.RattleType.{RattleType}
 use denote.Ref.{NamedLft}
 use denote.Model.{View}
@@ -18,7 +18,7 @@ use Rattle.osm_model.specs.contracts.commands.Entry as Entry
 use Rattle.osm_model.specs.contracts.queries.Query as Query
 use Rattle.osm_model.specs.contracts.states.State as State
 use Rattle.osm_model.proofs.commands.Entry.TheSendSync as OfEntry
-use Rattle.route_table.proofs.Sendable.{routes_send}
+use Rattle.route_table.proofs.Sendable.{routes_sync}
 use Rattle.shared_front.specs.declared.front.HubName.{Ghosts}
 use Rattle.snapshot_hub.specs.contracts.hub.Hub as Hub
 use Rattle.snapshot_hub.specs.contracts.shown.Shown as Shown
@@ -68,7 +68,7 @@ fields κ N Q R g sn yn sq yq yr = (
     as_row_send (shr_ref_field κ (hub_row N Q g) tt) (shr_send κ.mir κ.lft (hub_row N Q g) (hub_sync N Q g sq)),
     (
       search (OfSession.the_send, OfShown.the_sync, OfMapWorld.the_sync, as_row_send) depth 20,
-      (search (OfUserTable.the_sync, shr_send, as_row_send) depth 20, (search (routes_send) depth 20, tt)),
+      (search (OfUserTable.the_sync, shr_send, as_row_send) depth 20, (search (routes_sync, shr_send, as_row_send) depth 20, tt)),
     ),
   ),
 )
