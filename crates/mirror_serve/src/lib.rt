@@ -3,7 +3,7 @@
 #![tactic(auto)]
 
 mod link;
-mod mirror;
+mod one_mirror;
 mod ports;
 mod serve;
 mod top;

@@ -2,7 +2,7 @@
 ghost use Rattle.std.specs.Prelude.{◌≡◌, map, vec_len};
 ghost use Rattle.mirror_serve.specs.Mirrors.{MirrorsPorts};
 
-use crate::mirror::Mirror;
+use crate::one_mirror::Mirror;
 use link_workers::Outcome;
 use osm_model::Entry;
 use osm_outside::{Port, PortOutside};
