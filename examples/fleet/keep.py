@@ -15,7 +15,7 @@ import os
 import sys
 import time
 
-from feeder import PAUSE, Feed, Site
+from feeder import PAUSE, Feed, Refused, Site, Voice
 
 
 def held(path: str) -> tuple[int, bytes]:
@@ -32,13 +32,13 @@ def held(path: str) -> tuple[int, bytes]:
 
 def keep(path: str, feed: Feed) -> int:
     count, last = held(path)
-    is_checked = count == 0
+    is_checked, voice = count == 0, Voice()
     with open(path, "ab") as file:
         while True:
             try:
                 piece = feed.piece(count + 1 if is_checked else count)
             except ConnectionError as why:
-                print(why, file=sys.stderr, flush=True)
+                voice.say(f"{why}; it is asked again")
                 piece, is_checked = None, count == 0
             if piece is None:
                 time.sleep(PAUSE)
@@ -75,6 +75,9 @@ if __name__ == "__main__":
     which.add_argument("--server")
     which.add_argument("--feed")
     words = parser.parse_args()
-    if words.server:
-        sys.exit(keep(words.file, Feed(words.server, words.token)))
-    sys.exit(give(words.file, Site(words.feed, words.token)))
+    try:
+        if words.server:
+            sys.exit(keep(words.file, Feed(words.server, words.token)))
+        sys.exit(give(words.file, Site(words.feed, words.token)))
+    except (ConnectionError, Refused) as why:
+        sys.exit(str(why))
