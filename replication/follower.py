@@ -38,24 +38,21 @@ class Follower:
         self.versions: dict[Version, None] = {}
         self.at = 0
 
-    def advance(self) -> list[State]:
-        """Takes what the feed has, and tells which files came of it. Lost is raised behind what could be written."""
+    def advance(self) -> Iterator[State]:
+        """Takes what the feed has, and tells of each file that came of it. Where the server is lost, behind what could be written."""
         self.catch_up()
-        lost: Lost | None = None
-        written: list[State] = []
-        while lost is None:
+        is_whole = False
+        while not is_whole:
+            lost: Lost | None = None
             try:
                 is_whole = self.gather()
             except Lost as why:
-                lost, is_whole = why, True
+                lost = why
             self.post()
             if self.versions:
-                written.append(self.publish())
-            if is_whole:
-                break
-        if lost is not None and not written:
-            raise lost
-        return written
+                yield self.publish()
+            if lost is not None:
+                raise lost
 
     def rest(self) -> None:
         """Ends the links until the next time: a kept one would hold a worker of the server."""

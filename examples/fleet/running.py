@@ -218,11 +218,15 @@ def new_mirror(program: str, port: int = 0) -> Server:
 
 def wait_until(what: str, wanted: int, port: int, seconds: float = 300) -> float:
     """Waits until a mirror has that number, and tells how long."""
-    start = time.monotonic()
-    while number(port) != wanted:
+    start, has = time.monotonic(), -1
+    while has != wanted:
         if time.monotonic() - start > seconds:
-            raise Wrong(f"{what} has {number(port)} of {wanted} pieces after {seconds} seconds")
+            raise Wrong(f"{what} has {has} of {wanted} pieces after {seconds} seconds")
         time.sleep(0.01)
+        try:
+            has = number(port)
+        except (OSError, Lost):
+            has = -1
     return time.monotonic() - start
 
 
