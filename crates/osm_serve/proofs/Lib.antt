@@ -1,3 +1,4 @@
+pub mod Serving
 pub mod Measuring
 pub mod SentLemmas
 pub mod DoneLemmas

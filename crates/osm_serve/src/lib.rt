@@ -5,7 +5,6 @@
 
 mod export;
 mod link;
-mod makers;
 mod measure;
 mod pipe;
 mod play;

@@ -1,30 +1,127 @@
 //! Many workers over one new hub of the map.
-ghost use Rattle.std.specs.Prelude.{◌≡◌, ℕ, map, vec_len, IfOk, IfSome, OnErr, slice_get};
+//!
+//! `serve_ports` makes the hub, seats the workers and closes the hub, by the seats, the users and
+//! the ports: what holds a hub can't be passed on by value in generic code, and whoever makes one
+//! has to be generic in its name. Its clause has one list, which begins with all that each session
+//! has seen and with the closing journal. The ports come back in the list in which they came, also
+//! where memory is missing before the first link.
+//!
+//! These functions stand here beside those of desk_serve: what they come to is defined there alone.
+ghost use Rattle.std.specs.Prelude.{◌≡◌, ◌+◌, ◌++◌, ◌≤◌, ℕ, List, map, vec_len, vec_capacity, IfOk, OnErr};
 ghost use Rattle.map_machine.specs.Machine.{map_rules};
 ghost use Rattle.api_desk.specs.HubDesk.{map_row};
 ghost use Rattle.snapshot_hub.specs.Known.{newcomer};
-ghost use Rattle.snapshot_hub.specs.Closed.{HasClosed};
-ghost use Rattle.desk_serve.specs.Ports.{ServesAll, ServesPorts};
+ghost use Rattle.link_workers.specs.Workers.{AllWork};
+ghost use Rattle.desk_serve.specs.Desks.{at_desk};
+ghost use Rattle.desk_serve.specs.Link.{ServesLink};
+ghost use Rattle.desk_serve.specs.Ports.{HaveServed, ServesPorts};
 
-use crate::makers::MapDesks;
+use crate::link::serve_link;
 use api_desk::{HubDesk, MapHub, MapSession};
-use desk_serve::serve_by;
+use desk_serve::points_are_consistent;
+use http_link::LinkEnd;
+use link_workers::{Outcome, Service, Worker, any_failed, seat_all, serve_all, unseat_all};
 use map_machine::MapMachine;
 use osm_base::Memory;
 use osm_model::Entry;
-use osm_outside::{NoGate, Port, PortOutside};
+use osm_outside::{Gate, Link, NoGate, Outside, Port, PortOutside};
 use route_table::Routes;
-use server_frame::Outcome;
+use session_desk::SessionDesk;
 use shared_front::HubName;
-use snapshot_hub::{Seats, Shown};
+use snapshot_hub::Seats;
 use std::alloc::Global;
 use std::sync::Wait;
 use std::thread::Threads;
 use user_table::UserTable;
 
-/// Serves the links of each port by the session of its number of the hub, and says whether accepting
-/// failed at one. The sessions come back in their order. Want of memory leaves the ports as they were.
-fn serve_by_sessions<N: HubName + Send + Sync, R: Threads + Wait + Sync, P: Port + Drop + Send>(
+/// The service of all workers: each has a desk of its own, with its session of the hub.
+#[derive(Drop)]
+pub struct MapService<'a, N: HubName, G: Gate + Drop, R: Wait + Drop, W: Wait> {
+    rt: &'a W,
+    hub: &'a MapHub<N, G, R>,
+}
+
+impl<
+    'a,
+    N: HubName + Send + Sync,
+    G: Gate + Drop + Send + Sync,
+    R: Wait + Drop + Send + Sync,
+    W: Wait + Sync,
+> Service for MapService<'a, N, G, R, W> {
+    ghost use Rattle.map_machine.specs.Machine.{map_rules};
+    ghost use Rattle.api_desk.specs.HubDesk.{map_row};
+    ghost use Rattle.desk_serve.specs.Link.{ServesLink};
+
+    type Session = HubDesk<'a, N, G, R, W>;
+
+    ghost serves = { λ _ old new before after end. ServesLink map_rules map_row old new before after end };
+
+    fn serve<V: Wait, L: Link>(
+        &self,
+        _rt: &V,
+        alloc: Global,
+        desk: &mut HubDesk<'a, N, G, R, W>,
+        link: &mut L,
+    ) -> LinkEnd {
+        serve_link(alloc, desk, link)
+    }
+}
+
+/// A desk for each session, in their order.
+fn desks_of<'a, N: HubName, R: Wait + Drop, W: Wait>(
+    alloc: Global,
+    rt: &'a W,
+    hub: &'a MapHub<N, NoGate, R>,
+    users: &'a UserTable,
+    routes: &'a Routes,
+    mut sessions: Vec<MapSession<N>>,
+) -> Result<Vec<HubDesk<'a, N, NoGate, R, W>>, Memory>
+    ensures { IfOk result (λ desks. desks.items ≡ map (at_desk users.now) sessions.items) }
+{
+    let mut desks = Vec::with_capacity(alloc, sessions.len())?;
+    sessions.reverse();
+    'sessions: while let Some(session) = sessions.pop() {
+        desks.push(HubDesk::new(rt, hub, session, users, routes))?;
+    }
+    Ok(desks)
+}
+
+/// Puts the sessions of the desks into a list that has room for them, in their order.
+fn leave_desks<N: HubName, R: Wait + Drop, W: Wait>(
+    mut desks: Vec<HubDesk<'_, N, NoGate, R, W>>,
+    sessions: &mut Vec<MapSession<N>>,
+)
+    requires { vec_len sessions.old + vec_len desks ≤ vec_capacity sessions.old }
+    ensures sessions { sessions.new.items ≡ sessions.old.items ++ map (λ desk. desk.known) desks.entry.items }
+    ensures count { vec_len sessions.new ≡ vec_len sessions.old + vec_len desks.entry }
+{
+    desks.reverse();
+    'desks: while let Some(desk) = desks.pop() {
+        sessions.push_reserved(desk.into_session());
+    }
+}
+
+/// Serves the links of each worker's port, in a thread of its own.
+fn serve_desks<
+    'a,
+    N: HubName + Send + Sync,
+    R: Threads + Wait + Sync,
+    Q: Wait + Drop + Send + Sync,
+    P: Port + Send,
+>(
+    rt: &'a R,
+    alloc: Global,
+    hub: &'a MapHub<N, NoGate, Q>,
+    workers: &mut [Worker<HubDesk<'a, N, NoGate, Q, R>, P>],
+)
+    ensures { AllWork (ServesLink map_rules map_row) P.told workers.old workers.new }
+{
+    serve_all(rt, alloc, &MapService { rt, hub }, workers);
+}
+
+/// Serves the links of each port by the session of its number, and says whether accepting failed at
+/// one. The sessions come back in their order. Want of memory leaves the ports as they were.
+fn serve_by<N: HubName + Send + Sync, R: Threads + Wait + Sync, P: Port + Drop + Send>(
     rt: &R,
     alloc: Global,
     hub: &MapHub<N, NoGate, &R>,
@@ -33,34 +130,26 @@ fn serve_by_sessions<N: HubName + Send + Sync, R: Threads + Wait + Sync, P: Port
     sessions: Vec<MapSession<N>>,
     ports: &mut Vec<P>,
 ) -> Result<(Vec<MapSession<N>>, bool), Memory>
-    requires count { vec_len sessions ≡ vec_len ports.old }
-    requires fresh { (number : ℕ) → IfSome (slice_get sessions.items number) (λ s. s ≡ newcomer number) }
-    ensures served { IfOk result (λ r. HasClosed map_rules (vec_len ports.old) r.0.items
-        → ServesAll map_rules map_row users.now (map P.told ports.old.items) (map P.told ports.new.items) r.1) }
+    requires { vec_len sessions ≡ vec_len ports.old }
+    ensures served { (numbers : List ℕ) → sessions.items ≡ map newcomer numbers → IfOk result (λ r. HaveServed map_rules map_row users.now numbers r.0.items
+        (map P.told ports.old.items) (map P.told ports.new.items) r.1) }
     ensures left { IfOk result (λ r. vec_len r.0 ≡ vec_len sessions) }
     ensures count { IfOk result (λ r. vec_len ports.new ≡ vec_len ports.old) }
     ensures err { OnErr result (ports.new.items ≡ ports.old.items) }
 {
-    let maker = MapDesks {
-        rt,
-        hub,
-        users,
-        routes,
-    };
-    serve_by::<
-        N,
-        MapMachine,
-        Shown<N, MapMachine>,
-        HubDesk<'_, N, NoGate, &R, R>,
-        MapDesks<'_, N, &R, R>,
-        R,
-        P,
-    >(rt, alloc, &maker, sessions, ports)
+    let mut left = Vec::with_capacity(alloc, sessions.len())?;
+    let mut desks = desks_of(alloc, rt, hub, users, routes, sessions)?;
+    let mut workers = seat_all(alloc, &mut desks, ports)?;
+    serve_desks(rt, alloc, hub, workers.as_mut_slice());
+    let failed = any_failed(workers.as_slice());
+    unseat_all(workers, &mut desks, ports);
+    leave_desks(desks, &mut left);
+    Ok((left, failed))
 }
 
-/// Serves the links of the ports by the sessions of a new hub of the map under the name of these seats,
-/// one worker a port, each in a thread of its own, until no port has a link to come or accepting
-/// fails. Then it closes the hub. The ports come back in their order.
+/// Serves the links of the ports by the sessions of a new hub under the name of these seats, one
+/// worker a port, each in a thread of its own, until no port has a link to come or accepting fails.
+/// Then it closes the hub. The ports come back in their order.
 pub fn serve_ports<N: HubName + Send + Sync, R: Threads + Wait + Sync, P: Port + Drop + Send>(
     rt: &R,
     alloc: Global,
@@ -74,13 +163,15 @@ pub fn serve_ports<N: HubName + Send + Sync, R: Threads + Wait + Sync, P: Port +
     ensures serves { ServesPorts map_rules map_row users.now (map P.told ports.old.items) (map P.told ports.new.items) result }
     ensures count { vec_len ports.new ≡ vec_len ports.old }
 {
+    // What the machine keeps.
+    points_are_consistent::<MapMachine>();
     let Ok(routes) = Routes::new(alloc) else {
         return Outcome::LacksMemory;
     };
     let Ok((mut hub, sessions)) = MapHub::<N, NoGate, &R>::new(alloc, rt, seats, NoGate) else {
         return Outcome::LacksMemory;
     };
-    match serve_by_sessions(rt, alloc, &hub, users, &routes, sessions, ports) {
+    match serve_by(rt, alloc, &hub, users, &routes, sessions, ports) {
         Ok((sessions, failed)) => {
             hub.close_with(sessions);
             if failed {

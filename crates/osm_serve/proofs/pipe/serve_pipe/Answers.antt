@@ -1,15 +1,24 @@
-use Rattle.std.proofs.Common.{ℕ, refl, sym, ◌∙◌, subst}
+use Rattle.std.proofs.Common.{◌≡◌, ◌∷◌, [], ℕ, List, refl, sym, ◌∙◌, subst}
+use Rattle.osm_model.specs.declared.commands.Entry.{Entry}
 use Rattle.map_machine.specs.Machine.{map_rules}
+use Rattle.api_desk.specs.HubDesk.{map_row}
+use Rattle.snapshot_hub.specs.Known.{Known}
 use Rattle.snapshot_hub.specs.Closed.{HasClosed}
+use Rattle.desk_serve.proofs.Closing.{pipe_served, pipe_unserved, first_is}
+use Rattle.osm_serve.proofs.Serving.{served_stay}
 use Rattle.osm_serve.proofs.pipe.serve_pipe.Goals as goal
 
 pub returns-in_default : goal.returns-in_default
-returns-in_default g c = c.pipe_left_alone.ensures c.args.users.now _ _ refl
+returns-in_default g c = pipe_unserved map_rules map_row c.args.users.now (g.L.Outside.told c.args.link.now) c.link_left_alone.ensures (c.points_are_consistent.ensures [] refl 0)
 
-pub returns-in-Ok-serve_by_session : goal.returns-in-Ok-serve_by_session
-returns-in-Ok-serve_by_session g c =
-    c.in-Ok-serve_by_session.ensures.served
-    (subst (λ (n : ℕ). HasClosed map_rules n c.in-Ok-serve_by_session.sessions.items) (sym c.requires.seated ∙ c.requires.one) c.close_with.ensures.ended)
+pub returns-in_default-2 : goal.returns-in_default-2
+returns-in_default-2 g c = pipe_unserved map_rules map_row c.args.users.now (g.L.Outside.told c.args.link.now) c.link_left_alone.ensures (c.points_are_consistent.ensures [] refl 0)
 
 pub returns : goal.returns
-returns g c = c.pipe_left_alone.ensures c.args.users.now _ _ c.in-Err.ensures.err
+returns g c =
+    let s = c.serve_by_one.ensures in
+    let one : g.N.HubName.sessions ≡ 1 = sym c.requires.seated ∙ c.requires.one in
+    let closed : HasClosed map_rules 1 (s.1 ∷ []) =
+    subst (λ (n : ℕ). HasClosed map_rules n (s.1 ∷ [])) one (subst (λ (l : List (Known Entry)). HasClosed map_rules g.N.HubName.sessions l) s.3 c.close_with.ensures.ended) in
+    pipe_served map_rules map_row c.args.users.now s.0 s.1 (g.L.Outside.told c.args.link.now) (g.L.Outside.told c.serve_by_one.new.link) c.serve_by_one.result.1
+    s.4 served_stay c.points_are_consistent.ensures (first_is c.in-Ok.sessions.items s.0 s.2 c.in-Ok.ensures.fresh) closed
