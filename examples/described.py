@@ -11,6 +11,10 @@ import urllib.parse
 from collections.abc import Iterator
 from typing import Any, NamedTuple
 
+from packages import need
+
+need("jsonschema", "yaml")
+
 import jsonschema
 import yaml
 from messages import Asked, Came

@@ -14,6 +14,10 @@ from concurrent.futures import ProcessPoolExecutor
 from itertools import repeat
 from typing import NamedTuple
 
+from packages import need
+
+need("jsonschema", "yaml")
+
 import jsonschema
 from described import Description, Operation, fault
 from messages import Asked, Came, replies_of, requests_of

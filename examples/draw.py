@@ -14,6 +14,10 @@ import math
 import sys
 from typing import NamedTuple
 
+from packages import need
+
+need("matplotlib", "osmium", "PIL")
+
 import matplotlib
 
 matplotlib.use("Agg")

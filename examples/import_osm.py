@@ -25,6 +25,10 @@ from collections import Counter
 from collections.abc import Callable
 from typing import Any
 
+from packages import need
+
+need("osmium", "tqdm")
+
 import tqdm
 
 import import_plan
@@ -34,6 +38,7 @@ from map_client import KINDS, Client, Key, Lost, Refused, key
 
 HOLDS = 10000  # changes of a changeset
 PAUSES = (0.5, 1, 2, 4, 8, 16, 30)  # seconds between tries while the server doesn't answer
+SILENCE = 5  # seconds until it is said that the server is waited for
 # Of each operation the id and the version that came of it, 0 for a deletion.
 Made = list[list[int]]
 
@@ -82,7 +87,7 @@ class Board:
         self.uploads, self.table, self.notes, self.progress = uploads, table, notes, progress
         self.turn = threading.Condition()
         self.done: set[int] = set()
-        self.fault = ""
+        self.fault = self.said = ""
         for number, made in notes.made.items():
             self.enter(number, made)
         self.left = [number for number in range(len(uploads)) if number not in self.done]
@@ -102,6 +107,7 @@ class Board:
     def finish(self, number: int, made: Made) -> None:
         self.notes.add({"upload": number, "made": made})
         with self.turn:
+            self.said = ""
             self.enter(number, made)
             self.turn.notify_all()
 
@@ -113,6 +119,13 @@ class Board:
                 del self.table[key(it)]
         self.done.add(number)
         self.progress.update(len(made))
+
+    def say(self, text: str) -> None:
+        """Says once what is waited for, until an upload is entered."""
+        with self.turn:
+            if text != self.said:
+                self.said = text
+                self.progress.write(f"import_osm.py: {text}", file=sys.stderr)
 
     def fail(self, why: str) -> None:
         with self.turn:
@@ -149,10 +162,11 @@ class Sender:
                     sent = self.note(number)
                     made = self.upload(number)
                 return made
-            except Lost:
+            except Lost as why:
                 self.changeset = 0
                 if pause is None:
                     raise
+                self.board.say(f"no reply to {why}; it is tried again, for {sum(PAUSES):.0f} seconds at most")
                 time.sleep(pause)
         raise AssertionError
 
@@ -249,7 +263,12 @@ def send_all(board: Board, links: int, make: Callable[[], Sender]) -> None:
     for it in threads:
         it.start()
     for it in threads:
-        it.join()
+        before = -1
+        while it.is_alive():
+            it.join(SILENCE)
+            if it.is_alive() and len(board.done) == before and not board.said:
+                board.say(f"no upload was entered for {SILENCE} seconds: each of {len(threads)} links needs a worker of the server")
+            before = len(board.done)
     if board.fault:
         raise Stop(board.fault)
 

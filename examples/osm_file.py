@@ -5,6 +5,10 @@ from __future__ import annotations
 from collections.abc import Iterable, Mapping
 from typing import Any
 
+from packages import need
+
+need("osmium")
+
 import osmium
 import osmium.osm.mutable as mutable
 
