@@ -1,11 +1,13 @@
-//! Rows of a hub of notes: two sessions on two threads. What each must give stands beside it;
-//! docs/ROWS.md tells more.
+//! Rows of a hub of notes, two sessions on two threads, and of a note with all its comments. What each
+//! must give stands beside it; docs/ROWS.md tells more.
 #![tactic(auto)]
 
+mod full;
 mod sent;
 mod threads;
 mod wanted;
 
+use full::{a_full_note, a_note_with_room};
 use osm_base::Memory;
 use row_tally::Tally;
 use sent::Wish;
@@ -42,6 +44,12 @@ fn main(rt: HostRuntime) -> io::Result<ExitCode> {
     tally.note(&rt, "two threads open a hundred notes each", opened);
     let commented = play(&rt, rt.alloc(), COMMENTING);
     tally.note(&rt, "two threads comment on one note", commented);
+    tally.note(&rt, "a full note is closed", a_full_note(rt.alloc()));
+    tally.note(
+        &rt,
+        "a note that is nearly full",
+        a_note_with_room(rt.alloc()),
+    );
     tally.tell(&rt)?;
     if tally.is_right() {
         Ok(ExitCode::SUCCESS)

@@ -1,6 +1,7 @@
-//! The map on a listener of the system, by the loopback.
-use crate::replies::reply;
-use crate::texts::{CREATION, UPLOAD, UPLOADED, USERS};
+//! The map and notes on a listener of the system, by the loopback.
+use crate::replies::{reply, reply_of};
+use crate::texts::{CREATION, NO_NOTE, NOTE_READ, UPLOAD, UPLOADED, USERS};
+use notes_serve::notes_all;
 use osm_base::{Memory, SESSION_LIMIT};
 use osm_real::ListenPort;
 use osm_serve::serve_ports;
@@ -11,13 +12,17 @@ use std::alloc::Global;
 use std::io;
 use std::io::{Read, Write};
 use std::marker::Brand;
-use std::net::{Net, Shutdown, SocketAddr, TcpListener, TcpStream};
+use std::net::{Net, OpenStream, Shutdown, SocketAddr, TcpListener, TcpStream};
 use std::os::fd::OwnedFd;
 use std::sync::Wait;
 use std::thread::{Threads, join};
+use std::time::Duration;
 use user_table::UserTable;
 
 const WORKERS: u32 = 2;
+
+/// How long a link waits for its reply, in seconds.
+const REPLY_WAIT: u64 = 20;
 
 type TcpPort = ListenPort<TcpListener, HostRuntime>;
 
@@ -59,15 +64,68 @@ fn edit<R: Net>(rt: &R, alloc: Global, address: SocketAddr, replies: &Replies) -
     Ok(is_created && is_uploaded && has_ended)
 }
 
-/// Edits, and then ends the listener.
-fn edit_and_end<R: Net>(
+/// What each of two links asks, and the replies to the one that asks first and to the other.
+#[derive(Drop)]
+struct Turns {
+    request: &'static str,
+    first: String,
+    second: String,
+}
+
+impl Turns {
+    fn on_map(alloc: Global) -> Result<Turns, Memory> {
+        Ok(Turns {
+            request: CREATION,
+            first: reply(alloc, "1", false)?,
+            second: reply(alloc, "2", false)?,
+        })
+    }
+
+    fn on_notes(alloc: Global) -> Result<Turns, Memory> {
+        Ok(Turns {
+            request: NOTE_READ,
+            first: reply_of(alloc, "404 Not Found", NO_NOTE, false)?,
+            second: reply_of(alloc, "404 Not Found", NO_NOTE, false)?,
+        })
+    }
+}
+
+/// Opens two links. The first is silent until the second has its reply, and gets its own while the
+/// second is still open: so two workers serve at once, and neither waits for the other.
+fn take_turns<R: Net>(
     rt: &R,
     alloc: Global,
     address: SocketAddr,
-    replies: &Replies,
+    turns: &Turns,
+) -> io::Result<bool> {
+    let mut silent = TcpStream::connect(rt, address)?;
+    let mut other = TcpStream::connect(rt, address)?;
+    silent.set_read_timeout(Some(Duration::from_secs(REPLY_WAIT)))?;
+    other.set_read_timeout(Some(Duration::from_secs(REPLY_WAIT)))?;
+    let is_first = ask(alloc, &mut other, turns.request, turns.first.as_str())?;
+    let is_second = ask(alloc, &mut silent, turns.request, turns.second.as_str())?;
+    Ok(is_first && is_second)
+}
+
+/// What is sent to a server.
+#[derive(Drop)]
+enum Talk {
+    Edit(Replies),
+    Turns(Turns),
+}
+
+/// Sends it, and then ends the listener.
+fn talk_and_end<R: Net>(
+    rt: &R,
+    alloc: Global,
+    address: SocketAddr,
+    talk: &Talk,
     end: TcpListener,
 ) -> io::Result<bool> {
-    let is_right = edit(rt, alloc, address, replies);
+    let is_right = match talk {
+        Talk::Edit(replies) => edit(rt, alloc, address, replies),
+        Talk::Turns(turns) => take_turns(rt, alloc, address, turns),
+    };
     TcpStream::from(OwnedFd::from(end)).shutdown(Shutdown::Both)?;
     is_right
 }
@@ -80,46 +138,80 @@ fn ports_on(rt: HostRuntime, listener: &TcpListener) -> io::Result<Vec<TcpPort>>
     Ok(ports)
 }
 
+/// What is served.
+#[derive(Clone, Copy)]
+enum Served {
+    Map,
+    Notes,
+}
+
 /// Serves the ports to their end.
 fn serve<R: Threads + Wait + Sync>(
     rt: &R,
     alloc: Global,
+    served: Served,
     users: &UserTable,
     mut ports: Vec<TcpPort>,
 ) -> Option<Outcome> {
     if ports.is_empty() || ports.len() > SESSION_LIMIT as usize {
         return None;
     }
-    let seats = Seats::new(ports.len() as u32);
-    Some(serve_ports::<Brand, R, TcpPort>(rt, alloc, seats, users, &mut ports))
+    let count = ports.len() as u32;
+    let outcome = match served {
+        Served::Map => {
+            serve_ports::<Brand, R, TcpPort>(rt, alloc, Seats::new(count), users, &mut ports)
+        }
+        Served::Notes => {
+            notes_all::<Brand, R, TcpPort>(rt, alloc, Seats::new(count), users, &mut ports)
+        }
+    };
+    Some(outcome)
 }
 
-/// Whether an editor is served, and the workers end where the listener is ended.
+/// Whether what is sent gets its replies, and the workers end where the listener is ended.
 fn serves<R: Threads + Wait + Sync>(
     handle: &R,
     rt: HostRuntime,
+    served: Served,
     users: &UserTable,
-    replies: &Replies,
+    talk: &Talk,
 ) -> io::Result<bool> {
     let listener = TcpListener::bind(&rt, "127.0.0.1:0")?;
     let address = listener.local_addr()?;
     let ports = ports_on(rt, &listener)?;
     let (is_right, outcome) = join(
         handle,
-        || edit_and_end(&rt, rt.alloc(), address, replies, listener),
-        || serve(handle, rt.alloc(), users, ports),
+        || talk_and_end(&rt, rt.alloc(), address, talk, listener),
+        || serve(handle, rt.alloc(), served, users, ports),
     );
     Ok(is_right? && matches!(outcome, Some(Outcome::Failed)))
 }
 
-fn is_served<R: Threads + Wait + Sync>(handle: &R, rt: HostRuntime) -> Result<bool, Memory> {
-    let replies = Replies::new(rt.alloc())?;
+fn is_served<R: Threads + Wait + Sync>(
+    handle: &R,
+    rt: HostRuntime,
+    served: Served,
+    talk: Result<Talk, Memory>,
+) -> Result<bool, Memory> {
+    let talk = talk?;
     match UserTable::read(rt.alloc(), USERS.as_bytes()) {
-        Ok(users) => Ok(serves(handle, rt, &users, &replies).unwrap_or(false)),
+        Ok(users) => Ok(serves(handle, rt, served, &users, &talk).unwrap_or(false)),
         Err(_) => Ok(false),
     }
 }
 
 pub fn play<R: Threads + Wait + Sync>(handle: &R, rt: HostRuntime, tally: &mut Tally) {
-    tally.note(&rt, "an editor by a socket", is_served(handle, rt));
+    let edit = Replies::new(rt.alloc()).map(Talk::Edit);
+    let editor = is_served(handle, rt, Served::Map, edit);
+    tally.note(&rt, "an editor by a socket", editor);
+    let turns = Turns::on_map(rt.alloc()).map(Talk::Turns);
+    let map = is_served(handle, rt, Served::Map, turns);
+    tally.note(&rt, "two links at once, of which one is silent", map);
+    let turns = Turns::on_notes(rt.alloc()).map(Talk::Turns);
+    let notes = is_served(handle, rt, Served::Notes, turns);
+    tally.note(
+        &rt,
+        "notes: two links at once, of which one is silent",
+        notes,
+    );
 }

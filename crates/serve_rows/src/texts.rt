@@ -11,6 +11,12 @@ pub const CREATION: &str =
 pub const BOBS_CREATION: &str =
     "PUT /api/0.6/changeset/create HTTP/1.1\r\nAuthorization: Bearer bobtoken\r\n\r\n";
 
+/// A note that nobody opened is read.
+pub const NOTE_READ: &str = "GET /api/0.6/notes/1 HTTP/1.1\r\n\r\n";
+
+/// The body of the reply to it.
+pub const NO_NOTE: &str = "{\"error\":\"no_note\",\"id\":1}";
+
 /// The first changeset is read.
 pub const READ: &str = "GET /api/0.6/changeset/1 HTTP/1.1\r\n\r\n";
 
