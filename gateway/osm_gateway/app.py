@@ -129,7 +129,7 @@ async def fields(request: web.Request, reply: web.StreamResponse) -> None:
         reply.headers["Cache-Control"] = "no-cache"
         reply.headers["Vary"] = "Accept, Accept-Encoding, Authorization"
     else:
-        reply.headers["Content-Security-Policy"] = "default-src 'self'; style-src 'self' 'unsafe-inline'; img-src 'self' data:"
+        reply.headers["Content-Security-Policy"] = "default-src 'self'; img-src 'self' data:"
     reply.headers["X-Content-Type-Options"] = "nosniff"
     reply.headers["Server"] = "Hegunsap"
 

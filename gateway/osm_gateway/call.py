@@ -119,7 +119,7 @@ class Call:
                         spool.write(piece)
                         if spool.size > limit:
                             raise Refused(413, f"The document has more than {limit} bytes")
-                    await asyncio.sleep(0)
+                        await asyncio.sleep(0)
         except TimeoutError:
             raise Refused(408, f"The document didn't come within {READING:.0f} seconds") from None
         except ValueError as why:

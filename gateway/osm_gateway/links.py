@@ -13,7 +13,7 @@ from .refusals import Refused
 from .spool import Spool
 
 IDLE = 30.0
-"""Seconds after which a link isn't used again; the server lets it go after 60."""
+"""Seconds after which a link isn't used again: its worker is the server's again, which would let it go after 60."""
 CONNECTING, ANSWERING, QUEUED = 5.0, 310.0, 60.0
 HEAD = 1 << 14
 """Bytes of a request's head that the server reads."""
@@ -120,6 +120,13 @@ class Links:
     def close(self) -> None:
         for link in self.links:
             link.close()
+
+    def rest(self) -> None:
+        """Lets go of links that nobody used for a while, each of which has a worker of the server for itself; again and again."""
+        for link in self.free:
+            if time.monotonic() - link.used > IDLE:
+                link.close()
+        asyncio.get_running_loop().call_later(IDLE / 3, self.rest)
 
     # ---- the queue
 

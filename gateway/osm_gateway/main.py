@@ -62,6 +62,8 @@ async def serve(words: Words, people: People) -> int:
         await runner.cleanup()
         return 6
     tell(f"http://{words.host}:{words.port} in front of http://{words.server.host}:{words.server.port}")
+    for links in filter(None, (server, notes)):
+        links.rest()
     await ended.wait()
     tell("ending")
     await runner.cleanup()

@@ -1,6 +1,7 @@
 /** Draws what a box has as vectors, and says what was clicked. */
 
 import * as L from "/leaflet/leaflet.esm.js";
+import { make } from "./dom.js";
 import { lookOf, nameOf, pointOf } from "./paint.js";
 import { polygonsOf } from "./rings.js";
 
@@ -63,7 +64,8 @@ export class Drawing {
       this.chosen(look.it, event.latlng);
     });
     const name = nameOf(look.it);
-    if (name) layer.bindTooltip(name, { sticky: true });
+    // A text would be taken for HTML.
+    if (name) layer.bindTooltip(() => make("span", {}, name), { sticky: true });
     layer.addTo(this.layer);
     this.drawn.set(`${look.it.type}/${look.it.id}`, look);
   }

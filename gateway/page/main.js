@@ -81,6 +81,9 @@ map.on("moveend", () => {
   timer = setTimeout(load, WAIT);
 });
 map.on("click", (event) => notes.waits && notes.at(event.latlng));
+// Who works by keys is shown where the middle is.
+addEventListener("keydown", () => (document.body.dataset.by = "keys"), true);
+addEventListener("pointerdown", () => delete document.body.dataset.by, true);
 map.getContainer().addEventListener("keydown", (event) => {
   if (event.key !== "Enter" || event.target !== map.getContainer()) return;
   if (notes.waits) notes.at(map.getCenter());

@@ -101,6 +101,7 @@ def history(page: Page, number: int) -> None:
     want(page.pixel(), ROAD, "the colour in the middle of the map, a main road's")
     page.click_map()
     page.until("the history", lambda: len(page.all("#element li.version")) == 2)
+    page.until("the name beside the mouse", lambda: [it.text for it in page.all(".leaflet-tooltip")] == ["Neue Gasse <i>"])
     shown = page.text("#element")
     for text in (f"Way {number}: Neue Gasse <i>", "Version 2 by bob", "its name <b>", "Version 1 by alice", "a new street", "3 nodes", "primary"):
         has(shown, text, "the street in the panel")
@@ -199,12 +200,15 @@ def clean(page: Page) -> int:
     return len(asked)
 
 
-def picture(page: Page, path: str) -> None:
+def picture(page: Page, gateway: Gateway, number: int, path: str) -> None:
+    changeset = gateway.changeset(ALICE, "no signs in names")
+    row = gateway.well("GET", f"way/{number}").replace(" &lt;i&gt;", "").replace('changeset="3"', f'changeset="{changeset}"')
+    gateway.well("PUT", f"way/{number}", row, ALICE)
     page.driver.set_window_size(1280, 860)
-    page.open("#map=17/45.0021/-29.9967")
-    page.click_map(-40, 20)
+    page.open("#map=17/45.0018/-29.9962")
+    page.click_map(300, 171)
     page.until("a history", lambda: page.all("#element li.version"))
-    time.sleep(1)
+    time.sleep(2)
     page.driver.save_screenshot(path)
 
 
@@ -225,7 +229,7 @@ def run(program: str) -> str:
             narrow(page)
             asked = clean(page)
             if PICTURE:
-                picture(page, PICTURE)
+                picture(page, gateway, number, PICTURE)
             version = page.driver.capabilities["browserVersion"]
         finally:
             page.driver.quit()
