@@ -31,6 +31,7 @@ listed : (r : NoteRefusal) → IsStatus (refusal_status r)
 listed (refused.NoNote id) = refl
 listed (refused.NoteClosed at id) = refl
 listed (refused.NoteOpen id) = refl
+listed (refused.NoteFull id) = refl
 listed (refused.NotesArea area) = refl
 
 refusal_tells : (r : NoteRefusal) → TellsStatus (refusal_bytes r)

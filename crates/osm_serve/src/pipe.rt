@@ -2,7 +2,7 @@
 //!
 //! `pipe` makes a hub of one session and closes it, so that the program has one way of serving.
 //! What it costs beside one book stands in docs/FIGURES.md.
-ghost use Rattle.std.specs.Prelude.{◌≡◌, ◌∷◌, [], vec_len};
+ghost use Rattle.std.specs.Prelude.{◌≡◌, ◌∷◌, [], vec_len, IfOk, OnErr};
 ghost use Rattle.osm_model.specs.declared.commands.Entry.{Entry};
 ghost use Rattle.map_machine.specs.Machine.{map_rules};
 ghost use Rattle.api_desk.specs.HubDesk.{map_row};
@@ -15,6 +15,7 @@ use api_desk::{HubDesk, MapHub, MapSession};
 use desk_serve::points_are_consistent;
 use http_link::LinkEnd;
 use map_machine::MapMachine;
+use osm_base::Memory;
 use osm_model::Entry;
 use osm_outside::{Link, NoGate, Outside};
 use route_table::Routes;
@@ -26,28 +27,30 @@ use std::alloc::Global;
 use std::sync::Wait;
 use user_table::UserTable;
 
-/// Answers the requests of the link by the one session, which comes back.
+/// Answers the requests of the link by the one session, which comes back. Want of memory leaves the
+/// link alone.
 fn serve_by_one<N: HubName, R: Wait, L: Link>(
     alloc: Global,
     rt: &R,
     hub: &MapHub<N, NoGate, &R>,
     users: &UserTable,
-    routes: &Routes,
     mut sessions: Vec<MapSession<N>>,
     link: &mut L,
-) -> (Vec<MapSession<N>>, LinkEnd)
+) -> Result<(Vec<MapSession<N>>, LinkEnd), Memory>
     requires { vec_len sessions ≡ 1 }
-    ensures { (old new : Known Entry) × (sessions.items ≡ old ∷ []) × (result.0.items ≡ new ∷ [])
-        × ServesLink map_rules map_row (at_desk users.now old) (at_desk users.now new) (L.told link.old) (L.told link.new) result.1 }
+    ensures served { IfOk result (λ r. (old new : Known Entry) × (sessions.items ≡ old ∷ []) × (r.0.items ≡ new ∷ [])
+        × ServesLink map_rules map_row (at_desk users.now old) (at_desk users.now new) (L.told link.old) (L.told link.new) r.1) }
+    ensures err { OnErr result (L.told link.new ≡ L.told link.old) }
 {
+    let routes = Routes::new(alloc)?;
     let Some(session) = sessions.pop() else {
         unreachable!()
     };
-    let mut desk = HubDesk::new(rt, hub, session, users, routes);
+    let mut desk = HubDesk::new(rt, hub, session, users, &routes);
     let end = serve_link(alloc, &mut desk, link);
     // It stood in that list, so there is room for it.
     sessions.push_reserved(desk.into_session());
-    (sessions, end)
+    Ok((sessions, end))
 }
 
 /// Answers the requests of the link by the one session of a new hub under the name of these seats,
@@ -67,13 +70,14 @@ pub fn serve_pipe<N: HubName, R: Wait, L: Link>(
     // What the machine keeps, and what a link that is left alone is.
     points_are_consistent::<MapMachine>();
     link_left_alone();
-    let Ok(routes) = Routes::new(alloc) else {
-        return LinkEnd::Memory;
-    };
     let Ok((mut hub, sessions)) = MapHub::<N, NoGate, &R>::new(alloc, rt, seats, NoGate) else {
         return LinkEnd::Memory;
     };
-    let (sessions, end) = serve_by_one(alloc, rt, &hub, users, &routes, sessions, link);
-    hub.close_with(sessions);
-    end
+    match serve_by_one(alloc, rt, &hub, users, sessions, link) {
+        Ok((sessions, end)) => {
+            hub.close_with(sessions);
+            end
+        }
+        Err(Memory) => LinkEnd::Memory,
+    }
 }

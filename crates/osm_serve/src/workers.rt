@@ -126,7 +126,6 @@ fn serve_by<N: HubName + Send + Sync, R: Threads + Wait + Sync, P: Port + Drop +
     alloc: Global,
     hub: &MapHub<N, NoGate, &R>,
     users: &UserTable,
-    routes: &Routes,
     sessions: Vec<MapSession<N>>,
     ports: &mut Vec<P>,
 ) -> Result<(Vec<MapSession<N>>, bool), Memory>
@@ -138,7 +137,8 @@ fn serve_by<N: HubName + Send + Sync, R: Threads + Wait + Sync, P: Port + Drop +
     ensures err { OnErr result (ports.new.items ≡ ports.old.items) }
 {
     let mut left = Vec::with_capacity(alloc, sessions.len())?;
-    let mut desks = desks_of(alloc, rt, hub, users, routes, sessions)?;
+    let routes = Routes::new(alloc)?;
+    let mut desks = desks_of(alloc, rt, hub, users, &routes, sessions)?;
     let mut workers = seat_all(alloc, &mut desks, ports)?;
     serve_desks(rt, alloc, hub, workers.as_mut_slice());
     let failed = any_failed(workers.as_slice());
@@ -165,13 +165,10 @@ pub fn serve_ports<N: HubName + Send + Sync, R: Threads + Wait + Sync, P: Port +
 {
     // What the machine keeps.
     points_are_consistent::<MapMachine>();
-    let Ok(routes) = Routes::new(alloc) else {
-        return Outcome::LacksMemory;
-    };
     let Ok((mut hub, sessions)) = MapHub::<N, NoGate, &R>::new(alloc, rt, seats, NoGate) else {
         return Outcome::LacksMemory;
     };
-    match serve_by(rt, alloc, &hub, users, &routes, sessions, ports) {
+    match serve_by(rt, alloc, &hub, users, sessions, ports) {
         Ok((sessions, failed)) => {
             hub.close_with(sessions);
             if failed {

@@ -4,8 +4,8 @@ use Rattle.api_desk.specs.HubDesk.{map_row}
 use Rattle.desk_serve.proofs.Joined.{served_at}
 use Rattle.osm_serve.proofs.pipe.serve_by_one.Goals as goal
 
-pub returns : goal.returns
-returns g c = (
+pub returns-clause-served : goal.returns-clause-served
+returns-clause-served g c = (
   c.in-Some.session,
   c.serve_link-end.new.desk.known,
   search rules,
