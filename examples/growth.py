@@ -117,11 +117,14 @@ def ways(known: Map, origin: int) -> Iterator[Step]:
 
 def members(known: Map, origin: int) -> Iterator[Step]:
     """A relation lists other nodes, as many each time."""
+
+    def listed() -> list[Element]:
+        return [{"type": "node", "ref": node, "role": ""} for node in known.nodes(origin, 0, known.size)]
+
     number = known.next["relation"]
-    known.upload(Step("create", [{"type": "relation", "id": -1, "members": []}]))
+    known.upload(Step("create", [{"type": "relation", "id": -1, "members": listed()}]))
     for step in range(STEPS):
-        listed = [{"type": "node", "ref": node, "role": ""} for node in known.nodes(origin, 0, known.size)]
-        yield Step("modify", [{"type": "relation", "id": number, "version": step + 1, "members": listed}])
+        yield Step("modify", [{"type": "relation", "id": number, "version": step + 1, "members": listed()}])
 
 
 def one_relation(known: Map, origin: int) -> Iterator[Step]:
