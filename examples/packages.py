@@ -11,6 +11,8 @@ PACKAGES = {
     "jsonschema": "python3-jsonschema",
     "matplotlib": "python3-matplotlib",
     "osmium": "python3-pyosmium",
+    "psycopg2": "python3-psycopg2",
+    "redis": "python3-redis",
     "tqdm": "python3-tqdm",
     "yaml": "python3-yaml",
 }

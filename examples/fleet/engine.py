@@ -2,7 +2,9 @@
 
 from __future__ import annotations
 
+import os
 import secrets
+import sys
 from typing import Protocol
 
 from feed import Taken
@@ -52,10 +54,15 @@ def new_name() -> str:
 
 def open_engine(url: str) -> Engine:
     """`redis://HOST:PORT`, or `postgresql://..` as psycopg2 reads it."""
+    sys.path.append(os.path.join(os.path.dirname(os.path.abspath(__file__)), ".."))
+    from packages import need
+
     if url.startswith("redis://"):
+        need("redis")
         from redis_engine import RedisEngine
 
         return RedisEngine(url)
+    need("psycopg2")
     from postgres_engine import PostgresEngine
 
     return PostgresEngine(url)
