@@ -21,6 +21,17 @@ LEAFLET = "/usr/share/javascript/leaflet"
 END = r"{end:(?:\.json|\.xml)?}"
 KIND, KINDS, ID, VERSION = "{kind:node|way|relation}", "{kinds:nodes|ways|relations}", "{id:[0-9]{1,19}}", "{version:[0-9]{1,19}}"
 TABLE: tuple[tuple[str, str, Handler], ...] = (
+    # A path is looked for from the first on, so what is asked most stands first.
+    ("GET", "/api/0.6/map", calls_elements.read_map),
+    ("PUT", f"/api/0.6/{KIND}/create", calls_elements.create),
+    ("POST", "/api/0.6/{kind:node|way|relation}s", calls_elements.create),
+    ("GET", f"/api/0.6/{KINDS}", calls_elements.read_many),
+    ("GET", f"/api/0.6/{KIND}/{ID}", calls_elements.read),
+    ("PUT", f"/api/0.6/{KIND}/{ID}", calls_elements.modify),
+    ("DELETE", f"/api/0.6/{KIND}/{ID}", calls_elements.delete),
+    ("GET", f"/api/0.6/{KIND}/{ID}/{{what:history|relations|[0-9]{{1,19}}}}", calls_elements.read),
+    ("GET", f"/api/0.6/{{kind:way|relation}}/{ID}/full", calls_elements.read),
+    ("GET", f"/api/0.6/node/{ID}/ways", calls_elements.read),
     ("GET", "/api/versions", calls_about.versions),
     ("GET", "/api/capabilities", calls_about.capabilities),
     ("GET", "/api/0.6/capabilities", calls_about.capabilities),
@@ -37,16 +48,6 @@ TABLE: tuple[tuple[str, str, Handler], ...] = (
     ("PUT", f"/api/0.6/changeset/{ID}/close", calls_changesets.close),
     ("POST", f"/api/0.6/changeset/{ID}/upload", calls_changesets.upload),
     ("GET", f"/api/0.6/changeset/{ID}/download", calls_changesets.download),
-    ("GET", "/api/0.6/map", calls_elements.read_map),
-    ("PUT", f"/api/0.6/{KIND}/create", calls_elements.create),
-    ("POST", "/api/0.6/{kind:node|way|relation}s", calls_elements.create),
-    ("GET", f"/api/0.6/{KINDS}", calls_elements.read_many),
-    ("GET", f"/api/0.6/{KIND}/{ID}", calls_elements.read),
-    ("PUT", f"/api/0.6/{KIND}/{ID}", calls_elements.modify),
-    ("DELETE", f"/api/0.6/{KIND}/{ID}", calls_elements.delete),
-    ("GET", f"/api/0.6/{KIND}/{ID}/{{what:history|relations|[0-9]{{1,19}}}}", calls_elements.read),
-    ("GET", f"/api/0.6/{{kind:way|relation}}/{ID}/full", calls_elements.read),
-    ("GET", f"/api/0.6/node/{ID}/ways", calls_elements.read),
     ("POST", f"/api/0.6/{KIND}/{ID}/{VERSION}/redact", calls_elements.redact),
     ("POST", "/api/0.6/redactions", calls_elements.new_redaction),
     ("GET", "/api/0.6/replication/{piece:state|[0-9]{1,19}}", calls_elements.feed),
@@ -91,13 +92,14 @@ def check_host(gateway: Gateway, request: web.Request) -> None:
 
 def unfound(request: web.Request, why: web.HTTPException) -> web.StreamResponse:
     """A path or a method that no call has, told apart where OSM has one; and what aiohttp refuses by itself."""
-    text = next((text for path, text in UNSERVED if path.fullmatch(request.path)), None)
-    if text is None and isinstance(why, web.HTTPMethodNotAllowed):
-        text = f"There is no {why.method} here, but {' and '.join(sorted(why.allowed_methods))}"
-    reply = refused(Refused(404 if text and why.status == 405 and "aren't" in text else why.status, text or f"There is no {request.path}"))
+    unserved = next((text for path, text in UNSERVED if path.fullmatch(request.path)), None)
+    if unserved:
+        return refused(Refused(404, unserved))
     if isinstance(why, web.HTTPMethodNotAllowed):
+        reply = refused(Refused(405, f"There is no {why.method} here, but {' and '.join(sorted(why.allowed_methods))}"))
         reply.headers["Allow"] = why.headers["Allow"]
-    return reply
+        return reply
+    return refused(Refused(why.status, f"There is no {request.path}" if why.status == 404 else why.reason))
 
 
 def refused(why: Refused) -> web.Response:
