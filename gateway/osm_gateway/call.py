@@ -28,8 +28,6 @@ XML_BODY = 1 << 26
 """Bytes of an XML document that is read: twice those of the server's JSON, which says the same in fewer."""
 JSON_BODY = 1 << 25
 READING, WRITING = 300.0, 300.0
-WHOLE = 1 << 15
-"""A reply of the server up to this length is answered in one piece."""
 
 
 class Form(Enum):
@@ -190,35 +188,33 @@ class Call:
         if length > 1000 and quality(self.request.headers.get("Accept-Encoding", ""), "gzip", "*") > 0:
             reply.enable_compression(web.ContentCoding.gzip)
 
-    async def answer_in_parts(self, pieces: Iterator[str], length: int) -> web.StreamResponse:
-        """A document of a reply of that length; what is long is written while it is made."""
-        if length <= WHOLE:
-            return self.answer("".join(pieces))
+    async def answer_in_parts(self, pieces: Iterator[str]) -> web.StreamResponse:
+        """A document that is written while it is made; what takes one turn is answered whole."""
+        parts = self.gateway.turns.parts(pieces)
+        first, second = await anext(parts, ""), await anext(parts, None)
+        if second is None:
+            return self.answer(first)
         reply = web.StreamResponse()
         reply.content_type, reply.charset = self.form.value, "utf-8"
         if self.request.method == "HEAD":
-            reply.content_length = sum([len(part.encode()) async for part in self.gateway.turns.parts(pieces)])
+            reply.content_length = len(first.encode()) + len(second.encode()) + sum([len(part.encode()) async for part in parts])
             return reply
-        self.compress(reply, length)
+        self.compress(reply, len(first))
+        await reply.prepare(self.request)
+        self.request["head"] = head_of(reply)
         try:
             async with asyncio.timeout(WRITING):
-                await self.write(reply, pieces)
+                await reply.write(first.encode("utf-8"))
+                await reply.write(second.encode("utf-8"))
+                async for part in parts:
+                    await reply.write(part.encode("utf-8"))
+                await reply.write_eof()
         except (TimeoutError, ConnectionError, Refused) as why:
-            if not reply.prepared:
-                raise
             # The reply has begun, so all that its reader can be told is that the link ends.
             tell(f"{self.request.method} {shown(self.request.path)} ended in its middle: {why or 'its reader was too slow'}")
             if self.request.transport:
                 self.request.transport.abort()
         return reply
-
-    async def write(self, reply: web.StreamResponse, pieces: Iterator[str]) -> None:
-        async for part in self.gateway.turns.parts(pieces):
-            if not reply.prepared:
-                await reply.prepare(self.request)
-                self.request["head"] = head_of(reply)
-            await reply.write(part.encode("utf-8"))
-        await reply.write_eof()
 
 
 def head_of(reply: web.StreamResponse) -> int:

@@ -3,7 +3,9 @@
 from __future__ import annotations
 
 from collections.abc import Iterator
+from dataclasses import dataclass
 from datetime import datetime, timezone
+from itertools import islice
 from typing import Any
 
 from aiohttp import web
@@ -74,14 +76,14 @@ async def upload(call: Call) -> web.StreamResponse:
     body.close()
     reply = await call.ask("POST", f"changeset/{number}/upload", body=sent, asked=Asked(number, operations))
     write = documents.done_json if call.wants_json else documents.done_xml
-    return await call.answer_in_parts(write(events_of(reply)), reply.size)
+    return await call.answer_in_parts(write(events_of(reply)))
 
 
 async def download(call: Call) -> web.StreamResponse:
     reply = await call.ask("GET", f"changeset/{call.path('id')}/download")
     events = events_of(reply)
     pieces = documents.download_json(events) if call.wants_json else documents.download_xml(events, call.texts)
-    return await call.answer_in_parts(pieces, reply.size)
+    return await call.answer_in_parts(pieces)
 
 
 # ---- looking for changesets
@@ -96,34 +98,48 @@ def moment(text: str, name: str) -> datetime:
     return it if it.tzinfo else it.replace(tzinfo=timezone.utc)
 
 
-def passes(call: Call, it: Changeset) -> bool:
-    """Whether it passes the filters by time. The server has none, so they sift its newest hundred."""
-    created, closed = moment(it["created_at"], ""), moment(it["closed_at"], "") if "closed_at" in it else None
-    earliest, _, latest = (call.query("time") or "").partition(",")
-    if earliest and closed and closed < moment(earliest, "time") or latest and created > moment(latest, "time"):
-        return False
-    start, end = call.query("from"), call.query("to")
-    return not (start and created < moment(start, "from") or end and created >= moment(end, "to"))
+@dataclass(frozen=True)
+class Times:
+    """The filters by time. The server has none, so they sift its newest hundred."""
+
+    closed_since: datetime | None
+    created_until: datetime | None
+    created_since: datetime | None
+    created_before: datetime | None
+
+    @staticmethod
+    def of(call: Call) -> Times:
+        earliest, _, latest = (call.query("time") or "").partition(",")
+        texts = (("time", earliest), ("time", latest), ("from", call.query("from")), ("to", call.query("to")))
+        return Times(*(moment(text, name) if text else None for name, text in texts))
+
+    def pass_on(self, it: Changeset) -> bool:
+        created = moment(it["created_at"], "")
+        if self.closed_since and "closed_at" in it and moment(it["closed_at"], "") < self.closed_since:
+            return False
+        if self.created_until and created > self.created_until or self.created_since and created < self.created_since:
+            return False
+        return not (self.created_before and created >= self.created_before)
 
 
-async def named(call: Call, ids: str) -> list[Changeset]:
+async def named(call: Call, ids: str) -> Iterator[Changeset]:
     """Those that are there of a list of ids, the newest first."""
     numbers = [it.strip() for it in ids.split(",")]
     if not all(it.isascii() and it.isdigit() and len(it) <= 19 for it in numbers):
         raise Refused(400, "No changesets were given to search for")
     if len(numbers) > MOST:
         raise Refused(400, f"The parameter changesets takes {MOST} ids")
-    found = []
+    found: list[Changeset] = []
     for number in sorted({int(it) for it in numbers}, reverse=True):
         try:
             found.append((await call.value("GET", f"changeset/{number}"))["changeset"])
         except Refused as why:
             if why.status != 404:
                 raise
-    return found
+    return iter(found)
 
 
-async def searched(call: Call) -> list[Changeset]:
+async def searched(call: Call) -> Iterator[Changeset]:
     query = call.passed_on("user", "bbox")
     query |= {name: "true" for name in ("open", "closed") if call.query(name) not in (None, "false")}
     name = call.query("display_name")
@@ -132,8 +148,7 @@ async def searched(call: Call) -> list[Changeset]:
         if user is None or "user" in query:
             raise Refused(*((404, f"There is no user {name}") if user is None else (400, "provide either the user ID or display name, but not both")))
         query["user"] = str(user.id)
-    rows: list[Changeset] = (await call.value("GET", "changesets", query))["changesets"]
-    return rows
+    return documents.rows(events_of(await call.ask("GET", "changesets", query)), "changesets")
 
 
 async def read_some(call: Call) -> web.StreamResponse:
@@ -142,12 +157,12 @@ async def read_some(call: Call) -> web.StreamResponse:
         raise Refused(400, f"Changesets limit must be between 1 and {MOST}")
     if call.query("order") not in (None, "newest"):
         raise Refused(400, "The newest changesets come first here, there is no other order")
-    ids = call.query("changesets")
+    times, ids = Times.of(call), call.query("changesets")
     found = await searched(call) if ids is None else await named(call, ids)
-    rows = iter([it for it in found if passes(call, it)][: int(limit)])
+    rows = islice(filter(times.pass_on, found), int(limit))
     if call.wants_json:
-        return call.answer("".join(documents.listed_json("changesets", rows, json_write.changeset)))
-    return call.answer("".join(documents.listed_xml(rows, lambda it: xml_write.changeset(call.texts, it))))
+        return await call.answer_in_parts(documents.listed_json("changesets", rows, json_write.changeset))
+    return await call.answer_in_parts(documents.listed_xml(rows, lambda it: xml_write.changeset(call.texts, it)))
 
 
 __all__ = ["close", "create", "download", "read", "read_some", "update", "upload"]

@@ -21,12 +21,12 @@ VERSIONS = 100
 
 
 async def elements(call: Call, *replies: Spool) -> web.StreamResponse:
-    events, length = events_of(*replies), sum(reply.size for reply in replies)
+    events = events_of(*replies)
     if call.wants_json:
-        return await call.answer_in_parts(documents.elements_json(events), length)
+        return await call.answer_in_parts(documents.elements_json(events))
     # osmosis writes a bound of its own and can't write another one behind it.
     bounded = not call.request.headers.get("User-Agent", "").startswith("Osmosis/")
-    return await call.answer_in_parts(documents.elements_xml(events, call.texts, bounded), length)
+    return await call.answer_in_parts(documents.elements_xml(events, call.texts, bounded))
 
 
 async def read(call: Call) -> web.StreamResponse:

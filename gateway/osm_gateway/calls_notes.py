@@ -11,15 +11,18 @@ from urllib.parse import parse_qsl
 
 from aiohttp import web
 
-from . import json_write, xml_write
-from .call import Call, box_of
+from . import documents, json_write, xml_write
+from .call import Call, box_of, events_of
 from .calls_changesets import moment
 from .changes import ENCODER
 from .degrees import NotDecimal, units_of
 from .json_read import DecimalText
 from .links import Links
 from .refusals import Refused
+from .documents import NoteForm
 from .rows import Note
+from .spool import Spool
+from .walk import Path
 
 FORM_BYTES = 1 << 16
 
@@ -61,20 +64,46 @@ def site(call: Call) -> str:
     return f"{call.request.scheme}://{call.request.host}"
 
 
-def one(call: Call, it: Note) -> web.StreamResponse:
+def form_of(call: Call) -> NoteForm:
+    where = site(call)
     if call.wants_json:
-        return call.answer(json_write.note(it, site(call)) + "\n")
-    return call.answer(xml_write.opened("osm") + xml_write.note(call.texts, it, site(call)) + xml_write.closed("osm"))
+        return NoteForm(partial(json_write.note_start, site=where), json_write.comment, ",", json_write.NOTE_END)
+    start, comment = partial(xml_write.note_start, call.texts, site=where), partial(xml_write.comment, call.texts)
+    return NoteForm(start, comment, "", xml_write.NOTE_END)
 
 
-def listing(call: Call, found: list[Note]) -> Iterator[str]:
+async def heads_of(call: Call, reply: Spool, base: Path) -> list[Note]:
+    """Notes without their comments, read in turns."""
+    found: list[Note] = []
+
+    def reading() -> Iterator[str]:
+        for it in documents.heads(events_of(reply), base):
+            if it is not None:
+                found.append(it)
+            yield ""
+
+    async for _ in call.gateway.turns.parts(reading()):
+        pass
+    return found
+
+
+def wrapped(call: Call, pieces: Iterator[str], one: bool) -> Iterator[str]:
+    """A whole document of notes, or of one of them."""
     if call.wants_json:
-        rows = ",\n".join(json_write.note(it, site(call)) for it in found)
-        yield f'{{"type":"FeatureCollection","features":[\n{rows}\n]}}\n'
-        return
-    yield xml_write.opened("osm")
-    yield from map(partial(xml_write.note, call.texts, site=site(call)), found)
-    yield xml_write.closed("osm")
+        yield "" if one else '{"type":"FeatureCollection","features":[\n'
+        yield from pieces
+        yield "\n" if one else "\n]}\n"
+    else:
+        yield xml_write.opened("osm")
+        yield from pieces
+        yield xml_write.closed("osm")
+
+
+async def answered(call: Call, reply: Spool) -> web.StreamResponse:
+    """The note that a reply of the server has."""
+    wanted: list[Note | None] = [*await heads_of(call, reply, documents.ONE)]
+    pieces = documents.notes(events_of(reply), documents.ONE, wanted, form_of(call))
+    return await call.answer_in_parts(wrapped(call, pieces, one=True))
 
 
 # ---- calls
@@ -85,11 +114,11 @@ async def create(call: Call) -> web.StreamResponse:
     row = {"lat7": place(given, "lat"), "lon7": place(given, "lon"), "text": given.get("text", "")}
     if not row["text"]:
         raise Refused(400, "No text was given")
-    return one(call, (await call.value("POST", "notes", body=await call.sent([ENCODER.encode(row)]), server=server))["note"])
+    return await answered(call, await call.ask("POST", "notes", body=await call.sent([ENCODER.encode(row)]), server=server))
 
 
 async def read(call: Call) -> web.StreamResponse:
-    return one(call, (await call.value("GET", f"notes/{call.path('id')}", server=notes_of(call)))["note"])
+    return await answered(call, await call.ask("GET", f"notes/{call.path('id')}", server=notes_of(call)))
 
 
 async def change(call: Call) -> web.StreamResponse:
@@ -101,7 +130,7 @@ async def change(call: Call) -> web.StreamResponse:
         raise Refused(400, "No text was given")
     row: dict[str, Any] = {"text": given.get("text", "")}
     path = f"notes/{call.path('id')}/{what}"
-    return one(call, (await call.value("POST", path, body=await call.sent([ENCODER.encode(row)]), server=server))["note"])
+    return await answered(call, await call.ask("POST", path, body=await call.sent([ENCODER.encode(row)]), server=server))
 
 
 def number(call: Call, name: str, standard: int, least: int, most: int) -> int:
@@ -117,8 +146,15 @@ async def search(call: Call) -> web.StreamResponse:
     server, box = notes_of(call), box_of(call.query("bbox"))
     days, limit = number(call, "closed", 7, -1, 100_000), number(call, "limit", 100, 1, 10_000)
     query = {"bbox": box} if days == 0 else {"bbox": box, "closed": "true"}
-    found: list[Note] = (await call.value("GET", "notes", query, server=server))["notes"]
-    if days > 0:
-        since = datetime.now(timezone.utc) - timedelta(days=days)
-        found = [it for it in found if "closed_at" not in it or moment(it["closed_at"], "") >= since]
-    return await call.answer_in_parts(listing(call, found[:limit]), sum(len(it["comments"]) for it in found) * 400)
+    reply = await call.ask("GET", "notes", query, server=server)
+    found: list[Note | None] = [*await heads_of(call, reply, documents.SOME)]
+    since = datetime.now(timezone.utc) - timedelta(days=days)
+    left = limit
+    for place, it in enumerate(found):
+        is_old = days > 0 and it is not None and "closed_at" in it and moment(it["closed_at"], "") < since
+        if is_old or not left:
+            found[place] = None
+        else:
+            left -= 1
+    pieces = documents.notes(events_of(reply), documents.SOME, found, form_of(call))
+    return await call.answer_in_parts(wrapped(call, pieces, one=False))

@@ -3,10 +3,11 @@
 from __future__ import annotations
 
 from collections.abc import Callable, Iterator
-from typing import Any
+from typing import Any, NamedTuple, cast
 
 from . import json_write, xml_write
-from .walk import Event, Sort
+from .rows import Comment, Note
+from .walk import Event, Path, Sort
 from .xml_texts import Texts
 
 Events = Iterator[Event]
@@ -17,6 +18,52 @@ def rows(events: Events, member: str) -> Iterator[Any]:
     """The items of the list that is that member."""
     path = (member, "*")
     return (event.value for event in events if event.path == path and event.sort is Sort.VALUE)
+
+
+# ---- notes, whose comments the server writes before the rest of them
+
+ONE: Path = ("note",)
+SOME: Path = ("notes", "*")
+
+
+def heads(events: Events, base: Path) -> Iterator[Note | None]:
+    """Each note without its comments, and None for what is passed over on the way."""
+    row: dict[str, Any] = {}
+    for sort, path, value in events:
+        if path == base and sort is Sort.CLOSED:
+            yield cast(Note, row)
+            row = {}
+        elif path[:-1] == base and sort is Sort.VALUE:
+            row[path[-1]] = value
+        yield None
+
+
+class NoteForm(NamedTuple):
+    """How a note is written: what stands before its comments, one of these, what stands between two, and at the end."""
+
+    start: Callable[[Note], str]
+    comment: Callable[[Comment], str]
+    comma: str
+    end: str
+
+
+def notes(events: Events, base: Path, wanted: list[Note | None], form: NoteForm) -> Pieces:
+    """The notes with their comments; `wanted` has the heads of all in their order, with None for one that is left out."""
+    place, comma, between = -1, "", ""
+    for sort, path, value in events:
+        if path == base and sort is Sort.OPENED:
+            place, comma = place + 1, ""
+        head = wanted[place] if place >= 0 else None
+        if head is None:
+            yield ""
+        elif path == base and sort is Sort.OPENED:
+            yield between + form.start(head)
+            between = form.comma and form.comma + "\n"
+        elif path == (*base, "comments", "*"):
+            yield comma + form.comment(value)
+            comma = form.comma
+        elif path == base:
+            yield form.end
 
 
 # ---- XML

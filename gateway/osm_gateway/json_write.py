@@ -9,7 +9,7 @@ from typing import Any
 
 from .degrees import degrees_of
 from .people import User
-from .rows import Box, Changeset, Done, Element, Note, edges
+from .rows import Box, Changeset, Comment, Done, Element, Note, edges
 from .xml_write import GENERATOR, SLICE, paragraph, utc
 
 HEAD = f'{{"version":"0.6","generator":"{GENERATOR}"'
@@ -74,13 +74,20 @@ def user(it: User) -> str:
     return value_of({"id": it.id, "display_name": it.name, "description": "", "roles": roles})
 
 
-def note(it: Note, site: str) -> str:
+def note_start(it: Note, site: str) -> str:
+    """What stands before the comments of a note."""
     here = f"{site}/api/0.6/notes/{it['id']}"
     rows: dict[str, Any] = {"id": it["id"], "url": here}
     rows |= {f"{call}_url": f"{here}/{call}" for call in (("comment", "close") if it["status"] == "open" else ("reopen",))}
     rows |= {"date_created": utc(it["date_created"]), "status": it["status"]}
     if "closed_at" in it:
         rows["closed_at"] = utc(it["closed_at"])
-    rows["comments"] = [{**row, "date": utc(row["date"]), "html": paragraph(row["text"])} for row in it["comments"]]
     place = f'{{"type":"Point","coordinates":[{degrees_of(it["lon7"])},{degrees_of(it["lat7"])}]}}'
-    return f'{{"type":"Feature","geometry":{place},"properties":{value_of(rows)}}}'
+    return f'{{"type":"Feature","geometry":{place},"properties":{value_of(rows)[:-1]},"comments":['
+
+
+def comment(it: Comment) -> str:
+    return value_of({**it, "date": utc(it["date"]), "html": paragraph(it["text"])})
+
+
+NOTE_END = "]}}"

@@ -60,13 +60,15 @@ class People:
 
     def basic(self, text: str) -> str:
         try:
-            name, _, token = base64.b64decode(text, validate=True).decode("utf-8").partition(":")
+            pair = base64.b64decode(text, validate=True).decode("utf-8")
         except (binascii.Error, UnicodeDecodeError):
             raise Refused(401, "Couldn't authenticate you") from None
-        user = self.by_token.get(token)
-        if user is None or user.name != name:
-            raise Refused(401, "Couldn't authenticate you")
-        return token
+        # A colon may stand in a name and in a token too.
+        for colon in re.finditer(":", pair):
+            user = self.by_token.get(pair[colon.end() :])
+            if user is not None and user.name == pair[: colon.start()]:
+                return user.token
+        raise Refused(401, "Couldn't authenticate you")
 
     def known(self, token: str | None) -> User:
         user = self.by_token.get(token or "")

@@ -106,6 +106,7 @@ TEXTS: dict[str, Callable[[dict[str, Any], Asked], str]] = {
     "redact_current": lambda it, _: "Cannot redact current version of element, only historical versions may be redacted.",
     "redacted": lambda it, _: f"Version {it['version']} of the {it['type']} {it['id']} is redacted",
     "note_closed": lambda it, _: f"The note {it['id']} was closed at {utc(it['closed_at'])}",
+    "note_full": lambda it, _: f"The note {it['id']} has {it['limit']} comments and takes no more",
     "note_open": lambda it, _: f"The note {it['id']} is already open",
     "no_user": lambda it, _: "Couldn't authenticate you",
     "role": lambda it, _: "Only a moderator may do this",

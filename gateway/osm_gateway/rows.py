@@ -77,13 +77,14 @@ class Comment(TypedDict):
 
 
 class Note(TypedDict):
+    """A note without its comments, of which there may be ten thousand."""
+
     id: int
     lat7: int
     lon7: int
     status: str
     date_created: str
     closed_at: NotRequired[str]
-    comments: list[Comment]
 
 
 def edges(it: Box | Changeset) -> dict[str, int]:

@@ -7,7 +7,7 @@ import tempfile
 import zlib
 from collections.abc import Iterator
 
-KEPT = 1 << 20
+KEPT = 1 << 18
 """Bytes of one body that stay in memory."""
 PIECE = 1 << 15
 

@@ -8,6 +8,8 @@ from collections.abc import AsyncIterator, Iterable, Iterator
 
 TURN = 0.004
 """Seconds after which a turn ends with the next piece."""
+LOOKS = 4
+"""Looks at the links between two turns: a small call takes a few steps, and shouldn't wait for a turn before each."""
 
 
 class Turns:
@@ -18,11 +20,12 @@ class Turns:
         """What the pieces are together, a turn's worth at a time."""
         rest, ended = iter(pieces), False
         while not ended:
-            # Only one translation has a turn between two looks at the links, however many there are.
+            # One translation has a turn and then all others wait, however many there are.
             async with self.lock:
                 part, ended = turn(rest)
+                for _ in range(LOOKS if not ended else 0):
+                    await asyncio.sleep(0)
             yield part
-            await asyncio.sleep(0)
 
 
 def turn(pieces: Iterator[str]) -> tuple[str, bool]:

@@ -149,7 +149,8 @@ class Walk:
 
 
 OPENED: frozenset[Path] = frozenset(
-    {(), ("elements",), ("changesets",), ("notes",), ("diffResult",), ("osmChange",), ("osmChange", "*")}
+    {(), ("elements",), ("changesets",), ("diffResult",), ("osmChange",), ("osmChange", "*")}
     | {("osmChange", "*", action) for action in ("create", "modify", "delete")}
+    | {("note",), ("note", "comments"), ("notes",), ("notes", "*"), ("notes", "*", "comments")}
 )
 """What is opened of a reply of the server, and of a change in OSM's JSON."""

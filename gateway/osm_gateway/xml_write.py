@@ -104,7 +104,8 @@ def comment(texts: Texts, it: Comment) -> str:
     return f"<comment>{inner(texts, 'date', utc(it['date']))}{who}{said}</comment>\n"
 
 
-def note(texts: Texts, it: Note, site: str) -> str:
+def note_start(texts: Texts, it: Note, site: str) -> str:
+    """What stands before the comments of a note."""
     here = f"{site}/api/0.6/notes/{it['id']}"
     rows = {"id": str(it["id"]), "url": here}
     rows |= {f"{call}_url": f"{here}/{call}" for call in (("comment", "close") if it["status"] == "open" else ("reopen",))}
@@ -112,5 +113,7 @@ def note(texts: Texts, it: Note, site: str) -> str:
     if "closed_at" in it:
         rows["date_closed"] = utc(it["closed_at"])
     start = f'<note lon="{degrees_of(it["lon7"])}" lat="{degrees_of(it["lat7"])}">'
-    said = "".join(comment(texts, row) for row in it["comments"])
-    return f"{start}{''.join(inner(texts, name, value) for name, value in rows.items())}<comments>{said}</comments></note>\n"
+    return f"{start}{''.join(inner(texts, name, value) for name, value in rows.items())}<comments>"
+
+
+NOTE_END = "</comments></note>\n"

@@ -2,6 +2,7 @@
 
 from __future__ import annotations
 
+import base64
 import random
 from fractions import Fraction
 from typing import Any
@@ -110,6 +111,8 @@ def users() -> str:
     people = people_of("# a\n\n1 a user A B\r\n2 b moderator/5 b\n@large-from 5\n")
     want([(it.id, it.name, it.moderator) for it in people.by_token.values()], [(1, "A B", False), (2, "b", True)], "users")
     want(people.changes(), 50_000, "changes of a large changeset")
+    odd = people_of("1 t:o:k user a:b\n")
+    want(odd.token_of("Basic " + base64.b64encode(b"a:b:t:o:k").decode()), "t:o:k", "a name and a token with colons")
     for bad in ("1 a user", "x a user A", "1 a admin A", "1 a user A\n1 b user B", "1 a user A\n2 a user B", "@large 5", "@large-from 1\n@large-from 2"):
         try:
             people_of(bad)
