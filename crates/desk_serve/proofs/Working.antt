@@ -239,9 +239,9 @@ module _ {S C Q P E K : Type 0} (rules : Rules S C Q P E K) (row : RowOf E) wher
       → HaveServed rules row users (range_with_len 0 count) stopped before after failed → HasClosed rules count stopped → ServesAll rules row users before after failed
   serves_all users count before after stopped failed chain stay consistent counted served closed =
       let all = all_worked users closed.one closed.journal served.shifts closed.each.0 closed.each.1 chain stay served.served
-          (subst (λ (l : List (Known E)). EndEach rules closed.journal l closed.each.0 closed.each.1) (sym served.stopped_are) closed.each.2) closed.begins
-          (subst (λ (l : List (Known E)). AllByRecursion (λ session. IsPrefix session.front closed.one) l) (sym served.stopped_are) closed.seen)
-          (subst (λ (l : List (Known E)). AllByRecursion (IsKnown rules) l) (sym served.stopped_are) closed.known) in record {
+      (subst (λ (l : List (Known E)). EndEach rules closed.journal l closed.each.0 closed.each.1) (sym served.stopped_are) closed.each.2) closed.begins
+      (subst (λ (l : List (Known E)). AllByRecursion (λ session. IsPrefix session.front closed.one) l) (sym served.stopped_are) closed.seen)
+      (subst (λ (l : List (Known E)). AllByRecursion (IsKnown rules) l) (sym served.stopped_are) closed.known) in record {
         one = closed.one;
         list = subst (λ (n : ℕ). IsListOf rules n closed.one) (sym counted) (list_of rules consistent count closed.one closed.front);
         journal = closed.journal;

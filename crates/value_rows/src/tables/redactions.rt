@@ -1,6 +1,6 @@
 //! Redactions, under promised room.
-use osm_base::{Memory, Text};
 use changeset_core::Redactions;
+use osm_base::{Memory, Text};
 use std::alloc::Global;
 
 pub fn a_redaction_that_was_made_is_known(alloc: Global) -> Result<bool, Memory> {
