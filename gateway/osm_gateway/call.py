@@ -29,6 +29,9 @@ XML_BODY = 1 << 26
 JSON_BODY = 1 << 25
 READING, WRITING = 300.0, 300.0
 
+WHOLE = 1 << 16
+"""Characters up to which a document is answered whole."""
+
 
 class Form(Enum):
     XML = "application/xml"
@@ -136,8 +139,7 @@ class Call:
         self.too_long(XML_BODY)
         spool = await self.body(XML_BODY)
         first = next(spool.pieces(), b"").lstrip()[:1]
-        said = self.request.content_type
-        is_json = said == "application/json" or first == b"{" if first != b"<" else False
+        is_json = first != b"<" and (first == b"{" or self.request.content_type == "application/json")
         if is_json and spool.size > JSON_BODY:
             raise Refused(413, f"A document of JSON has more than {JSON_BODY} bytes")
         return spool, is_json
@@ -189,23 +191,25 @@ class Call:
             reply.enable_compression(web.ContentCoding.gzip)
 
     async def answer_in_parts(self, pieces: Iterator[str]) -> web.StreamResponse:
-        """A document that is written while it is made; what takes one turn is answered whole."""
-        parts = self.gateway.turns.parts(pieces)
-        first, second = await anext(parts, ""), await anext(parts, None)
-        if second is None:
-            return self.answer(first)
+        """A document that is written while it is made; a short one is answered whole."""
+        parts, held = self.gateway.turns.parts(pieces), ""
+        async for part in parts:
+            held += part
+            if len(held) > WHOLE:
+                break
+        else:
+            return self.answer(held)
         reply = web.StreamResponse()
         reply.content_type, reply.charset = self.form.value, "utf-8"
         if self.request.method == "HEAD":
-            reply.content_length = len(first.encode()) + len(second.encode()) + sum([len(part.encode()) async for part in parts])
+            reply.content_length = len(held.encode()) + sum([len(part.encode()) async for part in parts])
             return reply
-        self.compress(reply, len(first))
+        self.compress(reply, len(held))
         await reply.prepare(self.request)
         self.request["head"] = head_of(reply)
         try:
             async with asyncio.timeout(WRITING):
-                await reply.write(first.encode("utf-8"))
-                await reply.write(second.encode("utf-8"))
+                await reply.write(held.encode("utf-8"))
                 async for part in parts:
                     await reply.write(part.encode("utf-8"))
                 await reply.write_eof()

@@ -4,7 +4,7 @@ from __future__ import annotations
 
 from collections.abc import Iterator
 from dataclasses import dataclass
-from datetime import datetime, timezone
+from datetime import datetime
 from itertools import islice
 from typing import Any
 
@@ -16,6 +16,7 @@ from .calls_elements import texts_of
 from .changes import ENCODER, change_of
 from .refusals import Asked, Operations, Refused
 from .rows import Changeset
+from .times import moment_of
 from .xml_read import ChangeReader, TagsReader
 
 MOST = 100
@@ -90,12 +91,11 @@ async def download(call: Call) -> web.StreamResponse:
 
 
 def moment(text: str, name: str) -> datetime:
-    """A moment as ISO 8601 or as OSM shows it; UTC where it doesn't say."""
+    """What a parameter says."""
     try:
-        it = datetime.fromisoformat(text.strip().removesuffix(" UTC"))
+        return moment_of(text)
     except ValueError:
         raise Refused(400, f"The parameter {name} can't be read: {text[:100]} is no moment") from None
-    return it if it.tzinfo else it.replace(tzinfo=timezone.utc)
 
 
 @dataclass(frozen=True)
@@ -114,8 +114,8 @@ class Times:
         return Times(*(moment(text, name) if text else None for name, text in texts))
 
     def pass_on(self, it: Changeset) -> bool:
-        created = moment(it["created_at"], "")
-        if self.closed_since and "closed_at" in it and moment(it["closed_at"], "") < self.closed_since:
+        created = moment_of(it["created_at"])
+        if self.closed_since and "closed_at" in it and moment_of(it["closed_at"]) < self.closed_since:
             return False
         if self.created_until and created > self.created_until or self.created_since and created < self.created_since:
             return False

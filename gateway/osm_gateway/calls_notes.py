@@ -13,7 +13,6 @@ from aiohttp import web
 
 from . import documents, json_write, xml_write
 from .call import Call, box_of, events_of
-from .calls_changesets import moment
 from .changes import ENCODER
 from .degrees import NotDecimal, units_of
 from .json_read import DecimalText
@@ -22,6 +21,7 @@ from .refusals import Refused
 from .documents import NoteForm
 from .rows import Note
 from .spool import Spool
+from .times import moment_of
 from .walk import Path
 
 FORM_BYTES = 1 << 16
@@ -151,7 +151,7 @@ async def search(call: Call) -> web.StreamResponse:
     since = datetime.now(timezone.utc) - timedelta(days=days)
     left = limit
     for place, it in enumerate(found):
-        is_old = days > 0 and it is not None and "closed_at" in it and moment(it["closed_at"], "") < since
+        is_old = days > 0 and it is not None and "closed_at" in it and moment_of(it["closed_at"]) < since
         if is_old or not left:
             found[place] = None
         else:

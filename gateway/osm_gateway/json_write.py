@@ -10,7 +10,8 @@ from typing import Any
 from .degrees import degrees_of
 from .people import User
 from .rows import Box, Changeset, Comment, Done, Element, Note, edges
-from .xml_write import GENERATOR, SLICE, paragraph, utc
+from .times import utc
+from .xml_write import GENERATOR, SLICE, paragraph
 
 HEAD = f'{{"version":"0.6","generator":"{GENERATOR}"'
 

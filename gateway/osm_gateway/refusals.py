@@ -9,6 +9,8 @@ from collections.abc import Callable
 from dataclasses import dataclass, field
 from typing import Any
 
+from .times import utc
+
 
 class Refused(Exception):
     """A reply with this status and text, in place of what was asked for."""
@@ -45,10 +47,6 @@ class Asked:
 
     changeset: int = 0
     operations: Operations = field(default_factory=Operations)
-
-
-def utc(time: str) -> str:
-    return time.replace("T", " ").replace("Z", " UTC")
 
 
 def now() -> str:

@@ -7,6 +7,7 @@ from collections.abc import Iterator
 from .degrees import degrees_of
 from .people import User
 from .rows import Box, Changeset, Comment, Done, Element, Note, edges
+from .times import utc
 from .xml_texts import Texts
 
 GENERATOR = "Hegunsap"
@@ -14,11 +15,6 @@ BEGINNING = "1970-01-01T00:00:00Z"
 HEAD = '<?xml version="1.0" encoding="UTF-8"?>\n'
 SLICE = 1000
 """Members that are written in one piece."""
-
-
-def utc(time: str) -> str:
-    """The form in which OSM shows times of notes and in its refusals."""
-    return time.replace("T", " ").replace("Z", " UTC")
 
 
 def opened(name: str) -> str:

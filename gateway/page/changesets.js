@@ -30,6 +30,7 @@ export class Changesets {
     } catch (why) {
       this.list.replaceChildren(make("li", { class: "wrong" }, why.message));
     }
+    this.list.dataset.loaded = String(Number(this.list.dataset.loaded ?? 0) + 1);
     this.showBoxes();
     return this.rows;
   }

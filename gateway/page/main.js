@@ -33,7 +33,12 @@ function show(part) {
   changesets.showBoxes();
 }
 
-for (const button of document.querySelectorAll("nav button")) button.addEventListener("click", () => show(button.dataset.part));
+for (const button of document.querySelectorAll("nav button")) {
+  button.addEventListener("click", async () => {
+    show(button.dataset.part);
+    if (button.dataset.part === "changesets") past.take(await changesets.load());
+  });
+}
 
 function choose(it, place) {
   if (notes.waits) {

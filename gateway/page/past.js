@@ -22,9 +22,10 @@ export class Past {
 
   /** Takes the moments at which these changesets began and were closed. */
   take(changesets) {
-    const now = Math.floor(Date.now() / 1000);
     const moments = changesets.flatMap((it) => [it.created_at, it.closed_at]).filter((it) => it !== undefined).map(seconds);
-    this.marks = [...new Set(moments)].filter((it) => it <= now).sort((a, b) => a - b);
+    // The server's clock may be before this one's.
+    const now = Math.max(Math.floor(Date.now() / 1000), ...moments);
+    this.marks = [...new Set(moments)].sort((a, b) => a - b);
     const first = this.marks[0] ?? now - 1;
     // A moment before the first mark shows the map without what these changesets did.
     this.slider.min = first - 1;

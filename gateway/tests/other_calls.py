@@ -175,6 +175,17 @@ def notes(gateway: Gateway) -> None:
     gateway.well("POST", f"notes/{number}/reopen?text=again", "", BOB)
 
 
+def unfit(gateway: Gateway) -> None:
+    """Characters that no XML can hold: U+FFFD in XML, counted in a line; and as they are in JSON."""
+    odd = {"a\u0000b": "\ufffe\u0001 &<"}
+    row = {"changeset": gateway.changeset(), "lat": 3, "lon": 3, "tags": odd}
+    number = gateway.well("PUT", "node/create", json.dumps(row), ALICE, Content_Type="application/json")
+    want(json.loads(gateway.well("GET", f"node/{number}.json"))["elements"][0]["tags"], odd, "such characters in JSON")
+    want(ET.fromstring(gateway.well("GET", f"node/{number}"))[0][0].attrib, {"k": "a\ufffdb", "v": "\ufffd\ufffd &<"}, "such characters in XML")
+    line = f"gateway: 3 characters that XML can't hold are U+FFFD in the reply to GET /api/0.6/node/{number}"
+    want([it for it in gateway.lines() if "U+FFFD" in it], [line], "what was told of them")
+
+
 def coding(gateway: Gateway) -> None:
     """Bodies that are packed, replies that are, and fields."""
     changeset = gateway.changeset()
@@ -210,7 +221,7 @@ def log(gateway: Gateway) -> None:
 
 
 def run(program: str) -> str:
-    parts = (about, users, changesets, elements, redactions, notes, coding, log)
+    parts = (about, users, changesets, elements, redactions, notes, unfit, coding, log)
     with Site(program, notes=True) as gateway:
         for part in parts:
             part(gateway)

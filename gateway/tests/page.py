@@ -126,8 +126,10 @@ def past(page: Page, before: int) -> None:
 
 
 def changesets(page: Page) -> None:
+    loaded_before = page.one("#changesets ol").get_attribute("data-loaded")
     page.part("changesets")
-    page.until("the changesets", lambda: len(page.all("#changesets li button")) > 2)
+    page.until("the changesets anew", lambda: page.one("#changesets ol").get_attribute("data-loaded") != loaded_before)
+    want(len(page.all("#changesets li button")), 3, "changesets: the town's, alice's and bob's")
     first = page.one("#changesets li button")
     for text in ("its name <b>", "bob", "1 change", "closed"):
         has(first.text, text, "the newest changeset")
