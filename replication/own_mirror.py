@@ -17,7 +17,7 @@ from typing import Any
 from feed import Unusable
 from kept_link import Lost, Site
 
-WAIT = 600  # seconds for a mirror to begin, since an unproved one is made first
+WAIT = 7_200  # seconds for a mirror to begin, since its program may have to be built before
 PR_SET_PDEATHSIG = 1
 
 

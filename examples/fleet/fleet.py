@@ -4,9 +4,9 @@
 Starts `osm serve`, four mirrors, an engine, writer.py, a carrier for each mirror, keep.py, and nginx with nginx.conf in front, on free
 ports of the loopback. Status 0 where all is as it should be. The parts:
 
-- level: while uploads go through nginx, a mirror, a carrier, the engine and the writer are killed and started again, one after another;
-  then each mirror is level, no mirror's number went back, and nine kinds of reads are the server's byte for byte, those of a mirror too
-  that was fed from the file of keep.py;
+- level: while uploads go through nginx, at first with a second writer beside the one, a mirror, a carrier, the engine and the writer
+  are killed and started again, one after another; then each mirror is level, no mirror's number went back, and nine kinds of reads are
+  the server's byte for byte, those of a mirror too that was fed from the file of keep.py;
 - news: how long after the reply to an upload all four mirrors have it;
 - reads: by wrk, through nginx with 1, 2 and 4 mirrors, for so many seconds each;
 - anew: the server is killed and started again; the writer tells of the other journal, and nothing of it comes to a mirror.
@@ -105,9 +105,13 @@ def level(fleet: Fleet, words: argparse.Namespace) -> None:
     part = words.uploads // 10
     with Front(fleet.folder, fleet.server.port, fleet.ports, 2) as front:
         watches = [Watch(port) for place, port in enumerate(fleet.ports) if place != 1]
+        second = fleet.add("writer.py", "--server", url(fleet.server.port), "--engine", fleet.engine.url)
         fleet.edit_through(front.port)
         fleet.upload(2 * part)
         print(f"{number(fleet.server.port)} pieces, all at four mirrors {fleet.level('a mirror'):.2f} s after the last upload", flush=True)
+        if second.process.poll() is not None:
+            raise Wrong(f"a second writer ends: {second.said}")
+        second.kill()
         breaks: tuple[tuple[str, Callable[[], None], Callable[[], None]], ...] = (
             ("a mirror", partial(fleet.kill_mirror, 1), partial(fleet.start_mirror, 1)),
             ("a carrier", fleet.carriers[2].kill, fleet.carriers[2].start),

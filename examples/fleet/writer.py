@@ -29,15 +29,18 @@ class Writer:
         while True:
             try:
                 engine = open_engine(self.engine)
-                name = engine.journal()
-                if not name or is_new:
-                    name, is_new = engine.begin(name), False
-                self.write(engine, name)
-            except Behind:
-                self.trouble.tell("another writer adds pieces to this engine")
+                try:
+                    name = engine.journal()
+                    if not name or is_new:
+                        name, is_new = engine.begin(name), False
+                    self.write(engine, name)
+                except Behind:
+                    pass  # another writer was faster; both go on
+                finally:
+                    engine.close()
             except EngineLost as why:
                 self.trouble.tell(why)
-            time.sleep(scripts.AGAIN)
+                time.sleep(scripts.AGAIN)
 
     def write(self, engine: Engine, name: str) -> None:
         feed = Feed(self.server, self.token, engine.ends(name))
