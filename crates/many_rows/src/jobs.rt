@@ -134,6 +134,32 @@ fn play_rounds<N: HubName, R: Wait + Drop, W: Wait>(
     Ok(())
 }
 
+/// Plays the lines of a phase that are of the job's sessions, at desks over one table of routes.
+fn play_over<'a, N: HubName, R: Wait + Drop, W: Wait>(
+    rt: &'a W,
+    alloc: Global,
+    hub: &'a RowHub<N, R>,
+    users: &'a UserTable,
+    routes: &'a Routes,
+    job: Job<MapSession<N>>,
+    phase: &Phase<'_>,
+) -> Result<Job<MapSession<N>>, RowFault> {
+    let Job {
+        sessions,
+        mut notes,
+    } = job;
+    let mut desks = Vec::new(alloc);
+    for session in sessions {
+        desks.push(HubDesk::new(rt, hub, session, users, routes))?;
+    }
+    play_rounds(alloc, desks.as_mut_slice(), &mut notes, phase)?;
+    let mut sessions = Vec::new(alloc);
+    for desk in desks {
+        sessions.push(desk.into_session())?;
+    }
+    Ok(Job { sessions, notes })
+}
+
 /// Plays the lines of a phase that are of the job's sessions.
 pub fn play_job<N: HubName, R: Wait + Drop, W: Wait>(
     rt: &W,
@@ -143,19 +169,6 @@ pub fn play_job<N: HubName, R: Wait + Drop, W: Wait>(
     job: Job<MapSession<N>>,
     phase: &Phase<'_>,
 ) -> Result<Job<MapSession<N>>, RowFault> {
-    let Job {
-        sessions,
-        mut notes,
-    } = job;
     let routes = Routes::new(alloc)?;
-    let mut desks = Vec::new(alloc);
-    for session in sessions {
-        desks.push(HubDesk::new(rt, hub, session, users, &routes))?;
-    }
-    play_rounds(alloc, desks.as_mut_slice(), &mut notes, phase)?;
-    let mut sessions = Vec::new(alloc);
-    for desk in desks {
-        sessions.push(desk.into_session())?;
-    }
-    Ok(Job { sessions, notes })
+    play_over(rt, alloc, hub, users, &routes, job, phase)
 }
