@@ -91,8 +91,10 @@ def main() -> None:
             times = words.searches if wanted <= 10_000 else max(1, words.searches // 20)
             paths = (f"notes?bbox={box}" for box in boxes(EDGE, side_of(words.notes, wanted), times))
             print(f"a square of {wanted:,} notes on average: {timed(link, paths, 'notes')}")
-        fill(link, words.text)
         link.close()
+        writer = Link(server.port, "alicetoken")
+        fill(writer, words.text)
+        writer.close()
 
 
 if __name__ == "__main__":
