@@ -14,6 +14,7 @@ ghost use Rattle.http_wire.specs.declared.message.Message.{Message};
 ghost use Rattle.osm_model.specs.declared.commands.Entry.{Entry};
 ghost use Rattle.user_table.specs.Users.{Users};
 ghost use Rattle.api_desk.specs.Answers.{reply_of, AnswersAlone};
+ghost use Rattle.api_desk.specs.Desk.{Allows};
 ghost use Rattle.api_desk.specs.Feed.{says};
 ghost use Rattle.api_desk.specs.Gives.{shown_request};
 ghost use Rattle.api_desk.specs.Request.{request_of};
@@ -77,31 +78,6 @@ pub fn query_reply<L: Ledger>(
 {
     let answer = MapMachine::ask(alloc, book.world(), &query, moment, steps)?;
     Ok(reply_from(answer))
-}
-
-/// Answers one request of a session, on a ledger of its own.
-fn answer_on<L: Ledger>(
-    book: &mut Book<MapMachine>,
-    alloc: Global,
-    routes: &Routes,
-    users: &UserTable,
-    session: u32,
-    message: &Message,
-    moment: u64,
-    blank: Blank,
-) -> Result<Reply, Memory>
-    requires name { blank.name ≡ L.name }
-    requires parts { blank.parts ≡ L.parts }
-    requires some { 0 < blank.parts }
-    ensures answers { AnswersAlone users.now session book.old book.new message.now moment (counted_reply result) }
-    ensures status { IfOk result (λ reply. IsStatus reply.status) }
-{
-    let (ledger, share) = blank.open::<L>();
-    let mut steps = Steps::of(ledger, share);
-    match request_of(alloc, message, routes, users) {
-        Ok(request) => answer_request(book, alloc, session, request, moment, &mut steps),
-        Err(fault) => refuse(alloc, fault),
-    }
 }
 
 /// Does what is asked.
@@ -183,6 +159,32 @@ impl<'a> OneDesk<'a> {
     {
         self.book.world().world()
     }
+
+    /// Answers one request, on a ledger of its own.
+    fn answer_on<L: Ledger>(
+        &mut self,
+        alloc: Global,
+        message: &Message,
+        moment: u64,
+        blank: Blank,
+    ) -> Result<Reply, Memory>
+        requires name { blank.name ≡ L.name }
+        requires parts { blank.parts ≡ L.parts }
+        requires some { 0 < blank.parts }
+        ensures allows { Allows self.old message.now moment (counted_reply result) self.new }
+        ensures status { IfOk result (λ reply. IsStatus reply.status) }
+    {
+        let (ledger, share) = blank.open::<L>();
+        let mut steps = Steps::of(ledger, share);
+        let reply = match request_of(alloc, message, &self.routes, self.users) {
+            Ok(request) => {
+                answer_request(self.book, alloc, self.session, request, moment, &mut steps)
+            }
+            Err(fault) => refuse(alloc, fault),
+        };
+        book_law(self.book);
+        reply
+    }
 }
 
 impl Desk for OneDesk<'_> {
@@ -191,17 +193,6 @@ impl Desk for OneDesk<'_> {
     ghost allows = { λ old message moment reply new. Allows old message moment reply new };
 
     fn answer(&mut self, alloc: Global, message: Message, moment: u64) -> Result<Reply, Memory> {
-        let reply = answer_on::<Brand>(
-            self.book,
-            alloc,
-            &self.routes,
-            self.users,
-            self.session,
-            &message,
-            moment,
-            Blank::new(1),
-        );
-        book_law(self.book);
-        reply
+        self.answer_on::<Brand>(alloc, &message, moment, Blank::new(1))
     }
 }

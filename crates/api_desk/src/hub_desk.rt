@@ -16,7 +16,7 @@ ghost use Rattle.desk_parts.specs.Replies.{TellsStatus};
 ghost use Rattle.api_desk.specs.Gives.{shown_request};
 ghost use Rattle.api_desk.specs.MachineRows.{TellsBytes};
 ghost use Rattle.api_desk.specs.Request.{request_of};
-ghost use Rattle.api_desk.specs.HubDesk.{MapReplies};
+ghost use Rattle.api_desk.specs.HubDesk.{MapReplies, AllowsMap};
 
 use crate::answers::refuse;
 use crate::hub_feed::answer_feed;
@@ -83,39 +83,6 @@ fn answer_request<N: HubName, G: Gate + Drop, R: Wait + Drop, W: Wait, L: Ledger
     }
 }
 
-/// Answers one message, on a ledger of its own. The gate is told of the reply to each that is no
-/// refusal by itself.
-fn answer_on<N: HubName, G: Gate + Drop, R: Wait + Drop, W: Wait, L: Ledger>(
-    rt: &W,
-    hub: &MapHub<N, G, R>,
-    session: &mut MapSession<N>,
-    alloc: Global,
-    routes: &Routes,
-    users: &UserTable,
-    message: &Message,
-    moment: u64,
-    blank: Blank,
-) -> Result<Reply, Memory>
-    requires name { blank.name ≡ L.name }
-    requires parts { blank.parts ≡ L.parts }
-    requires some { 0 < blank.parts }
-    ensures answers { MapReplies users.now session.old message.now moment (counted_reply result) session.new }
-    ensures status { IfOk result (λ reply. IsStatus reply.status) }
-{
-    let (ledger, share) = blank.open::<L>();
-    let mut steps = Steps::of(ledger, share);
-    match request_of(alloc, message, routes, users) {
-        Ok(request) => {
-            let reply = answer_request(rt, hub, session, alloc, request, moment, &mut steps);
-            hub.gate().at(Point::Answered {
-                session: session.number(),
-            });
-            reply
-        }
-        Err(fault) => refuse(alloc, fault),
-    }
-}
-
 /// A law: the front of a session is legal, and every beginning of it leaves a consistent map.
 pub(crate) fn map_law<N: HubName, S: Snapshot<N, MapMachine>>(session: &Session<N, MapMachine, S>)
     ensures legal { is_legal_from empty session.now.front ≡ true }
@@ -173,6 +140,37 @@ impl<'a, N: HubName, G: Gate + Drop, R: Wait + Drop, W: Wait> HubDesk<'a, N, G, 
     {
         &self.session
     }
+
+    /// Answers one message, on a ledger of its own. The gate is told of the reply to each that is no
+    /// refusal by itself.
+    fn answer_on<L: Ledger>(
+        &mut self,
+        alloc: Global,
+        message: &Message,
+        moment: u64,
+        blank: Blank,
+    ) -> Result<Reply, Memory>
+        requires name { blank.name ≡ L.name }
+        requires parts { blank.parts ≡ L.parts }
+        requires some { 0 < blank.parts }
+        ensures allows { AllowsMap self.old message.now moment (counted_reply result) self.new }
+        ensures status { IfOk result (λ reply. IsStatus reply.status) }
+    {
+        let (ledger, share) = blank.open::<L>();
+        let mut steps = Steps::of(ledger, share);
+        match request_of(alloc, message, self.routes, self.users) {
+            Ok(request) => {
+                let session = &mut self.session;
+                let reply =
+                    answer_request(self.rt, self.hub, session, alloc, request, moment, &mut steps);
+                self.hub.gate().at(Point::Answered {
+                    session: self.session.number(),
+                });
+                reply
+            }
+            Err(fault) => refuse(alloc, fault),
+        }
+    }
 }
 
 impl<'a, N: HubName, G: Gate + Drop, R: Wait + Drop, W: Wait> Desk for HubDesk<'a, N, G, R, W> {
@@ -181,17 +179,7 @@ impl<'a, N: HubName, G: Gate + Drop, R: Wait + Drop, W: Wait> Desk for HubDesk<'
     ghost allows = { λ old message moment reply new. AllowsMap old message moment reply new };
 
     fn answer(&mut self, alloc: Global, message: Message, moment: u64) -> Result<Reply, Memory> {
-        answer_on::<N, G, R, W, Brand>(
-            self.rt,
-            self.hub,
-            &mut self.session,
-            alloc,
-            self.routes,
-            self.users,
-            &message,
-            moment,
-            Blank::new(1),
-        )
+        self.answer_on::<Brand>(alloc, &message, moment, Blank::new(1))
     }
 }
 

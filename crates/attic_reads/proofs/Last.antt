@@ -7,7 +7,7 @@ use Rattle.osm_base.specs.Outcome.{◌>>=◌, refuse_if}
 use Rattle.osm_base.specs.declared.keys.Key.{Key}
 use Rattle.osm_change.specs.declared.reads.ReadFault.{ReadFault}
 use Rattle.osm_change.specs.declared.reads.ReadFault.TheVariants as fault
-use Rattle.osm_change.specs.declared.reads.Shown.{Shown}
+use Rattle.osm_change.specs.declared.reads.VersionId.{VersionId}
 use Rattle.osm_element.specs.Elements.{history, version_in}
 use Rattle.osm_element.specs.declared.contents.Content.{Content}
 use Rattle.osm_element.specs.declared.elements.Elements.{Elements}
@@ -20,10 +20,10 @@ abbrev content_in : Option Version → Option (Content ℕ)
 content_in o = option_and_then (λ (v : Version). v.content) o
 
 -- by the number of versions and the last one
-abbrev one_by : Key → ℕ → Bool → Option Version → Result Shown ReadFault
+abbrev one_by : Key → ℕ → Bool → Option Version → Result VersionId ReadFault
 one_by k n none o =
     (refuse_if none (fault.NotFound k 0) >>= (λ (there : Unit {0}). refuse_if (not (is_some (content_in o))) (fault.Gone k n) >>= λ (seen : Unit {0}). Ok (shown k n)))
-    >>= λ (itself : Shown). refuse_if none (fault.NotFound k 0) >>= λ (there : Unit {0}). option_map_or (unless_hidden k n false) o (Err (fault.NotFound k n))
+    >>= λ (itself : VersionId). refuse_if none (fault.NotFound k 0) >>= λ (there : Unit {0}). option_map_or (unless_hidden k n false) o (Err (fault.NotFound k n))
 
 by-last : (k : Key) (n : ℕ) (none : Bool) (o : Option Version) → (none ≡ true → o ≡ None) → (none ≡ false → o ≡ None → ⊥) → one_by k n none o ≡ option_map_or (last_shown k n) o (Err (fault.NotFound k 0))
 by-last k n true o nothing something = ap (λ (p : Option Version). option_map_or (last_shown k n) p (Err (fault.NotFound k 0))) (sym (nothing refl))
@@ -31,7 +31,7 @@ by-last k n false None nothing something = absurd (something refl refl)
 by-last k n false (Some v) nothing something = along v.content
   where
     along : (c : Option (Content ℕ))
-        → ((refuse_if (not (is_some c)) (fault.Gone k n) >>= λ (seen : Unit {0}). Ok (shown k n)) >>= λ (itself : Shown). unless_hidden k n false v)
+        → ((refuse_if (not (is_some c)) (fault.Gone k n) >>= λ (seen : Unit {0}). Ok (shown k n)) >>= λ (itself : VersionId). unless_hidden k n false v)
         ≡ (if is_some c then unless_hidden k n false v else Err (fault.Gone k n))
     along None = refl
     along (Some c) = refl
@@ -56,7 +56,7 @@ one-last E k = let vs = history E k in by-last k (length vs) (length vs == 0) (v
 
 -- ---- what is shown of it
 
-abbrev shown_of : Result Shown ReadFault → Option Shown
+abbrev shown_of : Result VersionId ReadFault → Option VersionId
 shown_of (Ok s) = Some s
 shown_of (Err f) = None
 
@@ -77,8 +77,8 @@ shown-last k n (Some v) = along v.content v.redaction
 pub one-shown : (E : Elements) (k : Key) → shown_of (one_unmarked E k) ≡ (if is_last_shown E k then Some (current_shown E k) else None)
 one-shown E k = let vs = history E k in ap shown_of (one-last E k) ∙ shown-last k (length vs) (version_in vs (length vs))
 
-pub shown-Ok : (E : Elements) (k : Key) (s : Shown) → Ok s ≡ one_unmarked E k → Some s ≡ (if is_last_shown E k then Some (current_shown E k) else None)
+pub shown-Ok : (E : Elements) (k : Key) (s : VersionId) → Ok s ≡ one_unmarked E k → Some s ≡ (if is_last_shown E k then Some (current_shown E k) else None)
 shown-Ok E k s e = ap shown_of e ∙ one-shown E k
 
-pub shown-Err : (E : Elements) (k : Key) (f : ReadFault) → Err f ≡ one_unmarked E k → ◌≡◌ {A = Option Shown} None (if is_last_shown E k then Some (current_shown E k) else None)
+pub shown-Err : (E : Elements) (k : Key) (f : ReadFault) → Err f ≡ one_unmarked E k → ◌≡◌ {A = Option VersionId} None (if is_last_shown E k then Some (current_shown E k) else None)
 shown-Err E k f e = ap shown_of e ∙ one-shown E k

@@ -9,7 +9,7 @@ use Rattle.osm_base.specs.declared.keys.Key.{Key}
 use Rattle.osm_base.specs.declared.keys.Kind.{Kind}
 use Rattle.osm_change.specs.declared.reads.ReadFault.{ReadFault}
 use Rattle.osm_change.specs.declared.reads.ReadFault.TheVariants as fault
-use Rattle.osm_change.specs.declared.reads.Shown.{Shown}
+use Rattle.osm_change.specs.declared.reads.VersionId.{VersionId}
 use Rattle.osm_element.specs.Elements.{history, version_in, current, position_in, refs_in}
 use Rattle.osm_element.specs.declared.contents.Content.{Content}
 use Rattle.osm_element.specs.declared.elements.Elements.{Elements}
@@ -29,11 +29,11 @@ AreInOrder E = (k : Key) → IsNonDecreasingBy stamp_of (history E k)
 -- ---- for private clauses
 
 -- a version, if it is visible and not marked
-abbrev pub last_shown : Key → ℕ → Version → Result Shown ReadFault
+abbrev pub last_shown : Key → ℕ → Version → Result VersionId ReadFault
 last_shown k n v = if is_some v.content then unless_hidden k n false v else Err (fault.Gone k n)
 
 -- the last of an element's versions
-abbrev pub last_in : Key → List Version → Result Shown ReadFault
+abbrev pub last_in : Key → List Version → Result VersionId ReadFault
 last_in k vs = option_map_or (last_shown k (length vs)) (version_in vs (length vs)) (Err (fault.NotFound k 0))
 
 -- what a version holds, if it isn't marked

@@ -8,13 +8,13 @@ ghost use Rattle.attic_reads.specs.Attic.{AreInOrder, last_in, last_shown};
 use crate::histories::versions_at;
 use history_store::Store;
 use osm_base::Key;
-use osm_change::{ReadFault, Shown};
+use osm_change::{ReadFault, VersionId};
 use osm_element::Version;
 use osm_world::World;
 
 /// The last of the versions that an element had by a stamp of `at`. A mark of now hides it from
 /// everybody.
-pub fn one_at(world: &World, key: Key, at: u64) -> Result<Shown, ReadFault>
+pub fn one_at(world: &World, key: Key, at: u64) -> Result<VersionId, ReadFault>
     ensures { result ≡ one_at (state_of world.now) key at }
 {
     world.laws();
@@ -22,7 +22,7 @@ pub fn one_at(world: &World, key: Key, at: u64) -> Result<Shown, ReadFault>
 }
 
 /// The same of a store.
-pub fn one(store: &Store, key: Key, at: u64) -> Result<Shown, ReadFault>
+pub fn one(store: &Store, key: Key, at: u64) -> Result<VersionId, ReadFault>
     requires { AreInOrder store.now.elements }
     ensures { result ≡ one_unmarked (elements_by at store.now.elements) key }
 {
@@ -30,7 +30,7 @@ pub fn one(store: &Store, key: Key, at: u64) -> Result<Shown, ReadFault>
 }
 
 /// The last of an element's versions, if it is visible and not marked.
-fn last_in(key: Key, versions: &[Version]) -> Result<Shown, ReadFault>
+fn last_in(key: Key, versions: &[Version]) -> Result<VersionId, ReadFault>
     ensures { result ≡ last_in key versions.now }
 {
     let number = versions.len() as u64;
@@ -41,7 +41,7 @@ fn last_in(key: Key, versions: &[Version]) -> Result<Shown, ReadFault>
 }
 
 /// A version, if it is visible and not marked.
-fn shown_or_not(key: Key, number: u64, version: &Version) -> Result<Shown, ReadFault>
+fn shown_or_not(key: Key, number: u64, version: &Version) -> Result<VersionId, ReadFault>
     ensures { result ≡ last_shown key number version.now }
 {
     if version.content.is_none() {
@@ -51,7 +51,7 @@ fn shown_or_not(key: Key, number: u64, version: &Version) -> Result<Shown, ReadF
         });
     }
     match version.redaction {
-        None => Ok(Shown { key, number }),
+        None => Ok(VersionId { key, number }),
         Some(redaction) => Err(ReadFault::Redacted {
             key,
             version: number,
@@ -61,7 +61,7 @@ fn shown_or_not(key: Key, number: u64, version: &Version) -> Result<Shown, ReadF
 }
 
 /// An element as it was, if it is shown.
-pub fn shown(store: &Store, key: Key, at: u64) -> Option<Shown>
+pub fn shown(store: &Store, key: Key, at: u64) -> Option<VersionId>
     requires { AreInOrder store.now.elements }
     ensures { result ≡ (if is_last_shown (elements_by at store.now.elements) key
         then Some (current_shown (elements_by at store.now.elements) key) else None) }

@@ -13,7 +13,7 @@ use crate::elements::{one, shown};
 use crate::histories::content_at;
 use history_store::Store;
 use osm_base::{Items, Key, Kind, Memory};
-use osm_change::{ReadFault, Shown};
+use osm_change::{ReadFault, VersionId};
 use osm_world::World;
 use rising_lists::keys_sorted_once;
 use std::alloc::Global;
@@ -21,7 +21,12 @@ use std::alloc::Global;
 /// An element as `one_at` shows it, with what it listed then and the nodes of the ways that it
 /// listed, in the order of keys. Those of them that are hidden are left out, and so is what a way
 /// had that is hidden.
-pub fn full_at(alloc: Global, world: &World, key: Key, at: u64) -> Result<Items<Shown>, ReadFault>
+pub fn full_at(
+    alloc: Global,
+    world: &World,
+    key: Key,
+    at: u64,
+) -> Result<Items<VersionId>, ReadFault>
     ensures { IsRead (full_at (state_of world.now) key at) result }
 {
     world.laws();
@@ -32,7 +37,7 @@ pub fn full_at(alloc: Global, world: &World, key: Key, at: u64) -> Result<Items<
 }
 
 /// The element with what it listed, each that is shown.
-fn with_listed(alloc: Global, store: &Store, key: Key, at: u64) -> Result<Items<Shown>, Memory>
+fn with_listed(alloc: Global, store: &Store, key: Key, at: u64) -> Result<Items<VersionId>, Memory>
     requires { AreInOrder store.now.elements }
     ensures { IfOk result (λ found. found ≡ map (current_shown (elements_by at store.now.elements)) (filter
         (λ x. in_full_unmarked (elements_by at store.now.elements) key x && is_last_shown (elements_by at store.now.elements) x)
@@ -49,7 +54,7 @@ pub fn shown_of(
     store: &Store,
     listed: &[Key],
     at: u64,
-) -> Result<Items<Shown>, Memory>
+) -> Result<Items<VersionId>, Memory>
     requires { AreInOrder store.now.elements }
     ensures { IfOk result (λ found. found ≡ map (current_shown (elements_by at store.now.elements))
         (filter (is_last_shown (elements_by at store.now.elements)) listed.now)) }
@@ -62,7 +67,7 @@ pub fn shown_of(
 }
 
 /// Adds an element as it was, if it is shown.
-fn add_shown(store: &Store, key: Key, at: u64, found: &mut Vec<Shown>) -> Result<(), Memory>
+fn add_shown(store: &Store, key: Key, at: u64, found: &mut Vec<VersionId>) -> Result<(), Memory>
     requires { AreInOrder store.now.elements }
     ensures { IfOk result (λ _. found.new.items ≡ found.old.items ++ map (current_shown (elements_by at store.now.elements))
         (filter (is_last_shown (elements_by at store.now.elements)) (key ∷ []))) }

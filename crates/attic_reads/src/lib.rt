@@ -12,4 +12,4 @@ mod walks;
 pub use elements::one_at;
 pub use in_full::full_at;
 pub use maps::map_at;
-pub use osm_change::{MapFault, ReadFault, Shown};
+pub use osm_change::{MapFault, ReadFault, VersionId};

@@ -16,7 +16,7 @@ use crate::in_full::{refs_at, shown_of};
 use crate::walks::{nodes_in, users_among};
 use history_store::Store;
 use osm_base::{AREA_LIMIT, Box7, Items, Key, Kind, MAP_NODE_LIMIT, Memory};
-use osm_change::{MapFault, Shown};
+use osm_change::{MapFault, VersionId};
 use osm_world::World;
 use rising_lists::keys_sorted_once;
 use std::alloc::Global;
@@ -24,7 +24,12 @@ use std::alloc::Global;
 /// The map of a box as it was at a stamp, of the elements that are shown: nodes, ways and relations,
 /// each by id. It looks at the histories alone of nodes that ever lay in a cell that the box touches,
 /// of what ever listed them, of what that listed, and so on.
-pub fn map_at(alloc: Global, world: &World, within: Box7, at: u64) -> Result<Items<Shown>, MapFault>
+pub fn map_at(
+    alloc: Global,
+    world: &World,
+    within: Box7,
+    at: u64,
+) -> Result<Items<VersionId>, MapFault>
     ensures { (result ≡ map_at (state_of world.now) within at) ⊎ (result ≡ Err MapFault.Memory) }
 {
     let area = within.area();
@@ -47,7 +52,7 @@ fn shown_with(
     at: u64,
     within: &Box7,
     base: Vec<Key>,
-) -> Result<Items<Shown>, Memory>
+) -> Result<Items<VersionId>, Memory>
     requires rising { IsRising base.items }
     requires base { base.items ≡ nodes_in (elements_by at (state_of world.now).elements) within.now }
     ensures { IfOk result (λ found. found ≡ map (current_shown (elements_by at (state_of world.now).elements)) (filter

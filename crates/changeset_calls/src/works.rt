@@ -9,7 +9,7 @@ use crate::faults::ChangesetFault;
 use changeset_core::Work;
 use history_store::Store;
 use osm_base::{Items, Memory};
-use osm_change::Shown;
+use osm_change::VersionId;
 use osm_world::World;
 use std::alloc::Global;
 
@@ -23,12 +23,12 @@ fn is_unmarked(store: &Store, work: &Work) -> bool
 }
 
 /// Adds a version that was made, if it has no mark.
-fn add_work(store: &Store, work: &Work, found: &mut Vec<Shown>) -> Result<(), Memory>
+fn add_work(store: &Store, work: &Work, found: &mut Vec<VersionId>) -> Result<(), Memory>
     ensures { IfOk result (λ _. found.new.items ≡ found.old.items ++ map
         (λ w. shown w.key w.version) (filter (is_unmarked store.now.elements) (work.now ∷ []))) }
 {
     if is_unmarked(store, work) {
-        found.push(Shown {
+        found.push(VersionId {
             key: work.key,
             number: work.version,
         })?;
@@ -36,7 +36,7 @@ fn add_work(store: &Store, work: &Work, found: &mut Vec<Shown>) -> Result<(), Me
     Ok(())
 }
 
-fn unmarked(alloc: Global, store: &Store, works: &[Work]) -> Result<Items<Shown>, Memory>
+fn unmarked(alloc: Global, store: &Store, works: &[Work]) -> Result<Items<VersionId>, Memory>
     ensures { IfOk result (λ found. found ≡ map (λ w. shown w.key w.version) (filter (is_unmarked store.now.elements) works.now)) }
 {
     let mut found = Vec::with_capacity(alloc, works.len())?;
@@ -47,7 +47,7 @@ fn unmarked(alloc: Global, store: &Store, works: &[Work]) -> Result<Items<Shown>
 }
 
 /// The versions that a changeset made, deletions too, in that order. Redacted ones are left out.
-pub fn download(alloc: Global, world: &World, id: u64) -> Result<Items<Shown>, ChangesetFault>
+pub fn download(alloc: Global, world: &World, id: u64) -> Result<Items<VersionId>, ChangesetFault>
     ensures { IsFound (download (state_of world.now) id) result }
 {
     match world.changeset(id) {

@@ -4,7 +4,7 @@ ghost use Rattle.osm_change.specs.Moments.{HasShownMoments};
 ghost use Rattle.osm_change.specs.declared.answers.Answer.TheVariants as answers;
 ghost use Rattle.osm_change.specs.declared.reads.MapFault.{MapFault};
 ghost use Rattle.osm_change.specs.declared.reads.ReadFault.{ReadFault};
-ghost use Rattle.osm_change.specs.declared.reads.Shown.{Shown};
+ghost use Rattle.osm_change.specs.declared.reads.VersionId.{VersionId};
 ghost use Rattle.osm_model.specs.Ask.{ask, ask_at, elements_answer, one_answer, read_answer, map_refusal, map_answer, past_map_answer, changeset_answer, download_answer};
 ghost use Rattle.osm_model.specs.ChangesetReads.{read_changeset, download};
 ghost use Rattle.osm_model.specs.PastMap.{map_at};
@@ -17,7 +17,7 @@ use attic_reads::{full_at, map_at, one_at};
 use changeset_calls::{ChangesetFault, download, query, read};
 use map_call::map;
 use osm_base::{AREA_LIMIT, Box7, Items, MAP_NODE_LIMIT, Memory, Stamp, Steps};
-use osm_change::{Answer, MapFault, ReadFault, Refusal, Selection, Shown};
+use osm_change::{Answer, MapFault, ReadFault, Refusal, Selection, VersionId};
 use osm_model::{Query, answers_have_moments};
 use osm_world::World;
 use read_calls::{full, history, many, one, relations_of, version, ways_of};
@@ -94,7 +94,7 @@ fn ask_at<'a, L: Ledger>(
 fn elements_answer<'a>(
     alloc: Global,
     world: &'a World,
-    shown: &Items<Shown>,
+    shown: &Items<VersionId>,
 ) -> Result<Answer<'a>, Memory>
     ensures { IfOk result (λ answer. answer ≡ elements_answer (state_of world.now) shown.now) }
 {
@@ -105,7 +105,7 @@ fn elements_answer<'a>(
 fn one_answer<'a>(
     alloc: Global,
     world: &'a World,
-    read: Result<Shown, ReadFault>,
+    read: Result<VersionId, ReadFault>,
 ) -> Result<Answer<'a>, Memory>
     ensures { IfOk result (λ answer. answer ≡ one_answer (state_of world.now) read) }
 {
@@ -121,9 +121,9 @@ fn one_answer<'a>(
 fn read_answer<'a>(
     alloc: Global,
     world: &'a World,
-    read: Result<Items<Shown>, ReadFault>,
+    read: Result<Items<VersionId>, ReadFault>,
 ) -> Result<Answer<'a>, Memory>
-    ensures { (expected : Result (List Shown) ReadFault) → IsRead expected read → IfOk result
+    ensures { (expected : Result (List VersionId) ReadFault) → IsRead expected read → IfOk result
         (λ answer. answer ≡ read_answer (state_of world.now) expected) }
 {
     match read {
@@ -136,9 +136,9 @@ fn read_answer<'a>(
 fn users_answer<'a>(
     alloc: Global,
     world: &'a World,
-    users: Result<Items<Shown>, Memory>,
+    users: Result<Items<VersionId>, Memory>,
 ) -> Result<Answer<'a>, Memory>
-    ensures { (expected : List Shown) → IfOk users (λ shown. shown ≡ expected) → IfOk result
+    ensures { (expected : List VersionId) → IfOk users (λ shown. shown ≡ expected) → IfOk result
         (λ answer. answer ≡ elements_answer (state_of world.now) expected) }
 {
     match users {

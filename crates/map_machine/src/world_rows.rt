@@ -7,12 +7,12 @@ ghost use Rattle.osm_model.specs.Selection.{selected};
 ghost use Rattle.osm_world.specs.World.{state_of};
 
 use osm_base::{Items, Key, Kind, Memory};
-use osm_change::{ElementRow, ElementRows, Selection, Shown};
+use osm_change::{ElementRow, ElementRows, Selection, VersionId};
 use osm_world::World;
 use std::alloc::Global;
 
 /// A version with the owner of its changeset, where both are there.
-fn element_row(world: &World, shown: Shown) -> Option<ElementRow<'_>>
+fn element_row(world: &World, shown: VersionId) -> Option<ElementRow<'_>>
     ensures { result ≡ element_row (state_of world.now) shown }
 {
     let Some(version) = world.store().version(shown.key, shown.number) else {
@@ -30,7 +30,11 @@ fn element_row(world: &World, shown: Shown) -> Option<ElementRow<'_>>
 }
 
 /// Adds the row of a version, if there is one.
-fn add_row<'a>(world: &'a World, shown: Shown, rows: &mut Vec<ElementRow<'a>>) -> Result<(), Memory>
+fn add_row<'a>(
+    world: &'a World,
+    shown: VersionId,
+    rows: &mut Vec<ElementRow<'a>>,
+) -> Result<(), Memory>
     ensures { IfOk result (λ _. rows.new.items ≡ rows.old.items ++ filter_map (element_row (state_of world.now)) (shown ∷ [])) }
 {
     match element_row(world, shown) {
@@ -46,7 +50,7 @@ fn add_row<'a>(world: &'a World, shown: Shown, rows: &mut Vec<ElementRow<'a>>) -
 pub fn element_rows<'a>(
     alloc: Global,
     world: &'a World,
-    shown: &[Shown],
+    shown: &[VersionId],
 ) -> Result<ElementRows<'a>, Memory>
     ensures { IfOk result (λ rows. rows ≡ element_rows (state_of world.now) shown.now) }
 {
@@ -58,11 +62,11 @@ pub fn element_rows<'a>(
 }
 
 /// An element as it is now.
-fn current(world: &World, key: Key) -> Shown
+fn current(world: &World, key: Key) -> VersionId
     ensures { result ≡ current_shown (state_of world.now).elements key }
 {
     let number = world.store().count(key);
-    Shown { key, number }
+    VersionId { key, number }
 }
 
 /// Adds the row of each of some elements of a kind, as it is now.

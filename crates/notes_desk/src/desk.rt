@@ -9,7 +9,7 @@ ghost use Rattle.notes_core.specs.declared.commands.NoteEntry.{NoteEntry};
 ghost use Rattle.snapshot_hub.specs.Known.{Known};
 ghost use Rattle.user_table.specs.Users.{Users};
 ghost use Rattle.desk_parts.specs.Faults.{HasShownFault};
-ghost use Rattle.notes_desk.specs.Desk.{NoteReplies};
+ghost use Rattle.notes_desk.specs.Desk.{NoteReplies, AllowsNotes};
 ghost use Rattle.notes_desk.specs.Request.{notes_request_of, shown_request, GivesRequest};
 
 use crate::requests::{NoteRequest, notes_request_of};
@@ -85,37 +85,6 @@ fn refuse(alloc: Global, fault: RequestFault) -> Result<Reply, Memory>
     }
 }
 
-/// Answers one message, on a ledger of its own. The gate is told of the reply to a command or a query.
-fn answer_on<N: HubName, G: Gate + Drop, R: Wait + Drop, W: Wait, L: Ledger>(
-    rt: &W,
-    hub: &NotesHub<N, G, R>,
-    session: &mut NotesSession<N>,
-    alloc: Global,
-    users: &UserTable,
-    message: &Message,
-    moment: u64,
-    blank: Blank,
-) -> Result<Reply, Memory>
-    requires name { blank.name ≡ L.name }
-    requires parts { blank.parts ≡ L.parts }
-    requires some { 0 < blank.parts }
-    ensures answers { NoteReplies users.now session.old message.now moment (counted_reply result) session.new }
-    ensures status { IfOk result (λ reply. IsStatus reply.status) }
-{
-    let (ledger, share) = blank.open::<L>();
-    let mut steps = Steps::of(ledger, share);
-    match notes_request_of(alloc, message, users) {
-        Ok(request) => {
-            let reply = answer_request(rt, hub, session, request, moment, &mut steps);
-            hub.gate().at(Point::Answered {
-                session: session.number(),
-            });
-            reply
-        }
-        Err(fault) => refuse(alloc, fault),
-    }
-}
-
 /// Answers the messages of one session of a hub, which it keeps. Contracts see it as the users and
 /// what the session knows.
 ///
@@ -154,6 +123,35 @@ impl<'a, N: HubName, G: Gate + Drop, R: Wait + Drop, W: Wait> NotesDesk<'a, N, G
             users,
         }
     }
+
+    /// Answers one message, on a ledger of its own. The gate is told of the reply to a command or a query.
+    fn answer_on<L: Ledger>(
+        &mut self,
+        alloc: Global,
+        message: &Message,
+        moment: u64,
+        blank: Blank,
+    ) -> Result<Reply, Memory>
+        requires name { blank.name ≡ L.name }
+        requires parts { blank.parts ≡ L.parts }
+        requires some { 0 < blank.parts }
+        ensures allows { AllowsNotes self.old message.now moment (counted_reply result) self.new }
+        ensures status { IfOk result (λ reply. IsStatus reply.status) }
+    {
+        let (ledger, share) = blank.open::<L>();
+        let mut steps = Steps::of(ledger, share);
+        match notes_request_of(alloc, message, self.users) {
+            Ok(request) => {
+                let session = &mut self.session;
+                let reply = answer_request(self.rt, self.hub, session, request, moment, &mut steps);
+                self.hub.gate().at(Point::Answered {
+                    session: self.session.number(),
+                });
+                reply
+            }
+            Err(fault) => refuse(alloc, fault),
+        }
+    }
 }
 
 impl<'a, N: HubName, G: Gate + Drop, R: Wait + Drop, W: Wait> Desk for NotesDesk<'a, N, G, R, W> {
@@ -162,16 +160,7 @@ impl<'a, N: HubName, G: Gate + Drop, R: Wait + Drop, W: Wait> Desk for NotesDesk
     ghost allows = { λ old message moment reply new. AllowsNotes old message moment reply new };
 
     fn answer(&mut self, alloc: Global, message: Message, moment: u64) -> Result<Reply, Memory> {
-        answer_on::<N, G, R, W, Brand>(
-            self.rt,
-            self.hub,
-            &mut self.session,
-            alloc,
-            self.users,
-            &message,
-            moment,
-            Blank::new(1),
-        )
+        self.answer_on::<Brand>(alloc, &message, moment, Blank::new(1))
     }
 }
 

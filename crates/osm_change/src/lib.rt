@@ -25,6 +25,6 @@ pub use listed::kind_of;
 pub use names::said_made;
 pub use operations::{FirstIds, Name, Named, Op, OpDone, OpDones};
 pub use raw::{Action, RawOp};
-pub use reads::{MapFault, ReadFault, Selection, Shown};
+pub use reads::{MapFault, ReadFault, Selection, VersionId};
 pub use refusals::{Refusal, Said};
 pub use single::OneOp;

@@ -8,7 +8,7 @@ use osm_base::{Ids, Key, Memory};
 
 /// One version of an element, as a read shows it.
 #[derive(Clone, Copy)]
-pub struct Shown {
+pub struct VersionId {
     pub key: Key,
     pub number: u64,
 }

@@ -17,7 +17,7 @@ use Rattle.osm_change.specs.declared.reads.MapFault.TheVariants as unmapped
 use Rattle.osm_change.specs.declared.reads.ReadFault.{ReadFault}
 use Rattle.osm_change.specs.declared.reads.ReadFault.TheVariants as unread
 use Rattle.osm_change.specs.declared.reads.Selection.{Selection}
-use Rattle.osm_change.specs.declared.reads.Shown.{Shown}
+use Rattle.osm_change.specs.declared.reads.VersionId.{VersionId}
 use Rattle.osm_change.specs.declared.refusals.Refusal.TheVariants as refused
 use Rattle.osm_change.specs.declared.refusals.Said.TheVariants.{Id}
 use Rattle.changeset_core.specs.Timely.{IsTimelyRecord}
@@ -46,7 +46,7 @@ all_with P (Some x) xs first rest = All-cons P x xs first rest
 
 -- ---- rows of elements
 
-element_shown : (P : State) (s : Shown) → IsTimely P → IfSome (element_row P s) HasShownStamp
+element_shown : (P : State) (s : VersionId) → IsTimely P → IfSome (element_row P s) HasShownStamp
 element_shown P s timely = of_version (version P.elements s.key s.number) refl
   where
     row_of : Version → ChangesetRecord → ElementRow
@@ -60,7 +60,7 @@ element_shown P s timely = of_version (version P.elements s.key s.number) refl
     of_version None found = tt
     of_version (Some v) found = of_owner v (timely.versions.each s.key s.number v found) (changeset P v.changeset)
 
-rows_shown : (P : State) (ss : List Shown) → IsTimely P → All HasShownStamp (element_rows P ss)
+rows_shown : (P : State) (ss : List VersionId) → IsTimely P → All HasShownStamp (element_rows P ss)
 rows_shown P [] timely = none_of HasShownStamp
 rows_shown P (s ∷ ss) timely = all_with HasShownStamp (element_row P s) (element_rows P ss) (element_shown P s timely) (rows_shown P ss timely)
 
@@ -86,11 +86,11 @@ map_refusal_shown unmapped.Memory = tt
 
 -- ---- answers
 
-one_shown : (P : State) (r : Result Shown ReadFault) → IsTimely P → HasShownMoments (one_answer P r)
+one_shown : (P : State) (r : Result VersionId ReadFault) → IsTimely P → HasShownMoments (one_answer P r)
 one_shown P (Ok s) timely = rows_shown P (s ∷ []) timely
 one_shown P (Err f) timely = read_refusal_shown f
 
-read_shown : (P : State) (r : Result (List Shown) ReadFault) → IsTimely P → HasShownMoments (read_answer P r)
+read_shown : (P : State) (r : Result (List VersionId) ReadFault) → IsTimely P → HasShownMoments (read_answer P r)
 read_shown P (Ok ss) timely = rows_shown P ss timely
 read_shown P (Err f) timely = read_refusal_shown f
 
@@ -98,7 +98,7 @@ map_shown : (P : State) (a : Area) (r : Result Selection MapFault) → IsTimely 
 map_shown P a (Ok S) timely = rows_shown P (selected P.elements S) timely
 map_shown P a (Err f) timely = map_refusal_shown f
 
-past_map_shown : (P : State) (a : Area) (r : Result (List Shown) MapFault) → IsTimely P → HasShownMoments (past_map_answer P a r)
+past_map_shown : (P : State) (a : Area) (r : Result (List VersionId) MapFault) → IsTimely P → HasShownMoments (past_map_answer P a r)
 past_map_shown P a (Ok ss) timely = rows_shown P ss timely
 past_map_shown P a (Err f) timely = map_refusal_shown f
 
@@ -124,7 +124,7 @@ changesets_shown P t (c ∷ ids) timely =
 download_shown : (P : State) (c : ℕ) → IsTimely P → HasShownMoments (download_answer P (download P c))
 download_shown P c timely = of_record (changeset P c)
   where
-    works : ChangesetRecord → List Shown
+    works : ChangesetRecord → List VersionId
     works r = map (λ w. shown w.key w.version) (filter (is_unmarked P.elements) r.did)
 
     of_record : (o : Option ChangesetRecord) → HasShownMoments (download_answer P (option_map_or (λ r. Ok (works r)) o (Err (refused.NoChangeset c))))

@@ -13,7 +13,7 @@ use Rattle.osm_change.specs.declared.reads.MapFault.{MapFault}
 use Rattle.osm_change.specs.declared.reads.MapFault.TheVariants as unmapped
 use Rattle.osm_change.specs.declared.reads.ReadFault.{ReadFault}
 use Rattle.osm_change.specs.declared.reads.Selection.{Selection}
-use Rattle.osm_change.specs.declared.reads.Shown.{Shown}
+use Rattle.osm_change.specs.declared.reads.VersionId.{VersionId}
 use Rattle.osm_change.specs.declared.refusals.Refusal.{Refusal}
 use Rattle.osm_change.specs.declared.refusals.Refusal.TheVariants as refused
 use Rattle.osm_model.specs.declared.queries.Query.{Query}
@@ -29,13 +29,13 @@ use Rattle.osm_model.specs.State.{changeset}
 -- ---- rows of elements
 
 -- a version with the owner of its changeset, where both are there
-abbrev pub element_row : State → Shown → Option ElementRow
+abbrev pub element_row : State → VersionId → Option ElementRow
 element_row P s =
     option_and_then
     (λ v. option_map (λ r. record { key = s.key; number = s.number; version = v; owner = r.owner }) (changeset P v.changeset))
     (version P.elements s.key s.number)
 
-abbrev pub element_rows : State → List Shown → List ElementRow
+abbrev pub element_rows : State → List VersionId → List ElementRow
 element_rows P ss = filter_map (element_row P) ss
 
 -- ---- refusals
@@ -48,14 +48,14 @@ map_refusal unmapped.Memory = refused.NoPath
 
 -- ---- answers
 
-abbrev pub elements_answer : State → List Shown → Answer
+abbrev pub elements_answer : State → List VersionId → Answer
 elements_answer P ss = answer.Elements None (element_rows P ss)
 
-abbrev pub read_answer : State → Result (List Shown) ReadFault → Answer
+abbrev pub read_answer : State → Result (List VersionId) ReadFault → Answer
 read_answer P (Ok ss) = elements_answer P ss
 read_answer P (Err fault) = answer.Refused (read_refusal fault)
 
-abbrev pub one_answer : State → Result Shown ReadFault → Answer
+abbrev pub one_answer : State → Result VersionId ReadFault → Answer
 one_answer P (Ok s) = elements_answer P (s ∷ [])
 one_answer P (Err fault) = answer.Refused (read_refusal fault)
 
@@ -65,7 +65,7 @@ map_answer P a (Ok S) = answer.Elements (Some a) (element_rows P (selected P.ele
 map_answer P a (Err fault) = answer.Refused (map_refusal fault)
 
 -- so is the map of an earlier stamp
-abbrev pub past_map_answer : State → Area → Result (List Shown) MapFault → Answer
+abbrev pub past_map_answer : State → Area → Result (List VersionId) MapFault → Answer
 past_map_answer P a (Ok ss) = answer.Elements (Some a) (element_rows P ss)
 past_map_answer P a (Err fault) = answer.Refused (map_refusal fault)
 
@@ -73,7 +73,7 @@ abbrev pub changeset_answer : Result ChangesetRow Refusal → Answer
 changeset_answer (Ok row) = answer.Changeset row
 changeset_answer (Err r) = answer.Refused r
 
-abbrev pub download_answer : State → Result (List Shown) Refusal → Answer
+abbrev pub download_answer : State → Result (List VersionId) Refusal → Answer
 download_answer P (Ok ss) = answer.Change (element_rows P ss)
 download_answer P (Err r) = answer.Refused r
 

@@ -6,7 +6,7 @@ use Rattle.osm_base.specs.declared.limits.TheConstants.{QUERY_LIMIT}
 use Rattle.osm_element.specs.Elements.{version}
 use Rattle.osm_element.specs.declared.elements.Elements.{Elements}
 use Rattle.osm_change.specs.declared.answers.ChangesetRow.{ChangesetRow}
-use Rattle.osm_change.specs.declared.reads.Shown.{Shown}
+use Rattle.osm_change.specs.declared.reads.VersionId.{VersionId}
 use Rattle.osm_change.specs.declared.refusals.Refusal.{Refusal}
 use Rattle.osm_change.specs.declared.refusals.Refusal.TheVariants.{NoChangeset}
 use Rattle.changeset_core.specs.Changeset.{is_open}
@@ -55,6 +55,6 @@ abbrev pub is_unmarked : Elements → Work → Bool
 is_unmarked E w = option_map_or (λ v. not (is_some v.redaction)) (version E w.key w.version) false
 
 -- the versions that a changeset made, in that order, without marked ones
-abbrev pub download : State → ℕ → Result (List Shown) Refusal
+abbrev pub download : State → ℕ → Result (List VersionId) Refusal
 download P c =
     option_map_or (λ r. Ok (map (λ w. shown w.key w.version) (filter (is_unmarked P.elements) r.did))) (changeset P c) (Err (NoChangeset c))

@@ -8,7 +8,7 @@ use Rattle.osm_element.specs.Elements.{count, is_visible, keys, refs_of}
 use Rattle.osm_element.specs.declared.elements.Elements.{Elements}
 use Rattle.osm_element.specs.declared.versions.Version.{Version}
 use Rattle.osm_change.specs.declared.reads.ReadFault.{ReadFault}
-use Rattle.osm_change.specs.declared.reads.Shown.{Shown}
+use Rattle.osm_change.specs.declared.reads.VersionId.{VersionId}
 use Rattle.osm_model.specs.declared.commands.Entry.{Entry}
 use Rattle.osm_model.specs.declared.states.State.{State}
 use Rattle.osm_model.specs.Reads.{current_shown, one, numbered, is_shown, is_way, way_refs}
@@ -70,7 +70,7 @@ abbrev pub is_last_shown : Elements → Key → Bool
 is_last_shown E k = is_visible E k && is_shown E k false (count E k)
 
 -- as a read of an element, but the last version is hidden where it is marked
-abbrev pub one_unmarked : Elements → Key → Result Shown ReadFault
+abbrev pub one_unmarked : Elements → Key → Result VersionId ReadFault
 one_unmarked E k = one E k >>= λ itself. numbered E k (count E k) false
 
 -- what a way that is shown lists, and nothing for another element
@@ -86,11 +86,11 @@ abbrev pub in_full_unmarked : Elements → Key → Key → Bool
 in_full_unmarked E k x = key_eq x k || (lists_key (refs_of E k) x || shown_way_lists E k x)
 
 -- Those of them that are shown. A way with a mark is hidden with what it lists.
-abbrev pub full_unmarked : Elements → Key → Result (List Shown) ReadFault
+abbrev pub full_unmarked : Elements → Key → Result (List VersionId) ReadFault
 full_unmarked E k = one_unmarked E k >>= λ itself. Ok (map (current_shown E) (filter (λ x. in_full_unmarked E k x && is_last_shown E x) (keys E)))
 
-abbrev pub one_at : State → Key → ℕ → Result Shown ReadFault
+abbrev pub one_at : State → Key → ℕ → Result VersionId ReadFault
 one_at P k t = one_unmarked (past P t).elements k
 
-abbrev pub full_at : State → Key → ℕ → Result (List Shown) ReadFault
+abbrev pub full_at : State → Key → ℕ → Result (List VersionId) ReadFault
 full_at P k t = full_unmarked (past P t).elements k

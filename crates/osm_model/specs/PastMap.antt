@@ -12,7 +12,7 @@ use Rattle.osm_element.specs.Elements.{histories, keys_to, keys, refs_of, positi
 use Rattle.osm_element.specs.declared.elements.Elements.{Elements}
 use Rattle.osm_change.specs.declared.reads.MapFault.{MapFault}
 use Rattle.osm_change.specs.declared.reads.MapFault.TheVariants.{TooLarge, TooMany}
-use Rattle.osm_change.specs.declared.reads.Shown.{Shown}
+use Rattle.osm_change.specs.declared.reads.VersionId.{VersionId}
 use Rattle.osm_model.specs.declared.states.State.{State}
 use Rattle.osm_model.specs.Past.{past, is_last_shown}
 use Rattle.osm_model.specs.Reads.{current_shown}
@@ -56,11 +56,11 @@ is_on_map E a k =
     || (lists_key (ways_over E a) k || (lists_key (first_relations E a) k || lists_key (users_among E Relation (first_relations E a)) k))
 
 -- the area of the box is tested before the number of nodes in it; nodes, then ways, then relations, each by id
-abbrev pub map_shown : Elements → Area → Result (List Shown) MapFault
+abbrev pub map_shown : Elements → Area → Result (List VersionId) MapFault
 map_shown E a =
     if nat_lt AREA_LIMIT (square_units a) then Err (TooLarge (square_units a))
     else if nat_lt MAP_NODE_LIMIT (length (nodes_in E a)) then Err (TooMany (length (nodes_in E a)))
     else Ok (map (current_shown E) (filter (is_on_map E a) (keys E)))
 
-abbrev pub map_at : State → Area → ℕ → Result (List Shown) MapFault
+abbrev pub map_at : State → Area → ℕ → Result (List VersionId) MapFault
 map_at P a t = map_shown (past P t).elements a

@@ -12,7 +12,7 @@ use Rattle.osm_element.specs.declared.elements.Elements.{Elements}
 use Rattle.osm_change.specs.declared.reads.MapFault.{MapFault}
 use Rattle.osm_change.specs.declared.reads.MapFault.TheVariants.{TooLarge, TooMany}
 use Rattle.osm_change.specs.declared.reads.Selection.{Selection}
-use Rattle.osm_change.specs.declared.reads.Shown.{Shown}
+use Rattle.osm_change.specs.declared.reads.VersionId.{VersionId}
 use Rattle.osm_model.specs.Reads.{ids_of, current_shown}
 
 -- the first is visible and lists the second
@@ -56,7 +56,7 @@ map_of E a =
     else Ok (selection E a)
 
 -- nodes, then ways, then relations, each by id
-abbrev pub selected : Elements → Selection → List Shown
+abbrev pub selected : Elements → Selection → List VersionId
 selected E S =
     map (λ n. current_shown E (key Node n)) S.nodes
     ++ (map (λ w. current_shown E (key Way w)) S.ways ++ map (λ r. current_shown E (key Relation r)) S.relations)

@@ -2,7 +2,7 @@
 ghost use Rattle.std.specs.Prelude.{◌≡◌, ◌≢◌, List, Result, IfOk};
 ghost use Rattle.osm_change.specs.Moments.{HasShownMoments};
 ghost use Rattle.osm_change.specs.declared.reads.ReadFault.{ReadFault};
-ghost use Rattle.osm_change.specs.declared.reads.Shown.{Shown};
+ghost use Rattle.osm_change.specs.declared.reads.VersionId.{VersionId};
 ghost use Rattle.osm_change.specs.declared.answers.Answer.TheVariants as answers;
 ghost use Rattle.osm_model.specs.Ask.{ask, ask_at, elements_answer, one_answer, read_answer, map_answer, map_refusal, past_map_answer, changeset_answer, download_answer};
 ghost use Rattle.osm_model.specs.ChangesetReads.{read_changeset, download};
@@ -21,7 +21,7 @@ use crate::rows::element_rows;
 use crate::selection::{map_of, selected};
 use crate::users::{relations_of, ways_of};
 use osm_base::{AREA_LIMIT, Box7, Items, MAP_NODE_LIMIT, Memory, Stamp};
-use osm_change::{Answer, MapFault, ReadFault, Refusal, Shown};
+use osm_change::{Answer, MapFault, ReadFault, Refusal, VersionId};
 use osm_model::{Fault, Query, State, answers_have_moments};
 use std::alloc::Global;
 
@@ -102,7 +102,7 @@ fn ask_at<'a>(
 fn elements_answer<'a>(
     alloc: Global,
     state: &'a State,
-    shown: &Items<Shown>,
+    shown: &Items<VersionId>,
 ) -> Result<Answer<'a>, Memory>
     ensures { IfOk result (λ answer. answer ≡ elements_answer state.now shown.now) }
 {
@@ -113,7 +113,7 @@ fn elements_answer<'a>(
 fn one_answer<'a>(
     alloc: Global,
     state: &'a State,
-    read: Result<Shown, ReadFault>,
+    read: Result<VersionId, ReadFault>,
 ) -> Result<Answer<'a>, Memory>
     ensures { IfOk result (λ answer. answer ≡ one_answer state.now read) }
 {
@@ -129,9 +129,9 @@ fn one_answer<'a>(
 fn read_answer<'a>(
     alloc: Global,
     state: &'a State,
-    read: Result<Items<Shown>, ReadFault>,
+    read: Result<Items<VersionId>, ReadFault>,
 ) -> Result<Answer<'a>, Memory>
-    ensures { (expected : Result (List Shown) ReadFault) → IsRead expected read → IfOk result
+    ensures { (expected : Result (List VersionId) ReadFault) → IsRead expected read → IfOk result
         (λ answer. answer ≡ read_answer state.now expected) }
 {
     match read {

@@ -7,7 +7,7 @@ ghost use Rattle.osm_model.specs.Reads.{shown};
 
 use changeset_core::{ChangesetRecord, Work};
 use osm_base::{Box7, Items, Memory, QUERY_LIMIT, Stamp};
-use osm_change::{ChangesetRow, Refusal, Shown};
+use osm_change::{ChangesetRow, Refusal, VersionId};
 use osm_element::Elements;
 use osm_model::{Fault, State};
 use plain_model::changeset_row;
@@ -132,12 +132,12 @@ fn is_unmarked(elements: &Elements, work: &Work) -> bool
 }
 
 /// Adds a version that was made, if it has no mark.
-fn add_work(elements: &Elements, work: &Work, found: &mut Vec<Shown>) -> Result<(), Memory>
+fn add_work(elements: &Elements, work: &Work, found: &mut Vec<VersionId>) -> Result<(), Memory>
     ensures { IfOk result (λ _. found.new.items ≡ found.old.items ++ map
         (λ w. shown w.key w.version) (filter (is_unmarked elements.now) (work.now ∷ []))) }
 {
     if is_unmarked(elements, work) {
-        found.push(Shown {
+        found.push(VersionId {
             key: work.key,
             number: work.version,
         })?;
@@ -145,7 +145,7 @@ fn add_work(elements: &Elements, work: &Work, found: &mut Vec<Shown>) -> Result<
     Ok(())
 }
 
-fn unmarked(alloc: Global, elements: &Elements, works: &[Work]) -> Result<Items<Shown>, Memory>
+fn unmarked(alloc: Global, elements: &Elements, works: &[Work]) -> Result<Items<VersionId>, Memory>
     ensures { IfOk result (λ found. found ≡ map (λ w. shown w.key w.version) (filter (is_unmarked elements.now) works.now)) }
 {
     let mut found = Vec::with_capacity(alloc, works.len())?;
@@ -156,7 +156,7 @@ fn unmarked(alloc: Global, elements: &Elements, works: &[Work]) -> Result<Items<
 }
 
 /// The versions that a changeset made, deletions too, in that order.
-pub fn download(alloc: Global, state: &State, id: u64) -> Result<Items<Shown>, Fault>
+pub fn download(alloc: Global, state: &State, id: u64) -> Result<Items<VersionId>, Fault>
     ensures { Gives (download state.now id) result }
 {
     match state.changeset(id) {

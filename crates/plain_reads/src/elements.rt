@@ -5,22 +5,22 @@ ghost use Rattle.rising_lists.specs.Ids.{ids_to};
 ghost use Rattle.plain_reads.specs.Read.{IsRead};
 
 use osm_base::{Items, Key, Memory};
-use osm_change::{ReadFault, Shown};
+use osm_change::{ReadFault, VersionId};
 use osm_element::{Elements, Version};
 use std::alloc::Global;
 
 /// An element as it is now, also where it is deleted or never existed.
-pub fn current(elements: &Elements, key: Key) -> Shown
+pub fn current(elements: &Elements, key: Key) -> VersionId
     ensures { result ≡ current_shown elements.now key }
 {
-    Shown {
+    VersionId {
         key,
         number: elements.count(key),
     }
 }
 
 /// The current version of an element.
-pub fn one(elements: &Elements, key: Key) -> Result<Shown, ReadFault>
+pub fn one(elements: &Elements, key: Key) -> Result<VersionId, ReadFault>
     ensures { result ≡ one elements.now key }
 {
     let version = elements.count(key);
@@ -30,7 +30,7 @@ pub fn one(elements: &Elements, key: Key) -> Result<Shown, ReadFault>
     if !elements.is_visible(key) {
         return Err(ReadFault::Gone { key, version });
     }
-    Ok(Shown {
+    Ok(VersionId {
         key,
         number: version,
     })
@@ -44,7 +44,12 @@ fn hidden(version: &Version, show: bool) -> Option<u64>
 }
 
 /// One version of an element, that of a deletion too.
-pub fn numbered(elements: &Elements, key: Key, number: u64, show: bool) -> Result<Shown, ReadFault>
+pub fn numbered(
+    elements: &Elements,
+    key: Key,
+    number: u64,
+    show: bool,
+) -> Result<VersionId, ReadFault>
     ensures { result ≡ numbered elements.now key number show }
 {
     if elements.count(key) == 0 {
@@ -57,7 +62,7 @@ pub fn numbered(elements: &Elements, key: Key, number: u64, show: bool) -> Resul
         });
     };
     match hidden(version, show) {
-        None => Ok(Shown { key, number }),
+        None => Ok(VersionId { key, number }),
         Some(redaction) => Err(ReadFault::Redacted {
             key,
             version: number,
@@ -82,12 +87,12 @@ fn add_version(
     key: Key,
     show: bool,
     number: u64,
-    found: &mut Vec<Shown>,
+    found: &mut Vec<VersionId>,
 ) -> Result<(), Memory>
     ensures { IfOk result (λ _. found.new.items ≡ found.old.items ++ map (shown key) (filter (is_shown elements.now key show) (number ∷ []))) }
 {
     if is_shown(elements, key, show, number) {
-        found.push(Shown { key, number })?;
+        found.push(VersionId { key, number })?;
     }
     Ok(())
 }
@@ -98,7 +103,7 @@ pub fn history(
     elements: &Elements,
     key: Key,
     show: bool,
-) -> Result<Items<Shown>, ReadFault>
+) -> Result<Items<VersionId>, ReadFault>
     ensures { IsRead (history_of elements.now key show) result }
 {
     let count = elements.count(key);
@@ -116,7 +121,7 @@ fn versions(
     key: Key,
     show: bool,
     count: u64,
-) -> Result<Items<Shown>, Memory>
+) -> Result<Items<VersionId>, Memory>
     ensures { IfOk result (λ found. found ≡ map (shown key) (filter (is_shown elements.now key show) (ids_to count))) }
 {
     let mut found = Vec::with_capacity(alloc, count as usize)?;

@@ -9,13 +9,13 @@ ghost use Rattle.plain_reads.specs.Read.{IsRead, way_refs};
 use crate::elements::one;
 use crate::lists::{given_keys_once, shown_keys};
 use osm_base::{Items, Key, Kind, Memory};
-use osm_change::{ReadFault, Shown};
+use osm_change::{ReadFault, VersionId};
 use osm_element::{Content, Elements, Member};
 use std::alloc::Global;
 
 /// An element with what it lists, and with the nodes of the ways that it lists, in the order of
 /// keys.
-pub fn full(alloc: Global, elements: &Elements, key: Key) -> Result<Items<Shown>, ReadFault>
+pub fn full(alloc: Global, elements: &Elements, key: Key) -> Result<Items<VersionId>, ReadFault>
     ensures { IsRead (full elements.now key) result }
 {
     one(elements, key)?;
@@ -23,7 +23,7 @@ pub fn full(alloc: Global, elements: &Elements, key: Key) -> Result<Items<Shown>
     Ok(shown)
 }
 
-fn with_listed(alloc: Global, elements: &Elements, key: Key) -> Result<Items<Shown>, Memory>
+fn with_listed(alloc: Global, elements: &Elements, key: Key) -> Result<Items<VersionId>, Memory>
     ensures { IfOk result (λ found. found ≡ map (current_shown elements.now) (filter (in_full elements.now key) (keys elements.now))) }
 {
     let listed = gathered(alloc, elements, key)?;

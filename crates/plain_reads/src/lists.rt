@@ -7,7 +7,7 @@ ghost use Rattle.rising_lists.specs.Ids.{lists_id};
 
 use crate::elements::current;
 use osm_base::{Items, Key, Kind, Memory};
-use osm_change::Shown;
+use osm_change::VersionId;
 use osm_element::Elements;
 use rising_lists::{keys_sorted_once, rising_ids_are_told, sorted_once};
 use std::alloc::Global;
@@ -54,7 +54,7 @@ pub fn add_ids(
     elements: &Elements,
     kind: Kind,
     ids: &[u64],
-    found: &mut Vec<Shown>,
+    found: &mut Vec<VersionId>,
 ) -> Result<(), Memory>
     ensures { IfOk result (λ _. found.new.items ≡ found.old.items ++ map (λ id. current_shown elements.now (key kind id)) ids.now) }
 {
@@ -70,7 +70,7 @@ pub fn shown_ids(
     elements: &Elements,
     kind: Kind,
     ids: &[u64],
-) -> Result<Items<Shown>, Memory>
+) -> Result<Items<VersionId>, Memory>
     ensures { IfOk result (λ found. found ≡ map (λ id. current_shown elements.now (key kind id)) ids.now) }
 {
     let mut found = Vec::with_capacity(alloc, ids.len())?;
@@ -83,7 +83,7 @@ pub fn shown_keys(
     alloc: Global,
     elements: &Elements,
     listed: &[Key],
-) -> Result<Items<Shown>, Memory>
+) -> Result<Items<VersionId>, Memory>
     ensures { IfOk result (λ found. found ≡ map (current_shown elements.now) listed.now) }
 {
     let mut found = Vec::with_capacity(alloc, listed.len())?;

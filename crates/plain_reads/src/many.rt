@@ -5,7 +5,7 @@ ghost use Rattle.plain_reads.specs.Read.{IsRead};
 
 use crate::lists::{given_once, shown_ids};
 use osm_base::{Items, Key, Kind, Memory};
-use osm_change::{ReadFault, Shown};
+use osm_change::{ReadFault, VersionId};
 use osm_element::Elements;
 use std::alloc::Global;
 
@@ -16,7 +16,7 @@ pub fn many(
     elements: &Elements,
     kind: Kind,
     ids: &[u64],
-) -> Result<Items<Shown>, ReadFault>
+) -> Result<Items<VersionId>, ReadFault>
     ensures { IsRead (many elements.now kind ids.now) result }
 {
     if let Some(id) = first_unknown(elements, kind, ids) {
@@ -46,7 +46,7 @@ fn listed(
     elements: &Elements,
     kind: Kind,
     ids: &[u64],
-) -> Result<Items<Shown>, Memory>
+) -> Result<Items<VersionId>, Memory>
     ensures { IfOk result (λ found. found ≡ listed_of elements.now kind ids.now) }
 {
     let copied = ids.to_vec(alloc)?;

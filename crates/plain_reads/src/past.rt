@@ -11,7 +11,7 @@ use crate::elements::{is_shown, numbered, one};
 use crate::full::add_way_refs;
 use crate::lists::{given_keys_once, shown_keys};
 use osm_base::{Items, Key, Memory, TryCopy};
-use osm_change::{ReadFault, Shown};
+use osm_change::{ReadFault, VersionId};
 use osm_element::{Elements, History};
 use osm_model::State;
 use std::alloc::Global;
@@ -69,7 +69,7 @@ pub fn is_last_shown(elements: &Elements, key: Key) -> bool
 }
 
 /// The last version of an element. A mark hides it from everybody.
-pub fn one_unmarked(elements: &Elements, key: Key) -> Result<Shown, ReadFault>
+pub fn one_unmarked(elements: &Elements, key: Key) -> Result<VersionId, ReadFault>
     ensures { result ≡ one_unmarked elements.now key }
 {
     one(elements, key)?;
@@ -78,14 +78,23 @@ pub fn one_unmarked(elements: &Elements, key: Key) -> Result<Shown, ReadFault>
 
 /// An element with what it listed at a stamp, and with the nodes of the ways that it listed: those
 /// that were visible and aren't marked, and of the nodes those of such ways alone.
-pub fn full_at(alloc: Global, state: &State, key: Key, at: u64) -> Result<Items<Shown>, ReadFault>
+pub fn full_at(
+    alloc: Global,
+    state: &State,
+    key: Key,
+    at: u64,
+) -> Result<Items<VersionId>, ReadFault>
     ensures { IsRead (full_at state.now key at) result }
 {
     let past = elements_by(alloc, &state.elements, at)?;
     full_unmarked(alloc, &past, key)
 }
 
-fn full_unmarked(alloc: Global, elements: &Elements, key: Key) -> Result<Items<Shown>, ReadFault>
+fn full_unmarked(
+    alloc: Global,
+    elements: &Elements,
+    key: Key,
+) -> Result<Items<VersionId>, ReadFault>
     ensures { IsRead (full_unmarked elements.now key) result }
 {
     one_unmarked(elements, key)?;
@@ -93,7 +102,7 @@ fn full_unmarked(alloc: Global, elements: &Elements, key: Key) -> Result<Items<S
     Ok(shown)
 }
 
-fn with_listed(alloc: Global, elements: &Elements, key: Key) -> Result<Items<Shown>, Memory>
+fn with_listed(alloc: Global, elements: &Elements, key: Key) -> Result<Items<VersionId>, Memory>
     ensures { IfOk result (λ found. found ≡ map (current_shown elements.now)
         (filter (λ x. in_full_unmarked elements.now key x && is_last_shown elements.now x) (keys elements.now))) }
 {

@@ -10,7 +10,7 @@ ghost use Rattle.osm_model.specs.Reads.{current_shown};
 use crate::lists::{given_keys_once, shown_keys};
 use crate::past::is_last_shown;
 use osm_base::{AREA_LIMIT, Box7, Items, Key, Kind, MAP_NODE_LIMIT, Memory};
-use osm_change::{MapFault, Shown};
+use osm_change::{MapFault, VersionId};
 use osm_element::Elements;
 use std::alloc::Global;
 
@@ -20,7 +20,7 @@ pub fn map_shown(
     alloc: Global,
     elements: &Elements,
     within: &Box7,
-) -> Result<Items<Shown>, MapFault>
+) -> Result<Items<VersionId>, MapFault>
     ensures { (result ≡ map_shown elements.now within.now) ⊎ (result ≡ Err MapFault.Memory) }
 {
     let area = within.area();
@@ -42,7 +42,7 @@ fn shown_with(
     elements: &Elements,
     within: &Box7,
     base: &[Key],
-) -> Result<Items<Shown>, Memory>
+) -> Result<Items<VersionId>, Memory>
     requires { base.now ≡ nodes_in elements.now within.now }
     ensures { IfOk result (λ found. found ≡ map (current_shown elements.now) (filter (is_on_map elements.now within.now) (keys elements.now))) }
 {

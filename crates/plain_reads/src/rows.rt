@@ -7,12 +7,12 @@ ghost use Rattle.std.specs.Prelude.{◌≡◌, ◌++◌, ◌∷◌, [], filter_m
 ghost use Rattle.osm_model.specs.Ask.{element_row, element_rows};
 
 use osm_base::{Items, Memory};
-use osm_change::{ElementRow, ElementRows, Shown};
+use osm_change::{ElementRow, ElementRows, VersionId};
 use osm_model::State;
 use std::alloc::Global;
 
 /// A version with the owner of its changeset, where both are there.
-fn element_row(state: &State, shown: Shown) -> Option<ElementRow<'_>>
+fn element_row(state: &State, shown: VersionId) -> Option<ElementRow<'_>>
     ensures { result ≡ element_row state.now shown }
 {
     let Some(version) = state.elements.version(shown.key, shown.number) else {
@@ -32,7 +32,7 @@ fn element_row(state: &State, shown: Shown) -> Option<ElementRow<'_>>
 /// Adds the row of a version, if there is one.
 fn add_row<'a>(
     state: &'a State,
-    shown: &Shown,
+    shown: &VersionId,
     rows: &mut Vec<ElementRow<'a>>,
 ) -> Result<(), Memory>
     ensures { IfOk result (λ _. rows.new.items ≡ rows.old.items ++ filter_map (element_row state.now) (shown.now ∷ [])) }
@@ -50,7 +50,7 @@ fn add_row<'a>(
 pub fn element_rows<'a>(
     alloc: Global,
     state: &'a State,
-    shown: &[Shown],
+    shown: &[VersionId],
 ) -> Result<ElementRows<'a>, Memory>
     ensures { IfOk result (λ rows. rows ≡ element_rows state.now shown.now) }
 {

@@ -5,7 +5,7 @@ ghost use Rattle.osm_model.specs.Selection.{map_of, nodes_within, selection, sel
 use crate::lists::add_ids;
 use crate::met::{first_relations, nodes_met, nodes_within, relations_met, ways_met};
 use osm_base::{AREA_LIMIT, Box7, Ids, Items, Kind, MAP_NODE_LIMIT, Memory};
-use osm_change::{MapFault, Selection, Shown};
+use osm_change::{MapFault, Selection, VersionId};
 use osm_element::Elements;
 use rising_lists::rising_ids_are_told;
 use std::alloc::Global;
@@ -59,7 +59,7 @@ pub fn selected(
     alloc: Global,
     elements: &Elements,
     selection: &Selection,
-) -> Result<Items<Shown>, Memory>
+) -> Result<Items<VersionId>, Memory>
     ensures { IfOk result (λ found. found ≡ selected elements.now selection.now) }
 {
     let nodes = selection.nodes.items();

@@ -5,12 +5,12 @@ ghost use Rattle.osm_model.specs.Reads.{current_shown, users_of_kind, ways_of, r
 
 use crate::elements::current;
 use osm_base::{Items, Key, Kind, Memory};
-use osm_change::Shown;
+use osm_change::VersionId;
 use osm_element::Elements;
 use std::alloc::Global;
 
 /// The visible ways that list a node, by id.
-pub fn ways_of(alloc: Global, elements: &Elements, id: u64) -> Result<Items<Shown>, Memory>
+pub fn ways_of(alloc: Global, elements: &Elements, id: u64) -> Result<Items<VersionId>, Memory>
     ensures { IfOk result (λ found. found ≡ ways_of elements.now id) }
 {
     let node = Key {
@@ -21,7 +21,11 @@ pub fn ways_of(alloc: Global, elements: &Elements, id: u64) -> Result<Items<Show
 }
 
 /// The visible relations that list an element, by id, itself left out.
-pub fn relations_of(alloc: Global, elements: &Elements, key: Key) -> Result<Items<Shown>, Memory>
+pub fn relations_of(
+    alloc: Global,
+    elements: &Elements,
+    key: Key,
+) -> Result<Items<VersionId>, Memory>
     ensures { IfOk result (λ found. found ≡ relations_of elements.now key) }
 {
     users_of_kind(alloc, elements, Kind::Relation, key)
@@ -33,7 +37,7 @@ fn users_of_kind(
     elements: &Elements,
     kind: Kind,
     used: Key,
-) -> Result<Items<Shown>, Memory>
+) -> Result<Items<VersionId>, Memory>
     ensures { IfOk result (λ found. found ≡ users_of_kind elements.now kind used) }
 {
     let mut found = Vec::new(alloc);
@@ -48,7 +52,12 @@ fn users_of_kind(
 }
 
 /// Adds an element as it is now, if it is a user.
-fn add_user(elements: &Elements, user: Key, used: Key, found: &mut Vec<Shown>) -> Result<(), Memory>
+fn add_user(
+    elements: &Elements,
+    user: Key,
+    used: Key,
+    found: &mut Vec<VersionId>,
+) -> Result<(), Memory>
     ensures { IfOk result (λ _. found.new.items ≡ found.old.items ++ map (current_shown elements.now) (filter
         (λ a. uses elements.now a used) (user ∷ []))) }
 {

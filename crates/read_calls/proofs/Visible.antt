@@ -8,7 +8,7 @@ use Rattle.osm_base.specs.Outcome.{◌>>=◌, refuse_if}
 use Rattle.osm_base.specs.declared.keys.Key.{Key}
 use Rattle.osm_base.proofs.KeyOrder.{key_eq-same}
 use Rattle.osm_change.specs.declared.reads.ReadFault.TheVariants as fault
-use Rattle.osm_change.specs.declared.reads.Shown.{Shown}
+use Rattle.osm_change.specs.declared.reads.VersionId.{VersionId}
 use Rattle.osm_element.specs.Elements.{keys, count, is_visible, refs_of, IsConsistent}
 use Rattle.osm_element.specs.declared.elements.Elements.{Elements}
 use Rattle.osm_element.proofs.Used.{filter-are}
@@ -16,7 +16,7 @@ use Rattle.osm_model.specs.Reads.{current_shown, one, in_full, is_way, way_lists
 use Rattle.osm_model.proofs.Gathered.{visible-listed}
 
 -- what can be read is visible
-pub one_visible : (E : Elements) (k : Key) (s : Shown) → one E k ≡ Ok s → is_visible E k ≡ true
+pub one_visible : (E : Elements) (k : Key) (s : VersionId) → one E k ≡ Ok s → is_visible E k ≡ true
 one_visible E k s read = by_tests (count E k == 0) (is_visible E k) read
   where
     by_tests : (unknown seen : Bool) → (refuse_if unknown (fault.NotFound k 0) >>= (λ there. refuse_if (not seen) (fault.Gone k (count E k)) >>= (λ held. Ok (current_shown E k)))) ≡ Ok s → seen ≡ true

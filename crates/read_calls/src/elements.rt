@@ -8,16 +8,16 @@ ghost use Rattle.read_calls.specs.Read.{IsRead};
 
 use history_store::Store;
 use osm_base::{Items, Key, Memory};
-use osm_change::{ReadFault, Shown};
+use osm_change::{ReadFault, VersionId};
 use osm_element::{Content, Version};
 use osm_world::World;
 use std::alloc::Global;
 
 /// An element as it is now, also where it is deleted or never existed.
-pub fn current(store: &Store, key: Key) -> Shown
+pub fn current(store: &Store, key: Key) -> VersionId
     ensures { result ≡ current_shown store.now.elements key }
 {
-    Shown {
+    VersionId {
         key,
         number: store.count(key),
     }
@@ -34,7 +34,7 @@ pub fn content(store: &Store, key: Key) -> Option<&Content<u64>>
 }
 
 /// The current version of an element.
-pub fn one(world: &World, key: Key) -> Result<Shown, ReadFault>
+pub fn one(world: &World, key: Key) -> Result<VersionId, ReadFault>
     ensures { result ≡ one (state_of world.now).elements key }
 {
     let store = world.store();
@@ -45,7 +45,7 @@ pub fn one(world: &World, key: Key) -> Result<Shown, ReadFault>
     if content(store, key).is_none() {
         return Err(ReadFault::Gone { key, version });
     }
-    Ok(Shown {
+    Ok(VersionId {
         key,
         number: version,
     })
@@ -59,7 +59,7 @@ fn hidden(version: &Version, show: bool) -> Option<u64>
 }
 
 /// One version of an element, that of a deletion too. `show` asks to see marked versions.
-pub fn version(world: &World, key: Key, number: u64, show: bool) -> Result<Shown, ReadFault>
+pub fn version(world: &World, key: Key, number: u64, show: bool) -> Result<VersionId, ReadFault>
     ensures { result ≡ numbered (state_of world.now).elements key number show }
 {
     let store = world.store();
@@ -73,7 +73,7 @@ pub fn version(world: &World, key: Key, number: u64, show: bool) -> Result<Shown
         });
     };
     match hidden(version, show) {
-        None => Ok(Shown { key, number }),
+        None => Ok(VersionId { key, number }),
         Some(redaction) => Err(ReadFault::Redacted {
             key,
             version: number,
@@ -97,13 +97,13 @@ fn add_version(
     key: Key,
     show: bool,
     number: u64,
-    found: &mut Vec<Shown>,
+    found: &mut Vec<VersionId>,
 ) -> Result<(), Memory>
     ensures { IfOk result (λ _. found.new.items ≡ found.old.items
         ++ map (shown key) (filter (is_shown store.now.elements key show) (number ∷ []))) }
 {
     if is_shown(store, key, show, number) {
-        found.push(Shown { key, number })?;
+        found.push(VersionId { key, number })?;
     }
     Ok(())
 }
@@ -114,7 +114,7 @@ pub fn history(
     world: &World,
     key: Key,
     show: bool,
-) -> Result<Items<Shown>, ReadFault>
+) -> Result<Items<VersionId>, ReadFault>
     ensures { IsRead (history_of (state_of world.now).elements key show) result }
 {
     let store = world.store();
@@ -133,7 +133,7 @@ fn versions(
     key: Key,
     show: bool,
     count: u64,
-) -> Result<Items<Shown>, Memory>
+) -> Result<Items<VersionId>, Memory>
     ensures { IfOk result (λ found. found ≡ map (shown key) (filter (is_shown store.now.elements key show) (ids_to count))) }
 {
     let mut found = Vec::with_capacity(alloc, count as usize)?;

@@ -12,7 +12,7 @@ ghost use Rattle.read_calls.specs.Read.{IsRead};
 use crate::elements::{content, current, one};
 use history_store::Store;
 use osm_base::{Items, Key, Kind, Memory};
-use osm_change::{ReadFault, Shown};
+use osm_change::{ReadFault, VersionId};
 use osm_element::{Content, Member};
 use osm_world::World;
 use rising_lists::keys_sorted_once;
@@ -21,7 +21,7 @@ use std::alloc::Global;
 /// An element with what it lists, and with the nodes of the ways that it lists, in the order of
 /// keys. It costs a sort of what these list.
 #[tactic(auto, using(crate::proofs::Visible::one_visible))]
-pub fn full(alloc: Global, world: &World, key: Key) -> Result<Items<Shown>, ReadFault>
+pub fn full(alloc: Global, world: &World, key: Key) -> Result<Items<VersionId>, ReadFault>
     ensures { IsRead (full (state_of world.now).elements key) result }
 {
     world.laws();
@@ -31,7 +31,7 @@ pub fn full(alloc: Global, world: &World, key: Key) -> Result<Items<Shown>, Read
 }
 
 /// All that a visible element lists is there, so nothing is left out of what was gathered.
-fn with_listed(alloc: Global, store: &Store, key: Key) -> Result<Items<Shown>, Memory>
+fn with_listed(alloc: Global, store: &Store, key: Key) -> Result<Items<VersionId>, Memory>
     requires consistent { IsConsistent store.now.elements }
     requires visible { is_visible store.now.elements key ≡ true }
     ensures { IfOk result (λ found. found
@@ -43,7 +43,7 @@ fn with_listed(alloc: Global, store: &Store, key: Key) -> Result<Items<Shown>, M
 }
 
 /// Each of some elements, as it is now.
-fn shown_keys(alloc: Global, store: &Store, listed: &[Key]) -> Result<Items<Shown>, Memory>
+fn shown_keys(alloc: Global, store: &Store, listed: &[Key]) -> Result<Items<VersionId>, Memory>
     ensures { IfOk result (λ found. found ≡ map (current_shown store.now.elements) listed.now) }
 {
     let mut found = Vec::with_capacity(alloc, listed.len())?;

@@ -9,6 +9,6 @@ mod users;
 
 pub use elements::{history, one, version};
 pub use in_full::full;
-pub use osm_change::{ReadFault, Shown};
+pub use osm_change::{ReadFault, VersionId};
 pub use several::many;
 pub use users::{relations_of, ways_of};

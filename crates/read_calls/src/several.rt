@@ -8,7 +8,7 @@ ghost use Rattle.read_calls.specs.Read.{IsRead};
 use crate::elements::current;
 use history_store::Store;
 use osm_base::{Items, Key, Kind, Memory};
-use osm_change::{ReadFault, Shown};
+use osm_change::{ReadFault, VersionId};
 use osm_world::World;
 use rising_lists::{rising_ids_are_told, sorted_once};
 use std::alloc::Global;
@@ -20,7 +20,7 @@ pub fn many(
     world: &World,
     kind: Kind,
     ids: &[u64],
-) -> Result<Items<Shown>, ReadFault>
+) -> Result<Items<VersionId>, ReadFault>
     ensures { IsRead (many (state_of world.now).elements kind ids.now) result }
 {
     let store = world.store();
@@ -46,7 +46,7 @@ fn first_unknown(store: &Store, kind: Kind, ids: &[u64]) -> Option<u64>
 }
 
 /// The elements of a list of which each exists.
-fn listed(alloc: Global, store: &Store, kind: Kind, ids: &[u64]) -> Result<Items<Shown>, Memory>
+fn listed(alloc: Global, store: &Store, kind: Kind, ids: &[u64]) -> Result<Items<VersionId>, Memory>
     requires { first_unknown store.now.elements kind ids.now ≡ None }
     ensures { IfOk result (λ found. found ≡ listed_of store.now.elements kind ids.now) }
 {
@@ -57,7 +57,12 @@ fn listed(alloc: Global, store: &Store, kind: Kind, ids: &[u64]) -> Result<Items
 }
 
 /// Each of some elements of a kind, as it is now.
-fn shown_ids(alloc: Global, store: &Store, kind: Kind, ids: &[u64]) -> Result<Items<Shown>, Memory>
+fn shown_ids(
+    alloc: Global,
+    store: &Store,
+    kind: Kind,
+    ids: &[u64],
+) -> Result<Items<VersionId>, Memory>
     ensures { IfOk result (λ found. found ≡ map (λ id. current_shown store.now.elements (key kind id)) ids.now) }
 {
     let mut found = Vec::with_capacity(alloc, ids.len())?;

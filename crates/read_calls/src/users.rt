@@ -7,12 +7,12 @@ ghost use Rattle.osm_world.specs.World.{state_of};
 use crate::elements::current;
 use history_store::Store;
 use osm_base::{Items, Key, Kind, Memory};
-use osm_change::Shown;
+use osm_change::VersionId;
 use osm_world::World;
 use std::alloc::Global;
 
 /// The visible ways that list a node, by id.
-pub fn ways_of(alloc: Global, world: &World, id: u64) -> Result<Items<Shown>, Memory>
+pub fn ways_of(alloc: Global, world: &World, id: u64) -> Result<Items<VersionId>, Memory>
     ensures { IfOk result (λ found. found ≡ ways_of (state_of world.now).elements id) }
 {
     let node = Key {
@@ -23,7 +23,7 @@ pub fn ways_of(alloc: Global, world: &World, id: u64) -> Result<Items<Shown>, Me
 }
 
 /// The visible relations that list an element, by id, itself left out.
-pub fn relations_of(alloc: Global, world: &World, key: Key) -> Result<Items<Shown>, Memory>
+pub fn relations_of(alloc: Global, world: &World, key: Key) -> Result<Items<VersionId>, Memory>
     ensures { IfOk result (λ found. found ≡ relations_of (state_of world.now).elements key) }
 {
     users_of_kind(alloc, world, Kind::Relation, key)
@@ -35,7 +35,7 @@ fn users_of_kind(
     world: &World,
     kind: Kind,
     used: Key,
-) -> Result<Items<Shown>, Memory>
+) -> Result<Items<VersionId>, Memory>
     ensures { IfOk result (λ found. found ≡ users_of_kind (state_of world.now).elements kind used) }
 {
     let shown = of_kind(alloc, world.store(), kind, world.users(used))?;
@@ -43,7 +43,12 @@ fn users_of_kind(
 }
 
 /// Those elements of a list that are of one kind, as they are now.
-fn of_kind(alloc: Global, store: &Store, kind: Kind, users: &[Key]) -> Result<Items<Shown>, Memory>
+fn of_kind(
+    alloc: Global,
+    store: &Store,
+    kind: Kind,
+    users: &[Key],
+) -> Result<Items<VersionId>, Memory>
     ensures { IfOk result (λ found. found ≡ map (current_shown store.now.elements) (filter (λ a. kind_eq a.kind kind) users.now)) }
 {
     let mut found = Vec::new(alloc);
@@ -54,7 +59,7 @@ fn of_kind(alloc: Global, store: &Store, kind: Kind, users: &[Key]) -> Result<It
 }
 
 /// Adds an element as it is now, if it is of the kind.
-fn add_user(store: &Store, kind: Kind, user: Key, found: &mut Vec<Shown>) -> Result<(), Memory>
+fn add_user(store: &Store, kind: Kind, user: Key, found: &mut Vec<VersionId>) -> Result<(), Memory>
     ensures { IfOk result (λ _. found.new.items ≡ found.old.items ++ map (current_shown store.now.elements) (filter
         (λ a. kind_eq a.kind kind) (user ∷ []))) }
 {
