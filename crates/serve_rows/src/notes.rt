@@ -34,9 +34,17 @@ fn note_on(alloc: Global, link: &MemLink) -> Result<u64, Memory> {
     Ok(if text == wanted.as_str() { number } else { 0 })
 }
 
-/// Whether the run ended with that status, its ports came back with so many links served, and the
-/// notes are numbered from 1 on, each once, rising from one link of a port to the next.
-fn is(alloc: Global, outcome: &Outcome, status: u8, links: &[usize]) -> Result<bool, Memory> {
+/// What must come of a run: its status, and how many links each port served.
+#[derive(Clone, Copy)]
+struct Wanted<'a> {
+    status: u8,
+    links: &'a [usize],
+}
+
+/// Whether the run ended as wanted, and the notes are numbered from 1 on, each once, rising from one
+/// link of a port to the next.
+fn is(alloc: Global, outcome: &Outcome, wanted: Wanted<'_>) -> Result<bool, Memory> {
+    let Wanted { status, links } = wanted;
     let ports = outcome.host.returned();
     let mut is_right = outcome.status == status && outcome.is_unused && ports.len() == links.len();
     let mut found = Vec::new(alloc);
@@ -67,11 +75,10 @@ fn served<R: Threads + Wait + Sync>(
     ports: Vec<MemPort>,
     workers: &str,
     bad_calls: &[u64],
-    status: u8,
-    links: &[usize],
+    wanted: Wanted<'_>,
 ) -> Result<bool, Memory> {
     let outcome = listen(rt, alloc, Program::Notes, users, ports, workers, bad_calls)?;
-    is(alloc, &outcome, status, links)
+    is(alloc, &outcome, wanted)
 }
 
 fn two_workers<R: Threads + Wait + Sync>(
@@ -83,13 +90,21 @@ fn two_workers<R: Threads + Wait + Sync>(
     served_links: [usize; 2],
 ) -> Result<bool, Memory> {
     let ports = ports(alloc, &links, &[OPENING], bad_accepts)?;
-    served(rt, alloc, USERS, ports, "2", &[], status, &served_links)
+    let wanted = Wanted {
+        status,
+        links: &served_links,
+    };
+    served(rt, alloc, USERS, ports, "2", &[], wanted)
 }
 
 fn a_hundred_links<R: Threads + Wait + Sync>(rt: &R, alloc: Global) -> Result<bool, Memory> {
     let links = [25, 25, 25, 25];
     let ports = ports(alloc, &links, &[OPENING], &[])?;
-    served(rt, alloc, USERS, ports, "4", &[], 0, &links)
+    let wanted = Wanted {
+        status: 0,
+        links: &links,
+    };
+    served(rt, alloc, USERS, ports, "4", &[], wanted)
 }
 
 /// A run that serves nothing ends with that status.
@@ -102,7 +117,8 @@ fn unserved<R: Threads + Wait + Sync>(
     status: u8,
 ) -> Result<bool, Memory> {
     let ports = ports(alloc, &[1, 1], &[OPENING], &[])?;
-    served(rt, alloc, users, ports, workers, bad_calls, status, &[])
+    let wanted = Wanted { status, links: &[] };
+    served(rt, alloc, users, ports, workers, bad_calls, wanted)
 }
 
 pub fn play<R: Threads + Wait + Sync + Print>(rt: &R, alloc: Global, tally: &mut Tally) {
