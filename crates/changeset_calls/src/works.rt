@@ -51,7 +51,10 @@ pub fn download(alloc: Global, world: &World, id: u64) -> Result<Items<VersionId
     ensures { IsFound (download (state_of world.now) id) result }
 {
     match world.changeset(id) {
-        Some(kept) => Ok(unmarked(alloc, world.store(), kept.did())?),
+        Some(kept) => {
+            let did = kept.did(alloc)?;
+            Ok(unmarked(alloc, world.store(), did.as_slice())?)
+        }
         None => Err(ChangesetFault::NoChangeset { id }),
     }
 }

@@ -2,3 +2,4 @@ pub mod Changeset
 pub mod Timely
 pub mod Kept
 pub mod Known
+pub mod Works

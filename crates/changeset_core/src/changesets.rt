@@ -2,7 +2,7 @@
 //!
 //! A changeset's moments are bounded by the type of the one with room; the plain record says it as
 //! a condition of `closes`, and the model proves it of every map that entries make.
-ghost use Rattle.std.specs.Prelude.{◌≡◌, ◌+◌, ◌-◌, ◌<◌, ◌≤◌, ◌∷◌, [], ◌++◌, length, Some, None, true, is_ok, if◌then◌else◌};
+ghost use Rattle.std.specs.Prelude.{◌≡◌, ◌+◌, ◌-◌, ◌<◌, ◌≤◌, ◌^◌, ◌∷◌, [], ◌++◌, length, Some, None, true, is_ok, IfOk, if◌then◌else◌};
 ghost use Rattle.osm_base.specs.declared.limits.TheConstants.{MOMENT_LIMIT};
 ghost use Rattle.changeset_core.specs.Changeset.{closes, first_record, is_open, limit_of, retagged, ended_at, widen, join_areas};
 ghost use Rattle.changeset_core.specs.Timely.{IsTimelyMoment, IsTimelyRecord};
@@ -10,7 +10,8 @@ ghost use Rattle.changeset_core.specs.Timely.{IsTimelyMoment, IsTimelyRecord};
 use crate::areas::{join_boxes, widened};
 use crate::lives::closes;
 use crate::records::Work;
-use osm_base::{Box7, Coord, Key, Memory, Owner, Roomy, Stamp};
+use crate::works::Works;
+use osm_base::{Box7, Coord, Key, Memory, Owner, Stamp};
 use osm_element::Tags;
 use std::alloc::Global;
 use std::marker::Model;
@@ -27,7 +28,7 @@ pub struct Changeset {
     ended: Option<Stamp>,
     limit: u64,
     touched: Option<Box7>,
-    did: Roomy<Work>,
+    did: Works,
 }
 
 impl Model for Changeset {
@@ -57,7 +58,7 @@ impl Changeset {
             ended: None,
             limit,
             touched: None,
-            did: Roomy::none(alloc),
+            did: Works::none(alloc),
         }
     }
 
@@ -107,9 +108,10 @@ impl Changeset {
 
     /// How many changes it has made.
     pub fn count(&self) -> u64
-        ensures { result ≡ length self.now.kept.did }
+        ensures counted { result ≡ length self.now.kept.did }
+        ensures few { result < 2 ^ 63 }
     {
-        self.did.items().len() as u64
+        self.did.len()
     }
 
     /// How many changes it may make.
@@ -127,10 +129,10 @@ impl Changeset {
     }
 
     /// The versions that it made, in that order.
-    pub fn did(&self) -> &[Work]
-        ensures { result.now ≡ self.now.kept.did }
+    pub fn did(&self, alloc: Global) -> Result<Vec<Work>, Memory>
+        ensures { IfOk result (λ did. did.items ≡ self.now.kept.did) }
     {
-        self.did.items()
+        self.did.to_vec(alloc)
     }
 
     /// Gives it other tags, which is activity. It takes no memory.
@@ -156,7 +158,7 @@ impl Changeset {
     pub fn room(&mut self, more: u64) -> Result<(), Memory>
         ensures { self.new ≡ record self.old { free = self.old.free + (if is_ok result then more else 0) } }
     {
-        self.did.promise_ahead(more as usize)
+        self.did.promise(more as usize)
     }
 
     /// Takes every promise of room back.

@@ -11,6 +11,7 @@ mod places;
 mod records;
 mod redactions;
 mod touched;
+mod works;
 
 pub use areas::{first_limit, join_boxes, past_limit};
 pub use changesets::Changeset;

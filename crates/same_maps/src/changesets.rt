@@ -2,10 +2,30 @@
 use crate::histories::are_tags_same;
 use crate::same::{Same, are_same};
 use changeset_core::{Changeset, ChangesetRecord, Work};
-use osm_base::Text;
+use osm_base::{Memory, Text};
+use std::alloc::Global;
 
-pub fn are_changesets_same(plain: &[ChangesetRecord], came: &[Changeset]) -> bool {
-    are_same(plain, came) && are_in_order(came)
+pub fn are_changesets_same(
+    alloc: Global,
+    plain: &[ChangesetRecord],
+    came: &[Changeset],
+) -> Result<bool, Memory> {
+    Ok(are_same(plain, came) && are_in_order(came) && are_works_same(alloc, plain, came)?)
+}
+
+/// Whether each made the versions that its other made.
+fn are_works_same(
+    alloc: Global,
+    plain: &[ChangesetRecord],
+    came: &[Changeset],
+) -> Result<bool, Memory> {
+    for (one, other) in plain.iter().zip(came.iter()) {
+        let did = other.did(alloc)?;
+        if !are_same(one.did.items(), did.as_slice()) {
+            return Ok(false);
+        }
+    }
+    Ok(true)
 }
 
 fn are_in_order(came: &[Changeset]) -> bool {
@@ -27,7 +47,6 @@ impl Same<Changeset> for ChangesetRecord {
             && self.touched == other.touched()
             && self.closed_at(other.closes()) == Some(other.closes())
             && other.count() == self.did.items().len() as u64
-            && are_same(self.did.items(), other.did())
     }
 }
 

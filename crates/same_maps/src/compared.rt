@@ -22,7 +22,7 @@ pub fn difference(
     if !are_histories_same(&state.elements, world) {
         return Ok(Some("histories"));
     }
-    if !are_changesets_same(state.changesets.items(), world.changesets()) {
+    if !are_changesets_same(alloc, state.changesets.items(), world.changesets())? {
         return Ok(Some("changesets"));
     }
     if !are_same(state.redactions.items(), world.redactions().titles()) {

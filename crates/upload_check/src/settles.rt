@@ -89,7 +89,7 @@ pub fn has_room(kept: &Changeset, id: u64, rows: &[OpDone]) -> Result<(), Refusa
     ensures shown { IfErr result RefusalHasShownEnd }
 {
     let applied = applied_among(rows) as u64;
-    let count = kept.did().len() as u64;
+    let count = kept.count();
     let limit = kept.limit();
     if count + applied > limit {
         Err(Refusal::Full {
