@@ -1,8 +1,8 @@
-//! Tags, in one text and one list of ends.
+//! Tags, in one text and one list of ends behind a pointer.
 ghost use Rattle.std.specs.Prelude.{◌≡◌, ◌↔◌, ◌<◌, ◌∷◌, [], ◌++◌, length, get_or, map, IfOk, IfSome, IsSome, IsTrue};
 ghost use Rattle.std.specs.Ordering.{is_lt, nat_cmp};
 ghost use Rattle.std.specs.Cmp.Lexicographic.{slice_cmp};
-ghost use Rattle.osm_element.specs.Tags.{KeysRise, cut, start_at, AreEnds};
+ghost use Rattle.osm_element.specs.Tags.{KeysRise, cut, start_at, tags_in, AreEnds};
 
 use osm_base::{Memory, Text, TryCopy};
 use std::alloc::Global;
@@ -15,24 +15,105 @@ pub(crate) struct Ends {
     value: u32,
 }
 
-/// Keys and values, the keys in strictly rising byte order (OpenStreetMap wiki, "Tags").
+/// Keys and values in one text, and where each ends.
 #[derive(Drop)]
-pub struct Tags {
+struct Table {
     /// The keys and the values, one after the other.
     text: String,
     ends: Vec<Ends>,
 }
 
-impl Model for Tags {
+impl Model for Table {
     ghost use Rattle.std.specs.Prelude.{List, string_bytes};
-    ghost use Rattle.osm_element.specs.Tags.{Tag, KeysRise, cut, AreEnds};
+    ghost use Rattle.osm_element.specs.Tags.{Tag, cut, AreEnds};
 
     ghost Value = { List Tag };
 
     ghost view = { λ t. cut 0 t.ends.items (string_bytes t.text) };
 
-    ghost invariant = { λ t. AreEnds 0 t.ends.items (string_bytes t.text)
-        × KeysRise (cut 0 t.ends.items (string_bytes t.text)) };
+    ghost invariant = { λ t. AreEnds 0 t.ends.items (string_bytes t.text) };
+}
+
+impl Table {
+    /// No pairs. It takes no memory.
+    fn none(alloc: Global) -> Table
+        ensures { result ≡ [] }
+    {
+        Table {
+            text: String::new(alloc),
+            ends: Vec::new(alloc),
+        }
+    }
+
+    /// No pairs, with room for so many and for so many bytes of keys and values.
+    fn with_room(alloc: Global, count: usize, bytes: usize) -> Result<Table, Memory>
+        ensures { IfOk result (λ table. table ≡ []) }
+    {
+        Ok(Table {
+            text: String::with_capacity(alloc, bytes)?,
+            ends: Vec::with_capacity(alloc, count)?,
+        })
+    }
+
+    /// The pairs and one more behind them.
+    fn with(self, key: &str, value: &str) -> Result<Table, Memory>
+        ensures { IfOk result (λ table. table ≡ self ++ (key.now, value.now) ∷ []) }
+    {
+        let Table { mut text, mut ends } = self;
+        text.push_str(key)?;
+        let key = text.len();
+        text.push_str(value)?;
+        let value = text.len();
+        if value > u32::MAX as usize {
+            return Err(Memory);
+        }
+        ends.push(Ends {
+            key: key as u32,
+            value: value as u32,
+        })?;
+        Ok(Table { text, ends })
+    }
+
+    fn len(&self) -> usize
+        ensures { result ≡ length self.now }
+    {
+        self.ends.len()
+    }
+
+    fn pair(&self, index: usize) -> (&str, &str)
+        requires { index < length self.now }
+        ensures { (result.0.now, result.1.now) ≡ get_or self.now index ([], []) }
+    {
+        pair_at(self.text.as_str(), self.ends.as_slice(), index)
+    }
+}
+
+impl TryCopy for Table {
+    fn copy(&self, alloc: Global) -> Result<Table, Memory> {
+        let text = String::from_str(alloc, self.text.as_str())?;
+        let ends = Vec::from_slice(alloc, self.ends.as_slice())?;
+        Ok(Table { text, ends })
+    }
+}
+
+/// Keys and values, the keys in strictly rising byte order (OpenStreetMap wiki, "Tags").
+#[derive(Drop)]
+pub struct Tags {
+    /// It takes no room, and makes the table of the first tag.
+    alloc: Global,
+    /// Most elements have no tags, and so no table.
+    table: Option<Box<Table>>,
+}
+
+impl Model for Tags {
+    ghost use Rattle.std.specs.Prelude.{List};
+    ghost use Rattle.osm_element.specs.Tags.{Tag, KeysRise, tags_in};
+
+    ghost Value = { List Tag };
+
+    ghost view = { λ t. tags_in t.table };
+
+    ghost invariant = { λ t. KeysRise (tags_in t.table) };
 }
 
 impl Tags {
@@ -42,19 +123,21 @@ impl Tags {
     pub fn none(alloc: Global) -> Tags
         ensures { result ≡ [] }
     {
-        Tags {
-            text: String::new(alloc),
-            ends: Vec::new(alloc),
-        }
+        Tags { alloc, table: None }
     }
 
-    /// No tags, with room for so many and for so many bytes of keys and values.
+    /// No tags, with room for so many and for so many bytes of keys and values. Room for no
+    /// tags takes no memory.
     pub fn with_room(alloc: Global, count: usize, bytes: usize) -> Result<Tags, Memory>
         ensures { IfOk result (λ tags. tags ≡ []) }
     {
+        if count == 0 {
+            return Ok(Tags::none(alloc));
+        }
+        let table = Box::new(alloc, Table::with_room(alloc, count, bytes)?)?;
         Ok(Tags {
-            text: String::with_capacity(alloc, bytes)?,
-            ends: Vec::with_capacity(alloc, count)?,
+            alloc,
+            table: Some(table),
         })
     }
 
@@ -78,33 +161,30 @@ impl Tags {
         requires { KeysRise (self ++ (key.now, value.now) ∷ []) }
         ensures { IfOk result (λ tags. tags ≡ self ++ (key.now, value.now) ∷ []) }
     {
-        let Tags { mut text, mut ends } = self;
-        text.push_str(key)?;
-        let key = text.len();
-        text.push_str(value)?;
-        let value = text.len();
-        if value > u32::MAX as usize {
-            return Err(Memory);
-        }
-        ends.push(Ends {
-            key: key as u32,
-            value: value as u32,
-        })?;
-        Ok(Tags { text, ends })
+        let Tags { alloc, table } = self;
+        let table = table_of(alloc, table)?;
+        let table = with_pair(alloc, table, key, value)?;
+        Ok(Tags {
+            alloc,
+            table: Some(table),
+        })
     }
 
     /// How many tags.
     pub fn len(&self) -> usize
         ensures { result ≡ length self.now }
     {
-        self.ends.len()
+        match &self.table {
+            Some(table) => table.len(),
+            None => 0,
+        }
     }
 
     /// Whatever is made as tags has keys that rise: a law, with nothing to do.
     pub fn keys_rise(&self)
         ensures { KeysRise self.now }
     {
-        let _ = &self.text;
+        let _ = &self.table;
     }
 
     /// A key and its value, in the order of the keys.
@@ -112,15 +192,51 @@ impl Tags {
         requires { index < length self.now }
         ensures { (result.0.now, result.1.now) ≡ get_or self.now index ([], []) }
     {
-        pair_at(self.text.as_str(), self.ends.as_slice(), index)
+        match &self.table {
+            Some(table) => table.pair(index),
+            None => ("", ""),
+        }
     }
 }
 
 impl TryCopy for Tags {
     fn copy(&self, alloc: Global) -> Result<Tags, Memory> {
-        let text = String::from_str(alloc, self.text.as_str())?;
-        let ends = Vec::from_slice(alloc, self.ends.as_slice())?;
-        Ok(Tags { text, ends })
+        let table = copy_table(alloc, &self.table)?;
+        Ok(Tags { alloc, table })
+    }
+}
+
+/// The table, or a new one where there is none.
+fn table_of(alloc: Global, table: Option<Box<Table>>) -> Result<Box<Table>, Memory>
+    ensures { IfOk result (λ made. made.value ≡ tags_in table) }
+{
+    match table {
+        Some(table) => Ok(table),
+        None => Ok(Box::new(alloc, Table::none(alloc))?),
+    }
+}
+
+/// The table with one more pair, in the same box.
+fn with_pair(
+    alloc: Global,
+    mut table: Box<Table>,
+    key: &str,
+    value: &str,
+) -> Result<Box<Table>, Memory>
+    ensures { IfOk result (λ more. more.value ≡ table.value ++ (key.now, value.now) ∷ []) }
+{
+    let pairs = Box::replace(&mut table, Table::none(alloc));
+    let more = pairs.with(key, value)?;
+    *table = more;
+    Ok(table)
+}
+
+fn copy_table(alloc: Global, table: &Option<Box<Table>>) -> Result<Option<Box<Table>>, Memory>
+    ensures { IfOk result (λ copy. tags_in copy ≡ tags_in table.now) }
+{
+    match table {
+        Some(table) => Ok(Some(Box::new(alloc, table.copy(alloc)?)?)),
+        None => Ok(None),
     }
 }
 

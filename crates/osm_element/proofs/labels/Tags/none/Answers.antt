@@ -1,7 +1,6 @@
 use Rattle.std.specs.List.Sorted.{IsStrictlySortedBy}
-use Rattle.std.proofs.Common.{refl}
 use Rattle.osm_element.proofs.labels.Tags.none.Goals as goal
 
 pub invariant_of-result : goal.invariant_of-result
 unfolding IsStrictlySortedBy
-invariant_of-result c = rw (c.new-2.ensures.items, c.new.ensures.bytes) (refl, tt)
+invariant_of-result c = tt

@@ -1,7 +1,7 @@
 use Rattle.std.proofs.Common.{◌≡◌, ◌<◌, length, sym, ap, ◌∙◌, subst}
 use Rattle.std.specs.String.{string_bytes}
 use Rattle.osm_element.proofs.Cut.{cut_count}
-use Rattle.osm_element.proofs.labels.Tags.pair.Goals as goal
+use Rattle.osm_element.proofs.labels.Table.pair.Goals as goal
 
 pub pair_at-requires-clause-there : goal.pair_at-requires-clause-there
 pair_at-requires-clause-there c =

@@ -1,7 +1,7 @@
 use Rattle.std.proofs.Common.{◌≡◌, length, rules, sym, ap, ◌∙◌}
 use Rattle.std.specs.String.{string_bytes}
 use Rattle.osm_element.proofs.Cut.{cut_count}
-use Rattle.osm_element.proofs.labels.Tags.len.Goals as goal
+use Rattle.osm_element.proofs.labels.Table.len.Goals as goal
 
 pub returns : goal.returns
 returns c =
