@@ -1,36 +1,54 @@
-//! A set of keys in order, with promised room.
-ghost use Rattle.std.specs.Prelude.{◌≡◌, ◌+◌, ◌-◌, ◌<◌, ◌≤◌, [], false, length, insert, OnOk, OnErr};
+//! A set of keys in order, with promised room, that is small where it has at most one.
+ghost use Rattle.std.specs.Prelude.{◌≡◌, ◌+◌, ◌-◌, ◌<◌, ◌≤◌, [], ◌∷◌, false, OnOk, OnErr, IfOk, IfSome};
 ghost use Rattle.osm_base.specs.Key.{lists_key, insert_key, without_key, IsRising};
+ghost use Rattle.reverse_refs.specs.Held.{row_held};
 
-use osm_base::{Key, Memory, Roomy};
+use crate::key_lists::KeyList;
+use osm_base::{Key, Memory};
 use std::alloc::Global;
 use std::marker::Model;
+use std::mem::size_of;
+use std::slice;
 
-/// Keys in order, each once, that are promised room for more.
+/// What a set holds. Most sets have one key, which stands here; a list is boxed, so that those
+/// aren't made larger by it.
+#[derive(Drop)]
+enum Held {
+    Nothing,
+    Promised,
+    One(Key),
+    Many(Box<KeyList>),
+}
+
+/// Keys in order, each once, that are promised room for more. Memory is taken where keys and
+/// promises together are more than one.
 #[derive(Drop)]
 pub struct KeySet {
-    keys: Roomy<Key>,
+    held: Held,
 }
+
+const _: () = prove!(size_of::<KeySet>() == 24);
 
 impl Model for KeySet {
     ghost use Rattle.osm_base.specs.Row.{Row};
     ghost use Rattle.osm_base.specs.Key.{IsRising};
     ghost use Rattle.osm_base.specs.declared.keys.Key.{Key};
+    ghost use Rattle.reverse_refs.specs.Held.{row_held};
 
     ghost Value = { Row Key };
 
-    ghost view = { λ s. s.keys };
+    ghost view = { λ s. row_held s.held };
 
-    ghost invariant = { λ s. IsRising s.keys.items };
+    ghost invariant = { λ s. IsRising (row_held s.held).items };
 }
 
 impl KeySet {
     /// No keys, and no room promised. It takes no memory.
-    pub fn none(alloc: Global) -> KeySet
+    pub fn none() -> KeySet
         ensures { result ≡ record { items = []; free = 0 } }
     {
         KeySet {
-            keys: Roomy::none(alloc),
+            held: Held::Nothing,
         }
     }
 
@@ -39,22 +57,37 @@ impl KeySet {
         ensures keys { result.now ≡ self.now.items }
         ensures rising { IsRising result.now }
     {
-        self.keys.items()
+        match &self.held {
+            Held::Nothing | Held::Promised => &[],
+            Held::One(key) => slice::from_ref(key),
+            Held::Many(list) => list.keys(),
+        }
     }
 
     /// Promises room for some more keys.
-    pub fn promise(&mut self, more: usize) -> Result<(), Memory>
+    pub fn promise(&mut self, alloc: Global, more: usize) -> Result<(), Memory>
         ensures ok { OnOk result (self.new ≡ record self.old { free = self.old.free + more }) }
         ensures err { OnErr result (self.new ≡ self.old) }
     {
-        self.keys.promise(more)
+        match &mut self.held {
+            Held::Nothing => self.held = room_for(alloc, more)?,
+            Held::Promised => self.held = Held::Many(roomy_list(alloc, 1, more)?),
+            Held::One(key) => self.held = Held::Many(list_of(alloc, *key, more)?),
+            Held::Many(list) => list.promise(more)?,
+        }
+        Ok(())
     }
 
     /// Takes every promise back.
     pub fn forget(&mut self)
         ensures { self.new ≡ record self.old { free = 0 } }
     {
-        self.keys.forget();
+        match &mut self.held {
+            Held::Nothing | Held::One(_) => {}
+            Held::Promised => self.held = Held::Nothing,
+            Held::Many(list) => list.forget(),
+        }
+        self.shrink();
     }
 
     /// Takes some of what was promised back.
@@ -62,7 +95,16 @@ impl KeySet {
         requires { less ≤ self.old.free }
         ensures { self.new ≡ record self.old { free = self.old.free - less } }
     {
-        self.keys.release(less);
+        match &mut self.held {
+            Held::Nothing | Held::One(_) => {}
+            Held::Promised => {
+                if less > 0 {
+                    self.held = Held::Nothing;
+                }
+            }
+            Held::Many(list) => list.release(less),
+        }
+        self.shrink();
     }
 
     /// Adds a key where it belongs, on promised room.
@@ -71,38 +113,81 @@ impl KeySet {
         requires absent { lists_key self.old.items key ≡ false }
         ensures { self.new ≡ record { items = insert_key self.old.items key; free = self.old.free - 1 } }
     {
-        insert_key(&mut self.keys, key);
+        match &mut self.held {
+            Held::Nothing | Held::One(_) => unreachable!(),
+            Held::Promised => self.held = Held::One(key),
+            Held::Many(list) => list.add(key),
+        }
     }
 
     /// Takes a key out, if it is there. Its room isn't promised.
     pub fn take_out(&mut self, key: Key)
         ensures { self.new ≡ record self.old { items = without_key self.old.items key } }
     {
-        drop_key(&mut self.keys, key);
+        match &mut self.held {
+            Held::Nothing | Held::Promised => {}
+            Held::One(only) => {
+                if only.is(key) {
+                    self.held = Held::Nothing;
+                }
+            }
+            Held::Many(list) => list.take_out(key),
+        }
+        self.shrink();
+    }
+
+    /// Gives the memory of a list back that can do without.
+    fn shrink(&mut self)
+        ensures { self.new ≡ self.old }
+    {
+        if let Held::Many(list) = &self.held
+            && let Some(less) = without_list(list)
+        {
+            self.held = less;
+        }
     }
 }
 
-fn drop_key(keys: &mut Roomy<Key>, key: Key)
-    ensures items { keys.new.items ≡ without_key keys.old.items key }
-    ensures free { keys.new.free ≡ keys.old.free }
+/// The same without a list, where that is possible.
+fn without_list(list: &KeyList) -> Option<Held>
+    ensures { IfSome result (λ less. row_held less ≡ list.now) }
 {
-    keys.retain(|other| !other.is(key));
+    match (list.keys(), list.free()) {
+        ([], 0) => Some(Held::Nothing),
+        ([], 1) => Some(Held::Promised),
+        ([key], 0) => Some(Held::One(*key)),
+        _ => None,
+    }
 }
 
-fn insert_key(keys: &mut Roomy<Key>, key: Key)
-    requires room { 0 < keys.old.free }
-    requires rising { IsRising keys.old.items }
-    ensures { keys.new ≡ record { items = insert_key keys.old.items key; free = keys.old.free - 1 } }
+/// No keys, and room for some.
+fn room_for(alloc: Global, more: usize) -> Result<Held, Memory>
+    ensures { IfOk result (λ made. row_held made ≡ record { items = []; free = more }) }
 {
-    let place = place_of(keys.items(), key);
-    keys.insert(place, key);
+    match more {
+        0 => Ok(Held::Nothing),
+        1 => Ok(Held::Promised),
+        _ => Ok(Held::Many(roomy_list(alloc, 0, more)?)),
+    }
 }
 
-/// Where a key goes in a list that is in order, found by halving.
-fn place_of(sorted: &[Key], key: Key) -> usize
-    requires { IsRising sorted.now }
-    ensures place { insert sorted.now result key ≡ insert_key sorted.now key }
-    ensures within { result ≤ length sorted.now }
+/// A list without keys, with room for those that were promised and some more.
+fn roomy_list(alloc: Global, promised: usize, more: usize) -> Result<Box<KeyList>, Memory>
+    ensures { IfOk result (λ made. made.value ≡ record { items = []; free = promised + more }) }
 {
-    sorted.partition_point(|other| !key.is_before(*other))
+    let Some(room) = promised.checked_add(more) else {
+        return Err(Memory);
+    };
+    let mut list = Box::new(alloc, KeyList::none(alloc))?;
+    list.promise(room)?;
+    Ok(list)
+}
+
+/// A list of one key, with room for some more.
+fn list_of(alloc: Global, key: Key, more: usize) -> Result<Box<KeyList>, Memory>
+    ensures { IfOk result (λ made. made.value ≡ record { items = key ∷ []; free = more }) }
+{
+    let mut list = roomy_list(alloc, 1, more)?;
+    list.add(key);
+    Ok(list)
 }

@@ -174,8 +174,8 @@ fn promise_at(alloc: Global, rows: &mut Vec<KeySet>, id: u64) -> Result<(), Memo
     ensures err { OnErr result ((i : ℕ) → (slice_index_or rows.new.items i no_row).free ≡ (slice_index_or rows.old.items i no_row).free) }
 {
     let place = id as usize;
-    extend(alloc, rows, place)?;
-    rows[place].promise(1)
+    extend(rows, place)?;
+    rows[place].promise(alloc, 1)
 }
 
 fn forget_at(rows: &mut Vec<KeySet>, id: u64)
@@ -190,12 +190,14 @@ fn forget_at(rows: &mut Vec<KeySet>, id: u64)
 }
 
 /// Makes empty rows up to a place.
-fn extend(alloc: Global, rows: &mut Vec<KeySet>, place: usize) -> Result<(), Memory>
+fn extend(rows: &mut Vec<KeySet>, place: usize) -> Result<(), Memory>
     ensures same { (i : ℕ) → slice_index_or rows.new.items i no_row ≡ slice_index_or rows.old.items i no_row }
     ensures ok { OnOk result (place < length rows.new.items) }
 {
-    while rows.len() <= place {
-        rows.push(KeySet::none(alloc))?;
+    let wanted = place.checked_add(1).ok_or(Memory)?;
+    rows.reserve(wanted.saturating_sub(rows.len()))?;
+    while rows.len() < wanted {
+        rows.push(KeySet::none())?;
     }
     Ok(())
 }
