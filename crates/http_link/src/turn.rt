@@ -26,23 +26,28 @@ pub enum Next {
 }
 
 /// Writes the reply to want of memory.
-fn send_memory<S: Sink>(sink: &mut S, close: bool) -> Result<(), Failed>
+fn send_memory<S: Sink>(alloc: Global, sink: &mut S, close: bool) -> Result<(), Failed>
     ensures writes { Writes (S.told sink.old) (S.told sink.new) (reply 503 memory_body close) result }
     ensures failed { IsErr result → Rose (S.told sink.old).write_faults (S.told sink.new).write_faults }
 {
-    write_reply(sink, 503, b"{\"error\":\"memory\"}", close)
+    write_reply(alloc, sink, 503, b"{\"error\":\"memory\"}", close)
 }
 
 /// Writes the reply that an answer stands for.
-fn send<S: Sink>(sink: &mut S, answer: &Result<Reply, Memory>, close: bool) -> Result<(), Failed>
+fn send<S: Sink>(
+    alloc: Global,
+    sink: &mut S,
+    answer: &Result<Reply, Memory>,
+    close: bool,
+) -> Result<(), Failed>
     requires { IsStatus (counted_reply answer.now).status }
     ensures writes { Writes (S.told sink.old) (S.told sink.new)
         (reply (counted_reply answer.now).status (counted_reply answer.now).body close) result }
     ensures failed { IsErr result → Rose (S.told sink.old).write_faults (S.told sink.new).write_faults }
 {
     match answer {
-        Ok(reply) => write_reply(sink, reply.status, reply.body.as_slice(), close),
-        Err(_) => send_memory(sink, close),
+        Ok(reply) => write_reply(alloc, sink, reply.status, reply.body.as_slice(), close),
+        Err(_) => send_memory(alloc, sink, close),
     }
 }
 
@@ -70,30 +75,30 @@ pub fn answer_message<D: Desk, L: Link>(
     let close = closes(&message, count);
     let moment = link.now();
     let answer = desk.answer(alloc, message, moment);
-    send(link, &answer, close)
+    send(alloc, link, &answer, close)
 }
 
 /// Writes the reply to an end, where it has one.
-fn send_refusal<S: Sink>(sink: &mut S, why: WireEnd) -> Result<(), Failed>
+fn send_refusal<S: Sink>(alloc: Global, sink: &mut S, why: WireEnd) -> Result<(), Failed>
     ensures writes { Writes (S.told sink.old) (S.told sink.new) (refusal why) result }
     ensures failed { IsErr result → Rose (S.told sink.old).write_faults (S.told sink.new).write_faults }
 {
     match why {
-        WireEnd::BadHead => write_reply(sink, 400, b"{\"error\":\"bad_head\"}", true),
-        WireEnd::HeadLong => write_reply(sink, 431, b"{\"error\":\"head_long\"}", true),
-        WireEnd::Coded => write_reply(sink, 501, b"{\"error\":\"coded\"}", true),
-        WireEnd::BadLength => write_reply(sink, 400, b"{\"error\":\"bad_length\"}", true),
-        WireEnd::BodyLong => write_reply(sink, 413, b"{\"error\":\"body_long\"}", true),
-        WireEnd::Memory => send_memory(sink, true),
+        WireEnd::BadHead => write_reply(alloc, sink, 400, b"{\"error\":\"bad_head\"}", true),
+        WireEnd::HeadLong => write_reply(alloc, sink, 431, b"{\"error\":\"head_long\"}", true),
+        WireEnd::Coded => write_reply(alloc, sink, 501, b"{\"error\":\"coded\"}", true),
+        WireEnd::BadLength => write_reply(alloc, sink, 400, b"{\"error\":\"bad_length\"}", true),
+        WireEnd::BodyLong => write_reply(alloc, sink, 413, b"{\"error\":\"body_long\"}", true),
+        WireEnd::Memory => send_memory(alloc, sink, true),
         WireEnd::End | WireEnd::Truncated | WireEnd::ReadFault => Ok(()),
     }
 }
 
 /// Answers an end, and says how the link ends.
-fn refuse<S: Sink>(sink: &mut S, why: WireEnd) -> LinkEnd
+fn refuse<S: Sink>(alloc: Global, sink: &mut S, why: WireEnd) -> LinkEnd
     ensures { Refuses (S.told sink.old) (S.told sink.new) why result }
 {
-    match send_refusal(sink, why) {
+    match send_refusal(alloc, sink, why) {
         Ok(()) => end_of(why),
         Err(_) => LinkEnd::WriteFault,
     }
@@ -140,6 +145,6 @@ pub fn take_turn<D: Desk, L: Link>(
                 Ok(()) => Next::GoesOn,
             }
         }
-        Err(why) => Next::Over(refuse(link, why)),
+        Err(why) => Next::Over(refuse(alloc, link, why)),
     }
 }

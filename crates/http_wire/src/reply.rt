@@ -1,21 +1,22 @@
 //! Replies written to a sink.
-ghost use Rattle.std.specs.Prelude.{◌≡◌, ◌+◌, ◌≤◌, ◌++◌, length, IsErr};
+ghost use Rattle.std.specs.Prelude.{◌≡◌, ◌+◌, ◌≤◌, ◌++◌, length, IsErr, IfOk};
 ghost use Rattle.arrayvec.specs.ArrayVec.{array_vec_len};
 ghost use Rattle.http_wire.specs.Reply.{status_text, reply_head, reply};
 ghost use Rattle.osm_base.specs.Status.{IsStatus};
 ghost use Rattle.http_wire.specs.Written.{Writes};
-ghost use Rattle.http_wire.specs.declared.reply.TheConstants.{LONG_PIECE_ROOM, PIECE_ROOM};
+ghost use Rattle.http_wire.specs.declared.reply.TheConstants.{JOINED_LIMIT, PIECE_ROOM};
 ghost use Rattle.osm_outside.specs.Told.{Rose};
 
 use arrayvec::ArrayVec;
 use itoa::Buffer;
 use osm_outside::{Failed, Outside, Sink};
+use std::alloc::{AllocError, Global};
 
 /// The head of any reply has at most so many bytes, and the body of a short one fits behind it.
 const PIECE_ROOM: usize = 1_024;
 
-/// A reply of at most so many bytes is written in one piece: to copy them costs less than a second write.
-const LONG_PIECE_ROOM: usize = 16_384;
+/// A reply of at most so many bytes is written in one piece, which the reader then gets at once.
+const JOINED_LIMIT: usize = 1_048_576;
 
 /// A status and its reason.
 fn status_text(status: u16) -> &'static [u8]
@@ -88,21 +89,48 @@ pub fn write_all<S: Sink>(sink: &mut S, bytes: &[u8]) -> Result<(), Failed>
     Ok(())
 }
 
-/// Writes the two as one piece. Only a reply that needs so much room pays for it.
-fn write_joined<S: Sink>(sink: &mut S, head: &[u8], body: &[u8]) -> Result<(), Failed>
-    requires { length head.now + length body.now ≤ LONG_PIECE_ROOM }
+/// The two one behind the other, where there is memory for that. Nothing is written there but they.
+fn join(alloc: Global, head: &[u8], body: &[u8]) -> Result<Vec<u8>, AllocError>
+    requires { length head.now + length body.now ≤ JOINED_LIMIT }
+    ensures { IfOk result (λ piece. piece.items ≡ head.now ++ body.now) }
+{
+    let mut piece = Vec::with_capacity(alloc, head.len() + body.len())?;
+    piece.extend_from_slice(head)?;
+    piece.extend_from_slice(body)?;
+    Ok(piece)
+}
+
+/// Writes the two one after the other.
+fn write_two<S: Sink>(sink: &mut S, head: &[u8], body: &[u8]) -> Result<(), Failed>
     ensures writes { Writes (S.told sink.old) (S.told sink.new) (head.now ++ body.now) result }
     ensures failed { IsErr result → Rose (S.told sink.old).write_faults (S.told sink.new).write_faults }
 {
-    let mut piece = ArrayVec::<u8, LONG_PIECE_ROOM>::new();
-    let _ = piece.try_extend_from_slice(head);
-    let _ = piece.try_extend_from_slice(body);
-    write_all(sink, piece.as_slice())
+    write_all(sink, head)?;
+    write_all(sink, body)
 }
 
-/// Writes a reply with a JSON body (RFC 9112, section 4), in one write where it has at most `LONG_PIECE_ROOM` bytes and the
-/// sink takes all. `close` says in a Connection field that the link ends after it. At a fault a beginning of it was written.
+/// Writes the two as one piece, or one after the other where there is no memory for the piece.
+fn write_joined<S: Sink>(
+    alloc: Global,
+    sink: &mut S,
+    head: &[u8],
+    body: &[u8],
+) -> Result<(), Failed>
+    requires { length head.now + length body.now ≤ JOINED_LIMIT }
+    ensures writes { Writes (S.told sink.old) (S.told sink.new) (head.now ++ body.now) result }
+    ensures failed { IsErr result → Rose (S.told sink.old).write_faults (S.told sink.new).write_faults }
+{
+    match join(alloc, head, body) {
+        Ok(piece) => write_all(sink, piece.as_slice()),
+        Err(_) => write_two(sink, head, body),
+    }
+}
+
+/// Writes a reply with a JSON body (RFC 9112, section 4), in one write where it has at most `JOINED_LIMIT` bytes, the sink
+/// takes all, and there is memory to put head and body together. `close` says in a Connection field that the link ends after
+/// it. At a fault a beginning of it was written.
 pub fn write_reply<S: Sink>(
+    alloc: Global,
     sink: &mut S,
     status: u16,
     body: &[u8],
@@ -118,9 +146,8 @@ pub fn write_reply<S: Sink>(
         append(&mut head, body);
         return write_all(sink, head.as_slice());
     }
-    if body.len() <= LONG_PIECE_ROOM - head.len() {
-        return write_joined(sink, head.as_slice(), body);
+    if body.len() <= JOINED_LIMIT - head.len() {
+        return write_joined(alloc, sink, head.as_slice(), body);
     }
-    write_all(sink, head.as_slice())?;
-    write_all(sink, body)
+    write_two(sink, head.as_slice(), body)
 }

@@ -1,7 +1,7 @@
 //! Single messages and replies.
 use crate::memory_link;
 use http_wire::{Message, Wire, WireEnd, write_reply};
-use osm_base::{BODY_LIMIT, Memory};
+use osm_base::{BODY_LIMIT, Bytes, Memory};
 use osm_outside::MemLink;
 use row_tally::Tally;
 use std::alloc::Global;
@@ -43,13 +43,39 @@ fn huge_lengths_that_differ_are_bad(alloc: Global) -> bool {
 const REPLY: &[u8] =
     b"HTTP/1.1 404 Not Found\r\nContent-Type: application/json\r\nContent-Length: 2\r\nConnection: close\r\n\r\n{}";
 
-fn takes_a_reply(link: &mut MemLink) -> bool {
-    write_reply(link, 404, b"{}", true).is_ok() && link.written() == REPLY
+fn takes_a_reply(alloc: Global, link: &mut MemLink) -> bool {
+    write_reply(alloc, link, 404, b"{}", true).is_ok() && link.written() == REPLY
 }
 
 fn a_reply_is_written(alloc: Global) -> Result<bool, Memory> {
     let mut link = slow_link(alloc, b"")?;
-    Ok(takes_a_reply(&mut link))
+    Ok(takes_a_reply(alloc, &mut link))
+}
+
+/// Whether a reply with a body of so many bytes is written on a link whose second write fails.
+fn goes_out_at_once(alloc: Global, size: usize) -> Result<bool, Memory> {
+    let body = Vec::from_elem(alloc, b' ', size)?;
+    let bad_writes = Vec::from_slice(alloc, &[1])?;
+    let mut link = MemLink::new(
+        alloc,
+        Bytes::of(alloc, b"")?,
+        Vec::new(alloc),
+        Vec::new(alloc),
+        Vec::new(alloc),
+        bad_writes,
+        1_100_000,
+    )?;
+    Ok(write_reply(alloc, &mut link, 200, body.as_slice(), false).is_ok())
+}
+
+/// Head and body up to a megabyte go out in one write. The head has 76 bytes where the length has seven digits.
+fn a_reply_up_to_a_megabyte_is_one_write(alloc: Global) -> Result<bool, Memory> {
+    Ok(
+        goes_out_at_once(alloc, 1_000)?
+            && goes_out_at_once(alloc, 16_384)?
+            && goes_out_at_once(alloc, 1_048_500)?
+            && !goes_out_at_once(alloc, 1_048_501)?,
+    )
 }
 
 pub fn play<R: Print>(rt: &R, alloc: Global, tally: &mut Tally) {
@@ -60,4 +86,9 @@ pub fn play<R: Print>(rt: &R, alloc: Global, tally: &mut Tally) {
         Ok(huge_lengths_that_differ_are_bad(alloc)),
     );
     tally.note(rt, "a reply is written", a_reply_is_written(alloc));
+    tally.note(
+        rt,
+        "a reply up to a megabyte is one write",
+        a_reply_up_to_a_megabyte_is_one_write(alloc),
+    );
 }
