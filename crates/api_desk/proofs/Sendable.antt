@@ -57,7 +57,7 @@ hub_sync N Q g sq =
     (snapshot.ghosts N MapMachine.the_row MapWorld.the_row Asked.the_row Query.the_row MapPlan.the_row Entry.the_row Look.the_row State.the_row g snapshot.no_dict machine.ghosts snapshot.no_dict snapshot.no_dict snapshot.no_dict snapshot.no_dict snapshot.no_dict snapshot.no_dict snapshot.no_dict)
     (absorb.ghosts N MapMachine.the_row MapWorld.the_row Asked.the_row Query.the_row MapPlan.the_row Entry.the_row Look.the_row State.the_row g absorb.no_dict machine.ghosts absorb.no_dict absorb.no_dict absorb.no_dict absorb.no_dict absorb.no_dict absorb.no_dict absorb.no_dict)
     (OfShown.the_send N MapMachine.the_row MapWorld.the_row Asked.the_row Query.the_row MapPlan.the_row Entry.the_row Look.the_row State.the_row g machine.ghosts OfMapWorld.the_send)
-    sq OfMapWorld.the_send OfEntry.the_send
+    sq OfEntry.the_send
     (OfShown.the_sync N MapMachine.the_row MapWorld.the_row Asked.the_row Query.the_row MapPlan.the_row Entry.the_row Look.the_row State.the_row g machine.ghosts OfMapWorld.the_sync)
     OfNoGate.the_sync
 

@@ -1,8 +1,9 @@
-//! The journal of a machine beside the world after it, commits to it, and what any list of events
-//! of its sessions gives.
+//! The journal of a machine, alone and beside the world after it, commits to it, and what any list
+//! of events of its sessions gives.
 #![tactic(auto)]
 
 mod books;
+mod counted;
 mod dones;
 mod events;
 mod law;
@@ -11,7 +12,8 @@ mod outlets;
 mod running;
 
 pub use books::Book;
-pub use dones::{Done, Path};
+pub use counted::CountedJournal;
+pub use dones::{Done, Judged, Path};
 pub use events::{Event, Seen};
 pub use law::core_law;
 pub use list_outlet::ListOutlet;

@@ -1,4 +1,4 @@
--- What a commit tells of the book and of its outlet, a press.
+-- What a commit tells of the list of entries and of its outlet, a press.
 use Rattle.std.proofs.Common.{◌≡◌, ℕ, List, [], ◌∷◌, ◌++◌, length, Option, Some, None, Result, Ok, Err, ap, sym, ◌∙◌}
 use Rattle.std.specs.Prelude.{MatchOption, MatchResult, IfSome}
 use Rattle.machine_law.specs.declared.tags.Tag.{Tag}
@@ -11,7 +11,7 @@ module _ {E : Type 0} (tag_of : E → Tag) where
   Offers tag before after old new place =
       MatchOption place ((after ≡ before) × (new ≡ old)) (λ _. (e : E) × (after ≡ before ++ e ∷ []) × (tag_of e ≡ tag) × (new ≡ edition (old.journal ++ e ∷ []) old.published))
 
-  -- the book's journal is the one that is to be published
+  -- the list of entries is the one that is to be published
   pub journal_kept : (tag : Tag) (before after : List E) (old new : Edition E) (place : Option ℕ) → before ≡ old.journal → Offers tag before after old new place → after ≡ new.journal
   journal_kept tag before after old new None same h = h.0 ∙ (same ∙ ap (λ (x : Edition E). x.journal) (sym h.1))
   journal_kept tag before after old new (Some n) same h = h.1 ∙ (ap (λ (xs : List E). xs ++ h.0 ∷ []) same ∙ ap (λ (x : Edition E). x.journal) (sym h.3))

@@ -1,5 +1,5 @@
 //! What lies under the hub's lock, and the steps that are made there.
-ghost use Rattle.std.specs.Prelude.{◌≡◌, ℕ, ◌⊎◌, ◌+◌, ◌≤◌, ◌<◌, ◌^◌, true, false, [], length, IfOk, OnOk, OnErr, IfSome, List, Option, IsTrue, ◌↔◌, slice_get, take, drop};
+ghost use Rattle.std.specs.Prelude.{◌≡◌, ℕ, ◌⊎◌, ◌+◌, ◌≤◌, ◌<◌, ◌^◌, true, false, [], length, IfOk, OnOk, OnErr, IfSome, MatchResult, List, Option, IsTrue, ◌↔◌, slice_get, take, drop};
 ghost use mathlib.Core.List.{IsPrefix};
 ghost use Rattle.machine_law.specs.Rules.{replay};
 ghost use Rattle.hub_core.specs.Core.{tagged};
@@ -14,8 +14,8 @@ use crate::press::Press;
 use crate::seats::Seats;
 use crate::session::Session;
 use crate::snapshot::Snapshot;
-use hub_core::{Book, Done};
-use machine_law::{Machine, Tag};
+use hub_core::{CountedJournal, Done, Judged};
+use machine_law::{Machine, Settled, Tag};
 use osm_base::{Memory, Steps};
 use shared_front::{Front, HubName};
 use std::alloc::Global;
@@ -23,15 +23,21 @@ use std::marker::Model;
 use std::sync::Wait;
 use std::sync::ledger::Ledger;
 
-/// The book, and the press that publishes its journal. Contracts see it as the journal and the part of it that is published.
+/// The journal, and the press that publishes it. Contracts see it as the journal and the part of it that is published.
+///
+/// It has no world of its own: what is committed is judged on the published one, once that is the
+/// whole journal's.
 pub struct Held<N: HubName, M: Machine, S: Snapshot<N, M>, R: Wait + Drop> {
-    book: Book<M>,
+    entries: CountedJournal<M>,
     press: Press<N, M, S, R>,
 }
 
 impl<N: HubName, M: Machine, S: Snapshot<N, M>, R: Wait + Drop> Drop for Held<N, M, S, R> {
     fn drop(self) {
-        let Self { book: _, press: _ } = self;
+        let Self {
+            entries: _,
+            press: _,
+        } = self;
     }
 }
 
@@ -44,7 +50,7 @@ impl<N: HubName, M: Machine, S: Snapshot<N, M>, R: Wait + Drop> Model for Held<N
 
     ghost view = { λ h. h.press };
 
-    ghost invariant = { λ h. (h.book ≡ h.press.journal) × AreSeated M.rules.tag_of N.sessions h.press.journal };
+    ghost invariant = { λ h. (h.entries ≡ h.press.journal) × AreSeated M.rules.tag_of N.sessions h.press.journal };
 }
 
 /// The held value of an empty journal, under the name of these seats, and its sessions in the order of their numbers.
@@ -64,7 +70,7 @@ pub fn start<N: HubName, M: Machine, S: Snapshot<N, M>, R: Wait + Drop>(
     let press = Press::new(alloc, rt, tail, front, sessions as usize)?;
     let sessions = sessions_of(alloc, &press, sessions)?;
     let held = Held {
-        book: Book::new(alloc),
+        entries: CountedJournal::new(alloc),
         press,
     };
     Ok((held, sessions))
@@ -95,7 +101,7 @@ impl<N: HubName, M: Machine, S: Snapshot<N, M>, R: Wait + Drop> Held<N, M, S, R>
         ensures seen { IsTrue result → length session.now.front ≤ length self.now.journal }
         ensures calls { IsTrue result → session.now.calls ≡ calls_of M.rules.tag_of session.now.number self.now.journal }
     {
-        self.book.calls(session.number()) == session.calls()
+        self.entries.calls(session.number()) == session.calls()
             && session.seen() <= self.press.front().len()
     }
 
@@ -105,7 +111,7 @@ impl<N: HubName, M: Machine, S: Snapshot<N, M>, R: Wait + Drop> Held<N, M, S, R>
         ensures kept { IsJournal M.rules self.now.journal }
         ensures seated { AreSeated M.rules.tag_of N.sessions self.now.journal }
     {
-        self.book.journal()
+        self.entries.journal()
     }
 
     // The front of the journal.
@@ -116,7 +122,15 @@ impl<N: HubName, M: Machine, S: Snapshot<N, M>, R: Wait + Drop> Held<N, M, S, R>
         self.press.front()
     }
 
-    // Settles the plan at the end of the journal. Its entry is still to be published.
+    /// Publishes the journal. `Memory` leaves it, and what was published.
+    pub fn publish(&mut self) -> Result<(), Memory>
+        ensures { MatchResult result (λ _. self.new ≡ edition self.old.journal self.old.journal) (λ _. self.new ≡ self.old) }
+    {
+        self.press.publish()
+    }
+
+    // Settles the plan at the end of the journal, on the world that is published. Its entry is still
+    // to be published.
     fn settle<L: Ledger>(
         &mut self,
         plan: M::Plan,
@@ -127,6 +141,7 @@ impl<N: HubName, M: Machine, S: Snapshot<N, M>, R: Wait + Drop> Held<N, M, S, R>
         requires made { IsMadeBefore M.rules plan self.old.journal }
         requires next { tag.call ≡ calls_of M.rules.tag_of tag.session self.old.journal + 1 }
         requires seat { tag.session < N.sessions }
+        requires whole { self.old.published ≡ self.old.journal }
         ensures acts { (made : List M.Entry) (command : M.Command) → IsPrefix made self.old.journal
             → M.rules.planned (replay M.rules made) command plan → IfOk result
             (λ done. IsDone (M.rules.act (replay M.rules self.old.journal) tag moment command) self.old.journal self.new.journal done.answer done.place) }
@@ -140,8 +155,17 @@ impl<N: HubName, M: Machine, S: Snapshot<N, M>, R: Wait + Drop> Held<N, M, S, R>
         ensures published { self.new.published ≡ self.old.published }
         ensures err { OnErr result (self.new ≡ self.old) }
     {
-        let done = self.book.commit(plan, moment, tag, &mut self.press, steps)?;
-        Ok(done)
+        let judged = self
+            .entries
+            .judge(self.press.shown().world(), &plan, moment, tag, steps)?;
+        let Judged { settled, path } = judged;
+        let Settled { answer, entry } = settled;
+        let place = self.entries.enter(entry, tag, &mut self.press)?;
+        Ok(Done {
+            answer,
+            place,
+            path,
+        })
     }
 }
 
@@ -158,6 +182,7 @@ pub fn commit<N: HubName, M: Machine, S: Snapshot<N, M>, R: Wait + Drop, L: Ledg
     requires seen { length session.old.front ≤ length held.old.journal }
     requires calls { session.old.calls ≡ calls_of M.rules.tag_of session.old.number held.old.journal }
     requires settled { session.old.owes ≡ false }
+    requires whole { held.old.published ≡ held.old.journal }
     ensures front { IsPrefix session.old.front session.new.front }
     ensures journal { IsPrefix held.old.journal held.new.journal }
     ensures done { IfOk result (λ done. IsCommitted M.rules session.old plan moment done held.old.journal held.new.journal) }
@@ -204,7 +229,7 @@ fn publish_for<N: HubName, M: Machine, S: Snapshot<N, M>, R: Wait + Drop>(
         × (held.new.published ≡ held.new.journal) }
     ensures owes { session.new.owes ≡ true → (session.new ≡ owing session.old calls) × (held.new.published ≡ held.old.published) }
 {
-    match held.press.publish() {
+    match held.publish() {
         Ok(()) => session.standing.catch_up(held.press.front().again(), calls),
         Err(_) => session.standing.owe(calls),
     }
@@ -237,7 +262,7 @@ pub fn freshen<N: HubName, M: Machine, S: Snapshot<N, M>, R: Wait + Drop>(
     ensures err { OnErr result ((held.new ≡ held.old) × (session.new ≡ session.old)) }
 {
     let _begins = session.standing.front().begins(held.press.front());
-    held.press.publish()?;
+    held.publish()?;
     let calls = session.calls();
     session.standing.catch_up(held.press.front().again(), calls);
     Ok(())

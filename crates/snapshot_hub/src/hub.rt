@@ -1,7 +1,7 @@
 //! The held value under its lock.
 //!
 //! A part of the journal is copied under the lock, before it is published. A session's front tells
-//! how many entries it has seen and holds none of them, so copies come from the book. They come
+//! how many entries it has seen and holds none of them, so copies come from the journal. They come
 //! first, so that want of memory leaves the session and what is published as they were. No more is
 //! copied than is asked for.
 ghost use Rattle.std.specs.Prelude.{◌≡◌, ℕ, ◌⊎◌, ◌+◌, ◌≤◌, ◌<◌, [], Some, None, false, true, length, vec_len, List, IfOk, OnOk, OnErr, IfSome, slice_get, take, drop};
@@ -124,7 +124,8 @@ impl<N: HubName, M: Machine, S: Snapshot<N, M>, G: Gate + Drop, R: Wait + Drop> 
         Ok(done)
     }
 
-    // The same, with the lock held.
+    // The same, with the lock held. A plan is judged on the world that is published, so what others
+    // owe is published first.
     fn commit_locked<W: Wait, L: Ledger>(
         &self,
         rt: &W,
@@ -142,6 +143,7 @@ impl<N: HubName, M: Machine, S: Snapshot<N, M>, G: Gate + Drop, R: Wait + Drop> 
         ensures err { OnErr result ((session.new ≡ session.old) ⊎ IsOwing session.old session.new) }
     {
         let mut held = self.lock_for(rt, session);
+        held.publish()?;
         let done = held::commit(&mut held, session, plan, moment, steps)?;
         if session.owes() {
             return Err(Memory);

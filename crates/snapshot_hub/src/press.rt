@@ -81,6 +81,13 @@ impl<N: HubName, M: Machine, S: Snapshot<N, M>, R: Wait + Drop> Press<N, M, S, R
         &self.front
     }
 
+    /// The copy that is published.
+    pub fn shown(&self) -> &S
+        ensures { S.entries result.now ≡ self.now.published }
+    {
+        self.writer.published()
+    }
+
     /// Publishes the journal, which waits for those who read the copy before, but not where nothing
     /// is new. `Memory` leaves what was published.
     pub fn publish(&mut self) -> Result<(), Memory>

@@ -30,7 +30,7 @@ pub fn a_lack_changes_nothing<N: HubName, R: Wait, L: Ledger>(
         return Ok(false);
     };
     let mut right = add(rt, &hub, first, 1, Lack::Nothing, steps)? == Given::Added { place: 0 };
-    for lack in [Lack::Plan, Lack::Settle, Lack::Copy, Lack::MakeRoom].iter() {
+    for lack in [Lack::Plan, Lack::Settle, Lack::Copy].iter() {
         right &= add(rt, &hub, first, 2, *lack, steps).is_err();
         hub.freshen(rt, second)?;
         right &= standing_of(&hub, first) == at(1, 1) && standing_of(&hub, second) == at(1, 0);
@@ -44,8 +44,8 @@ pub fn a_lack_changes_nothing<N: HubName, R: Wait, L: Ledger>(
     Ok(right && closing.journal == wanted.as_slice())
 }
 
-/// The journal's world has refused room once, so it takes the entry when it comes again, and the copy
-/// that is to be published has none: the session owes. Settling publishes it.
+/// The copy that is to be published has no room for the entry, which stands in the journal then: the
+/// session owes. Freshening publishes it.
 pub fn a_lack_in_publishing_is_a_debt<N: HubName, R: Wait, L: Ledger>(
     rt: &R,
     alloc: Global,
@@ -63,8 +63,6 @@ pub fn a_lack_in_publishing_is_a_debt<N: HubName, R: Wait, L: Ledger>(
         return Ok(false);
     };
     let mut right = add(rt, &hub, first, 5, Lack::MakeRoom, steps).is_err();
-    right &= standing_of(&hub, first) == at(0, 0);
-    right &= add(rt, &hub, first, 5, Lack::MakeRoom, steps).is_err();
     right &= standing_of(&hub, first) == owing(0, 1, 1);
     right &= reads(&hub, second, 0, None, steps)?;
     hub.freshen(rt, first)?;
@@ -82,6 +80,37 @@ pub fn a_lack_in_publishing_is_a_debt<N: HubName, R: Wait, L: Ledger>(
         noted(0, 2, 6, Lack::Nothing),
         noted(0, 3, 8, Lack::Nothing),
     ];
+    let closer = hub.close();
+    let closing = closer.done();
+    Ok(right && closing.journal == wanted.as_slice())
+}
+
+/// Where one session owes, another's commit publishes that first, and is settled behind it.
+pub fn a_commit_publishes_what_is_owed<N: HubName, R: Wait, L: Ledger>(
+    rt: &R,
+    alloc: Global,
+    seats: Seats<Noted>,
+    steps: &mut Steps<L>,
+) -> Result<bool, Memory>
+    requires named { seats.opened ≡ N.book }
+    requires seated { seats.sessions ≡ N.sessions }
+{
+    let (mut hub, mut sessions) = ListHub::<N, &R>::new(alloc, rt, seats, NoGate)?;
+    let Some((first, rest)) = sessions.split_first_mut() else {
+        return Ok(false);
+    };
+    let Some(second) = rest.first_mut() else {
+        return Ok(false);
+    };
+    let mut right = add(rt, &hub, first, 5, Lack::MakeRoom, steps).is_err();
+    right &= standing_of(&hub, first) == owing(0, 1, 1);
+    // its commit is refused, since there is no number of three digits, and what was owed is published
+    right &= add(rt, &hub, second, 100, Lack::Nothing, steps)? == Given::Refused;
+    right &= standing_of(&hub, second) == at(1, 0) && standing_of(&hub, first) == owing(0, 1, 1);
+    right &= reads(&hub, second, 0, Some(5), steps)?;
+    hub.freshen(rt, first)?;
+    right &= standing_of(&hub, first) == settled(1, 1, 1);
+    let wanted = [noted(0, 1, 5, Lack::MakeRoom)];
     let closer = hub.close();
     let closing = closer.done();
     Ok(right && closing.journal == wanted.as_slice())

@@ -2,7 +2,9 @@
 ghost use Rattle.std.specs.Prelude.{◌≡◌, ◌<◌};
 
 use crate::books::a_lack_leaves_book_and_outlet;
-use crate::lacks::{a_lack_changes_nothing, a_lack_in_publishing_is_a_debt};
+use crate::lacks::{
+    a_commit_publishes_what_is_owed, a_lack_changes_nothing, a_lack_in_publishing_is_a_debt,
+};
 use crate::sessions::{
     a_new_hub_is_settled, a_part_is_copied, a_plan_stands_no_longer, a_refused_command_is_no_call,
     a_session_ends_twice, freshening_shows_a_commit,
@@ -45,6 +47,8 @@ pub fn play_all<L: Ledger, R: Threads + Wait + Sync + Print>(
     tally.note(rt, "a lack changes nothing", lacks);
     let debts = a_lack_in_publishing_is_a_debt::<Brand, R, L>(rt, alloc, Seats::new(2), &mut steps);
     tally.note(rt, "a lack in publishing is a debt", debts);
+    let owed = a_commit_publishes_what_is_owed::<Brand, R, L>(rt, alloc, Seats::new(2), &mut steps);
+    tally.note(rt, "a commit publishes what is owed", owed);
     let book = a_lack_leaves_book_and_outlet::<L>(alloc, &mut steps);
     tally.note(rt, "a lack leaves book and outlet", book);
     let threads = two_threads_add::<Brand, R>(rt, alloc, Seats::new(2));

@@ -24,5 +24,8 @@ ghosts-a_lack_changes_nothing g a = record { book = a.seats.opened; sessions = a
 abbrev pub ghosts-a_lack_in_publishing_is_a_debt : goal.ghosts-a_lack_in_publishing_is_a_debt
 ghosts-a_lack_in_publishing_is_a_debt g a = record { book = a.seats.opened; sessions = a.seats.sessions }
 
+abbrev pub ghosts-a_commit_publishes_what_is_owed : goal.ghosts-a_commit_publishes_what_is_owed
+ghosts-a_commit_publishes_what_is_owed g a = record { book = a.seats.opened; sessions = a.seats.sessions }
+
 abbrev pub ghosts-two_threads_add : goal.ghosts-two_threads_add
 ghosts-two_threads_add g a = record { book = a.seats.opened; sessions = a.seats.sessions }

@@ -1,24 +1,11 @@
-use Rattle.std.proofs.Common.{◌≡◌, sym, refl, ◌∙◌, ◌++◌, ◌∷◌, [], ◌+◌, true}
+use Rattle.std.proofs.Common.{◌≡◌, sym, ◌++◌, ◌∷◌, []}
 use Rattle.std.proofs.lemmas.List.Sums.{fold_push}
-use Rattle.machine_law.specs.Rules.{replay}
-use Rattle.hub_core.specs.Journal.{calls_of, AreCounted}
-use Rattle.hub_core.proofs.Calls.{counted_push}
-use Rattle.hub_core.proofs.Legal.{journal_push}
 use Rattle.hub_core.proofs.books.Book.append.Goals as goal
 
 pub invariant_of-self-2 : goal.invariant_of-self-2
 invariant_of-self-2 g c =
     let rules = g.M.Machine.rules in
     let entry = c.args.entry in
-    let tag = c.args.tag in
-    let journal = c.self.inside.journal.items in
-    let items : c.push_reserved.new.self.items ≡ journal ++ entry ∷ [] = rw (c.push_reserved.ensures.items, c.make_ready.ensures.journal, c.in_ok-kept.ensures.ok.0) refl in
-    let taken : rules.takes (replay rules journal) entry ≡ true = rw c.self.view_is c.requires.taken in
-    let next : tag.call ≡ calls_of rules.tag_of tag.session journal + 1 = rw c.self.view_is c.requires.next in
-    let next_of : (rules.tag_of entry).call ≡ calls_of rules.tag_of (rules.tag_of entry).session journal + 1 = rw c.requires.tagged next in
-    let counted : AreCounted rules.tag_of c.make_ready.new.calls journal = λ session. c.make_ready.ensures.calls session ∙ c.self.invariant.2 session in
-    rw items (
-      rw (c.apply.ensures, c.make_ready.ensures.world, c.self.invariant.0) (sym (fold_push rules.after rules.start journal entry)),
-      journal_push rules g.met.M.Machine.after_consistent journal entry c.self.invariant.1 taken next_of,
-      counted_push rules.tag_of c.make_ready.new.calls c.set_count.new.calls journal entry tag counted c.requires.tagged c.set_count.ensures next,
-    )
+    let journal = c.self.inside.journal in
+    let items : c.append.new.self ≡ journal ++ entry ∷ [] = c.in_ok-place.ensures.ok.0 in
+    rw (items, c.apply.ensures, c.in_ok-applied.ensures.copy.0, c.ready_copy.ensures.same, c.self.invariant) (sym (fold_push rules.after rules.start journal entry))

@@ -1,0 +1,239 @@
+//! The journal with its counts of calls, and what a plan comes to at its end.
+ghost use Rattle.std.specs.Prelude.{◌≡◌, ◌+◌, ◌<◌, ℕ, true, Some, [], ◌∷◌, ◌++◌, length, IfOk, OnOk, OnErr, IfSome, MatchOption, List, vec_len, vec_capacity};
+ghost use Rattle.std.specs.BTreeMap.{ContainsKey, Updates};
+ghost use Rattle.std.specs.Ordering.{nat_cmp};
+ghost use mathlib.Core.List.{IsPrefix};
+ghost use Rattle.machine_law.specs.Rules.{replay, Later, IsForeseen};
+ghost use Rattle.hub_core.specs.Journal.{calls_of, count_of, extended, place_of, IsJournal, IsMadeBefore};
+ghost use Rattle.hub_core.specs.Paths.{MatchPath, IsPath};
+
+use crate::dones::{Judged, Path};
+use crate::outlets::Outlet;
+use machine_law::{Machine, Settled, Tag};
+use osm_base::{Memory, Steps};
+use std::alloc::Global;
+use std::collections::BTreeMap;
+use std::marker::Model;
+use std::sync::ledger::Ledger;
+
+/// A journal, and how many entries each session has in it. Contracts see the list of entries.
+///
+/// The world after them is its owner's: a book has one of its own, a hub has those that it publishes.
+#[derive(Drop)]
+pub struct CountedJournal<M: Machine> {
+    alloc: Global,
+    journal: Vec<M::Entry>,
+    /// The number of entries of each session. A session that has none may have no place.
+    calls: BTreeMap<u32, u64>,
+}
+
+impl<M: Machine> Model for CountedJournal<M> {
+    ghost use Rattle.std.specs.Prelude.{List};
+    ghost use Rattle.hub_core.specs.Journal.{IsJournal, AreCounted};
+
+    ghost Value = { List M.Entry };
+
+    ghost view = { λ b. b.journal.items };
+
+    ghost invariant = { λ b. IsJournal M.rules b.journal.items × AreCounted M.rules.tag_of b.calls b.journal.items };
+}
+
+impl<M: Machine> CountedJournal<M> {
+    /// An empty journal. It takes no memory.
+    pub fn new(alloc: Global) -> CountedJournal<M>
+        ensures { result ≡ [] }
+    {
+        CountedJournal {
+            alloc,
+            journal: Vec::new(alloc),
+            calls: BTreeMap::new(alloc),
+        }
+    }
+
+    /// The entries, in the order of their commits.
+    pub fn journal(&self) -> &[M::Entry]
+        ensures journal { result.now ≡ self.now }
+        ensures kept { IsJournal M.rules self.now }
+    {
+        self.journal.as_slice()
+    }
+
+    /// The entries alone.
+    pub fn into_journal(self) -> Vec<M::Entry>
+        ensures journal { result.items ≡ self }
+        ensures kept { IsJournal M.rules self }
+    {
+        let CountedJournal {
+            alloc: _,
+            journal,
+            calls: _,
+        } = self;
+        journal
+    }
+
+    /// The number of the journal's entries with this session, in steps that grow with the logarithm
+    /// of the number of sessions.
+    pub fn calls(&self, session: u32) -> u64
+        ensures { result ≡ calls_of M.rules.tag_of session self.now }
+    {
+        self.calls.get(&session).copied().unwrap_or(0)
+    }
+
+    /// What a plan comes to at the end of the journal, as the session's next call at that moment, on
+    /// the world after it. Nothing is entered yet.
+    pub fn judge<L: Ledger>(
+        &self,
+        world: &M::World,
+        plan: &M::Plan,
+        moment: u64,
+        tag: Tag,
+        steps: &mut Steps<L>,
+    ) -> Result<Judged<M::Entry, M::Look>, Memory>
+        requires world { M.state world.now ≡ replay M.rules self.now }
+        requires made { IsMadeBefore M.rules plan.now self.now }
+        ensures acts { (made : List M.Entry) (command : M.Command) → IsPrefix made self.now → M.rules.planned (replay M.rules made) command plan.now
+            → IfOk result (λ judged. judged.settled ≡ M.rules.act (replay M.rules self.now) tag moment command) }
+        ensures fits { IfOk result
+            (λ judged. IfSome judged.settled.entry (λ e. (M.rules.takes (replay M.rules self.now) e ≡ true) × (M.rules.tag_of e ≡ tag))) }
+        ensures path { IfOk result (λ judged. IsPath M.rules plan.now (replay M.rules self.now) judged.path) }
+        ensures fast { IfOk result (λ judged. MatchPath judged.path (steps.new ≡ steps.old) (λ look. Unit {0})) }
+    {
+        let path = path_of::<M>(world, plan);
+        let settled = settle_by::<M, L>(self.alloc, world, plan, &path, tag, moment, steps)?;
+        Ok(Judged { settled, path })
+    }
+
+    /// Puts an entry at the end, and offers it. It returns its place. All memory is taken first:
+    /// `Memory`, the only error, leaves the journal and the outlet.
+    pub fn append<O: Outlet<M::Entry>>(
+        &mut self,
+        entry: M::Entry,
+        tag: Tag,
+        outlet: &mut O,
+    ) -> Result<u64, Memory>
+        requires taken { M.rules.takes (replay M.rules self.old) entry ≡ true }
+        requires tagged { M.rules.tag_of entry ≡ tag }
+        requires next { tag.call ≡ calls_of M.rules.tag_of tag.session self.old + 1 }
+        requires welcome { O.welcomes outlet.old entry }
+        ensures ok { IfOk result (λ place. (self.new ≡ self.old ++ entry ∷ []) × (place ≡ length self.old)
+            × O.offered outlet.old entry outlet.new) }
+        ensures err { OnErr result ((self.new ≡ self.old) × O.kept outlet.old outlet.new) }
+    {
+        make_ready(&mut self.journal, &mut self.calls, tag.session)?;
+        let kept = offer_copied::<M, O>(self.alloc, entry, outlet)?;
+        let place = self.journal.len() as u64;
+        self.journal.push_reserved(kept);
+        set_count(&mut self.calls, tag.session, tag.call);
+        Ok(place)
+    }
+
+    /// Puts an entry at the end, if there is one, as `append` does.
+    pub fn enter<O: Outlet<M::Entry>>(
+        &mut self,
+        entry: Option<M::Entry>,
+        tag: Tag,
+        outlet: &mut O,
+    ) -> Result<Option<u64>, Memory>
+        requires fits { IfSome entry (λ e. (M.rules.takes (replay M.rules self.old) e ≡ true) × (M.rules.tag_of e ≡ tag)) }
+        requires next { tag.call ≡ calls_of M.rules.tag_of tag.session self.old + 1 }
+        requires welcome { (entry : M.Entry) → M.rules.takes (replay M.rules self.old) entry ≡ true → M.rules.tag_of entry ≡ tag → O.welcomes outlet.old entry }
+        ensures entered { OnOk result (self.new ≡ extended self.old entry) }
+        ensures placed { IfOk result (λ place. place ≡ place_of self.old entry) }
+        ensures offers { IfOk result (λ place. MatchOption place ((self.new ≡ self.old) × (outlet.new ≡ outlet.old))
+            (λ place. (entry : M.Entry) × (self.new ≡ self.old ++ entry ∷ []) × (M.rules.tag_of entry ≡ tag)
+            × O.offered outlet.old entry outlet.new)) }
+        ensures err { OnErr result ((self.new ≡ self.old) × O.kept outlet.old outlet.new) }
+    {
+        match entry {
+            Some(entry) => match self.append(entry, tag, outlet) {
+                Ok(place) => Ok(Some(place)),
+                Err(memory) => Err(memory),
+            },
+            None => Ok(None),
+        }
+    }
+}
+
+// Takes all memory that an entry of a session needs, but for its copy.
+fn make_ready<E>(
+    journal: &mut Vec<E>,
+    calls: &mut BTreeMap<u32, u64>,
+    session: u32,
+) -> Result<(), Memory>
+    ensures journal { journal.new.items ≡ journal.old.items }
+    ensures calls { (other : ℕ) → count_of calls.new other ≡ count_of calls.old other }
+    ensures journal_room { OnOk result (vec_len journal.new < vec_capacity journal.new) }
+    ensures calls_room { OnOk result (ContainsKey nat_cmp calls.new session) }
+{
+    journal.reserve(1)?;
+    make_place(calls, session)
+}
+
+// Gives a session a place among the counts.
+fn make_place(calls: &mut BTreeMap<u32, u64>, session: u32) -> Result<(), Memory>
+    ensures same { (other : ℕ) → count_of calls.new other ≡ count_of calls.old other }
+    ensures there { OnOk result (ContainsKey nat_cmp calls.new session) }
+{
+    if !calls.contains_key(&session) {
+        calls.insert(session, 0)?;
+    }
+    Ok(())
+}
+
+// Sets the count of a session that has a place.
+fn set_count(calls: &mut BTreeMap<u32, u64>, session: u32, count: u64)
+    requires { ContainsKey nat_cmp calls.old session }
+    ensures { Updates nat_cmp calls.old calls.new session (Some count) }
+{
+    if let Some(place) = calls.get_mut(&session) {
+        *place = count;
+    }
+}
+
+// Offers an entry, and returns a copy of it.
+fn offer_copied<M: Machine, O: Outlet<M::Entry>>(
+    alloc: Global,
+    entry: M::Entry,
+    outlet: &mut O,
+) -> Result<M::Entry, Memory>
+    requires { O.welcomes outlet.old entry }
+    ensures ok { IfOk result (λ kept. (kept ≡ entry) × O.offered outlet.old entry outlet.new) }
+    ensures err { OnErr result (O.kept outlet.old outlet.new) }
+{
+    let kept = M::copy(alloc, &entry)?;
+    outlet.offer(entry)?;
+    Ok(kept)
+}
+
+// Whether a plan stands.
+fn path_of<M: Machine>(world: &M::World, plan: &M::Plan) -> Path<M::Look>
+    ensures { IsPath M.rules plan.now (M.state world.now) result }
+{
+    match M::still(world, plan) {
+        Ok(()) => Path::Fast,
+        Err(look) => Path::Slow(look),
+    }
+}
+
+// Settles a plan that stands, and checks its command again otherwise.
+fn settle_by<M: Machine, L: Ledger>(
+    alloc: Global,
+    world: &M::World,
+    plan: &M::Plan,
+    path: &Path<M::Look>,
+    tag: Tag,
+    moment: u64,
+    steps: &mut Steps<L>,
+) -> Result<Settled<M::Entry>, Memory>
+    requires foreseen { IsForeseen M.rules plan.now (M.state world.now) }
+    requires path { IsPath M.rules plan.now (M.state world.now) path.now }
+    ensures acts { (begun : M.State) (command : M.Command) → M.rules.planned begun command plan.now → Later M.rules begun (M.state world.now)
+        → IfOk result (λ s. s ≡ M.rules.act (M.state world.now) tag moment command) }
+    ensures entry { IfOk result (λ s. IfSome s.entry (λ e. (M.rules.takes (M.state world.now) e ≡ true) × (M.rules.tag_of e ≡ tag))) }
+    ensures fast { MatchPath path.now (steps.new ≡ steps.old) (λ look. Unit {0}) }
+{
+    match path {
+        Path::Fast => M::settle(alloc, world, plan, tag, moment, steps),
+        Path::Slow(_) => M::again(alloc, world, plan, tag, moment, steps),
+    }
+}
