@@ -5,13 +5,14 @@ ghost use Rattle.history_store.specs.Shelf.{HasMore};
 
 use osm_base::{Memory, Roomy, Stamp};
 use osm_element::{Tags, Version};
+use segment_list::Segments;
 use std::alloc::Global;
 use std::marker::Model;
 
 /// The histories of one kind, and rows that wait for new elements: the first `used` are histories.
 #[derive(Drop)]
 pub struct Shelf {
-    rows: Vec<Roomy<Version>>,
+    rows: Segments<Roomy<Version>>,
     used: usize,
 }
 
@@ -20,9 +21,9 @@ impl Model for Shelf {
 
     ghost Value = { Shelved };
 
-    ghost view = { λ s. shelved s.rows.items s.used };
+    ghost view = { λ s. shelved s.rows s.used };
 
-    ghost invariant = { λ s. IsShelf s.rows.items s.used };
+    ghost invariant = { λ s. IsShelf s.rows s.used };
 }
 
 impl Shelf {
@@ -31,7 +32,7 @@ impl Shelf {
         ensures { result ≡ record { histories = []; free = [] } }
     {
         Shelf {
-            rows: Vec::new(alloc),
+            rows: Segments::new(alloc),
             used: 0,
         }
     }
@@ -51,7 +52,10 @@ impl Shelf {
         if id == 0 || id > self.used as u64 {
             &[]
         } else {
-            self.rows[id as usize - 1].items()
+            match self.rows.get(id as usize - 1) {
+                Some(row) => row.items(),
+                None => &[],
+            }
         }
     }
 
@@ -71,7 +75,7 @@ impl Shelf {
         ensures same { self.new.histories ≡ self.old.histories }
         ensures free { HasMore self.old.free self.new.free place (if is_ok result then versions else 0) }
     {
-        self.rows[place].promise(versions)
+        self.rows.item_mut(place).promise(versions)
     }
 
     /// Takes a promise back.
@@ -91,7 +95,7 @@ impl Shelf {
         ensures same { self.new.histories ≡ self.old.histories }
         ensures free { HasMore self.new.free self.old.free place versions }
     {
-        self.rows[place].release(versions);
+        self.rows.item_mut(place).release(versions);
     }
 
     /// Takes back what is promised at a place.
@@ -133,7 +137,7 @@ impl Shelf {
         ensures histories { self.new.histories ≡ add_version self.old.histories place version }
         ensures free { HasMore self.new.free self.old.free place 1 }
     {
-        self.rows[place].push(version);
+        self.rows.item_mut(place).push(version);
         if place == self.used {
             self.used += 1;
         }
@@ -148,7 +152,7 @@ impl Shelf {
             ≡ slice_set self.old.histories place (mark_in (slice_index_or self.old.histories place []) number redaction) }
         ensures free { self.new.free ≡ self.old.free }
     {
-        mark_row(alloc, &mut self.rows[place], number, redaction);
+        mark_row(alloc, self.rows.item_mut(place), number, redaction);
     }
 }
 
