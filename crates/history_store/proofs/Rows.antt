@@ -1,16 +1,17 @@
 -- One row of a shelf changes.
-use Rattle.std.proofs.Common.{◌≡◌, ℕ, ◌+◌, ◌-◌, ◌<◌, ◌≤◌, zero, suc, subst, Bool, false, ⊎_elim, Option, Some, None, List, [], ◌∷◌, ◌++◌, length, get_or, take, set, map, refl, sym, ap, ◌∙◌, arith}
+use Rattle.std.proofs.Common.{◌≡◌, ℕ, ◌+◌, ◌-◌, ◌<◌, ◌≤◌, zero, suc, subst, Bool, true, false, ⊎_elim, Option, Some, None, List, [], ◌∷◌, ◌++◌, length, get_or, take, set, map, refl, sym, ap, ◌∙◌, arith}
 use Rattle.std.specs.Prelude.{slice_get, slice_index, slice_index_or, slice_set, ◌==◌, if◌then◌else◌}
-use Rattle.std.proofs.lemmas.List.{map-set, get_or-map, length-map, length-take, get_or-take, get_or-set_same, get_or-set_other, take-map}
+use Rattle.std.proofs.lemmas.List.{map-append, map-set, get_or-map, length-map, length-take, get_or-take, get_or-set_same, get_or-set_other, take-map}
 use Rattle.std.proofs.lemmas.Bool.{eqb-true}
 use Rattle.std.proofs.lemmas.Bool.{cases_Bool}
 use Rattle.std.proofs.Math.Seq.{take-set-lt, map-set_same}
-use Rattle.std.specs.Option.{option_map_or}
+use Rattle.std.specs.Option.{option_map_or, option_map, unwrap_or}
+use Rattle.std.proofs.lemmas.Option.{get_or_from_slice_get, slice_get-map, unwrap_or-slice_get}
 use Rattle.std.proofs.lemmas.Bool.Decides.{nat_tests}
 use Rattle.osm_base.specs.Row.{Row}
 use Rattle.osm_element.specs.declared.versions.Version.{Version}
 use Rattle.osm_element.specs.Elements.{add_version, mark_in}
-use Rattle.history_store.specs.Shelf.{HasMore, Shelved, shelved}
+use Rattle.history_store.specs.Shelf.{HasMore, IsShelf, Shelved, shelved}
 
 abbrev items : Row Version → List Version
 items r = r.items
@@ -23,6 +24,17 @@ has_row : (rows : List (Row Version)) (place : ℕ) → 0 < slice_index (map fre
 has_row [] place some = absurd (omega arith)
 has_row (r ∷ rows) zero some = grind arith
 has_row (r ∷ rows) (suc place) some = let h = has_row rows place some in grind (arith, h)
+
+-- a row that is found at a place stands there
+pub found : (rows : List (Row Version)) (place : ℕ) (old : Row Version) → slice_get rows place ≡ Some old → old ≡ get_or rows place old
+found rows place old there = sym (get_or_from_slice_get rows place old old there)
+
+-- no room where there is no row
+pub none_free : (rows : List (Row Version)) (used place : ℕ) (s : Shelved) → shelved rows used ≡ s → slice_get rows place ≡ None → slice_index s.free place ≡ 0
+none_free rows used place s view none =
+    ap (λ (s : Shelved). slice_index s.free place) (sym view)
+    ∙ sym (unwrap_or-slice_get (map frees rows) place 0)
+    ∙ ap (λ (o : Option ℕ). unwrap_or o 0) (slice_get-map frees rows place ∙ ap (option_map frees) none)
 
 -- the room of one place changes
 pub frees_set :
@@ -150,6 +162,36 @@ histories_longer rows used place s old new v view within reached other was more 
     = ap (λ (s : Shelved). length s.histories) (sym view) ∙ length-map (take used rows) items ∙ length-take used rows ∙ omega (arith, within) in
     let below : place < length s.histories = omega (arith, kept, reached, other) in
     histories_set rows used place s old new (λ vs. vs ++ v ∷ []) view within below was more ∙ longer s.histories place v below
+
+take_set_at : (rows : List (Row Version)) (place : ℕ) (new : Row Version) → place < length rows → take (suc place) (set rows place new) ≡ take place rows ++ new ∷ []
+take_set_at [] place new within = absurd (omega arith)
+take_set_at (r ∷ rows) zero new within = refl
+take_set_at (r ∷ rows) (suc place) new within = ap (λ (rs : List (Row Version)). r ∷ rs) (take_set_at rows place new (omega arith))
+
+-- the next element gets its first version
+pub histories_new :
+    (rows : List (Row Version)) (used place : ℕ) (s : Shelved) (old new : Row Version) (v : Version)
+    → shelved rows used ≡ s
+    → IsShelf rows used
+    → 0 < slice_index s.free place
+    → place ≡ used
+    → old ≡ get_or rows place old
+    → new.items ≡ old.items ++ v ∷ []
+    → map (λ r. r.items) (take (used + 1) (set rows place new)) ≡ add_version s.histories place v
+histories_new rows used place s old new v view shelf room next was more =
+    let within : place < length rows = has_row rows place (let P : Shelved → Type 0 = λ s. 0 < slice_index s.free place in subst P (sym view) room) in
+    let first : old.items ≡ [] = ap items was ∙ shelf.waiting place old (omega (arith, next)) within in
+    let kept : length s.histories ≡ used
+    = ap (λ (s : Shelved). length s.histories) (sym view) ∙ length-map (take used rows) items ∙ length-take used rows ∙ (let w = shelf.within in omega (arith, w)) in
+    let count : used + 1 ≡ suc place = omega (arith, next) in
+    let last : (place == length s.histories) ≡ true = let e = next ∙ sym kept in grind (arith, nat_tests, e) in
+    ap (λ (n : ℕ). map items (take n (set rows place new))) count
+    ∙ ap (map items) (take_set_at rows place new within)
+    ∙ map-append items (take place rows) (new ∷ [])
+    ∙ ap (λ (n : ℕ). map items (take n rows) ++ new.items ∷ []) next
+    ∙ ap (λ (vs : List Version). map items (take used rows) ++ vs ∷ []) (more ∙ ap (λ (vs : List Version). vs ++ v ∷ []) first)
+    ∙ ap (λ (s : Shelved). s.histories ++ (v ∷ []) ∷ []) view
+    ∙ ap (λ (b : Bool). if b then s.histories ++ (v ∷ []) ∷ [] else slice_set s.histories place (slice_index_or s.histories place [] ++ v ∷ [])) (sym last)
 
 marked :
     (vs : List Version) (i : ℕ) (v hidden : Version) (redaction : Option ℕ)

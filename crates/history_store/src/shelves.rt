@@ -3,15 +3,17 @@ ghost use Rattle.std.specs.Prelude.{◌≡◌, ℕ, ◌==◌, ◌+◌, ◌-◌, 
 ghost use Rattle.osm_element.specs.Elements.{add_version, history_in, mark_in};
 ghost use Rattle.history_store.specs.Shelf.{HasMore};
 
-use osm_base::{Memory, Roomy, Stamp};
-use osm_element::{Tags, Version};
+use crate::histories::History;
+use osm_base::Memory;
+use osm_element::Version;
+use segment_list::Segments;
 use std::alloc::Global;
 use std::marker::Model;
 
 /// The histories of one kind, and rows that wait for new elements: the first `used` are histories.
 #[derive(Drop)]
 pub struct Shelf {
-    rows: Vec<Roomy<Version>>,
+    rows: Segments<History>,
     used: usize,
 }
 
@@ -20,9 +22,9 @@ impl Model for Shelf {
 
     ghost Value = { Shelved };
 
-    ghost view = { λ s. shelved s.rows.items s.used };
+    ghost view = { λ s. shelved s.rows s.used };
 
-    ghost invariant = { λ s. IsShelf s.rows.items s.used };
+    ghost invariant = { λ s. IsShelf s.rows s.used };
 }
 
 impl Shelf {
@@ -31,7 +33,7 @@ impl Shelf {
         ensures { result ≡ record { histories = []; free = [] } }
     {
         Shelf {
-            rows: Vec::new(alloc),
+            rows: Segments::new(alloc),
             used: 0,
         }
     }
@@ -51,7 +53,10 @@ impl Shelf {
         if id == 0 || id > self.used as u64 {
             &[]
         } else {
-            self.rows[id as usize - 1].items()
+            match self.rows.get(id as usize - 1) {
+                Some(row) => row.items(),
+                None => &[],
+            }
         }
     }
 
@@ -63,15 +68,15 @@ impl Shelf {
         ensures err { OnErr result (HasMore self.old.free self.new.free place 0) }
     {
         self.extend(alloc, place)?;
-        self.promise_row(place, versions)
+        self.promise_row(alloc, place, versions)
     }
 
-    fn promise_row(&mut self, place: usize, versions: usize) -> Result<(), Memory>
+    fn promise_row(&mut self, alloc: Global, place: usize, versions: usize) -> Result<(), Memory>
         requires { place < length self.old.free }
         ensures same { self.new.histories ≡ self.old.histories }
         ensures free { HasMore self.old.free self.new.free place (if is_ok result then versions else 0) }
     {
-        self.rows[place].promise(versions)
+        self.rows.item_mut(place).promise(alloc, versions)
     }
 
     /// Takes a promise back.
@@ -91,7 +96,7 @@ impl Shelf {
         ensures same { self.new.histories ≡ self.old.histories }
         ensures free { HasMore self.new.free self.old.free place versions }
     {
-        self.rows[place].release(versions);
+        self.rows.item_mut(place).release(versions);
     }
 
     /// Takes back what is promised at a place.
@@ -121,7 +126,7 @@ impl Shelf {
         ensures ok { OnOk result (place < length self.new.free) }
     {
         for _ in self.rows.len()..place + 1 {
-            self.rows.push(Roomy::none(alloc))?;
+            self.rows.push(History::none())?;
         }
         Ok(())
     }
@@ -133,7 +138,7 @@ impl Shelf {
         ensures histories { self.new.histories ≡ add_version self.old.histories place version }
         ensures free { HasMore self.new.free self.old.free place 1 }
     {
-        self.rows[place].push(version);
+        self.rows.item_mut(place).push(version);
         if place == self.used {
             self.used += 1;
         }
@@ -148,35 +153,6 @@ impl Shelf {
             ≡ slice_set self.old.histories place (mark_in (slice_index_or self.old.histories place []) number redaction) }
         ensures free { self.new.free ≡ self.old.free }
     {
-        mark_row(alloc, &mut self.rows[place], number, redaction);
+        self.rows.item_mut(place).mark(alloc, number, redaction);
     }
-}
-
-/// A version to stand where another is taken out. It takes no memory.
-fn vacant(alloc: Global) -> Version {
-    Version {
-        content: None,
-        tags: Tags::none(alloc),
-        changeset: 0,
-        stamp: Stamp(0),
-        redaction: None,
-    }
-}
-
-fn mark_row(alloc: Global, row: &mut Roomy<Version>, number: usize, redaction: Option<u64>)
-    requires counted { 0 < number }
-    requires made { number ≤ length row.old.items }
-    ensures { row.new ≡ record row.old { items = mark_in row.old.items number redaction } }
-{
-    let version = row.replace(number - 1, vacant(alloc));
-    row.set(
-        number - 1,
-        Version {
-            content: version.content,
-            tags: version.tags,
-            changeset: version.changeset,
-            stamp: version.stamp,
-            redaction,
-        },
-    );
 }

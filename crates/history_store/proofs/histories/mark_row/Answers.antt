@@ -2,7 +2,7 @@ use Rattle.std.proofs.Common.{◌∙◌, ◌-◌, ap, set}
 use Rattle.osm_base.specs.Row.{Row}
 use Rattle.osm_element.specs.declared.versions.Version.{Version}
 use Rattle.history_store.proofs.Rows.{marked_in, with_items}
-use Rattle.history_store.proofs.shelves.mark_row.Goals as goal
+use Rattle.history_store.proofs.histories.mark_row.Goals as goal
 
 pub returns : goal.returns
 returns c =
