@@ -21,19 +21,19 @@ returns-in_err-content c =
     let fits : SFits w64 c.args.op.id = search rules in
     let named : name_of (look_of c.args.placeholders.now) c.args.op.kind c.args.op.id ≡ Ok c.in_ok-name.name = sym (simp to_z-of_z at c.in_ok-name.ensures) in
     let local = local_cause c.args.op.tags c.args.content in
-    let later : c.match-op-3.later ≡ later_of c.args.op.version local = elim c.match-op-3.branch [ in-Some w ↦ w.later-is ∙ c.local_cause-local.ensures.value ∙ sym (ap (λ v. later_of v local) w.in-Some.is) | in-None w ↦ w.later-is ∙ sym (ap (λ v. later_of v local) w.in-None.is) ] in
-    rw (p.1, p.2) (modified-stops (look_of c.args.placeholders.now) c.args.op c.args.content c.match-op-3.later c.in_err-content.field-0.0 c.in_ok-name.name named later c.in_err-content.ensures)
+    let later : c.match-op-4.later ≡ later_of c.args.op.version local = elim c.match-op-4.branch [ in-Some w ↦ w.later-is ∙ c.local_cause-local.ensures.value ∙ sym (ap (λ v. later_of v local) w.in-Some.is) | in-None w ↦ w.later-is ∙ sym (ap (λ v. later_of v local) w.in-None.is) ] in
+    rw (p.1, p.2) (modified-stops (look_of c.args.placeholders.now) c.args.op c.args.content c.match-op-4.later c.in_err-content.field-0.0 c.in_ok-name.name named later c.in_err-content.ensures)
 
 pub returns-in_err-version : goal.returns-in_err-version
 returns-in_err-version c =
     let local = local_cause c.args.op.tags c.args.content in
-    let later : c.match-op-3.later ≡ later_of c.args.op.version local = elim c.match-op-3.branch [ in-Some w ↦ w.later-is ∙ c.local_cause-local.ensures.value ∙ sym (ap (λ v. later_of v local) w.in-Some.is) | in-None w ↦ w.later-is ∙ sym (ap (λ v. later_of v local) w.in-None.is) ] in
-    absurd (versioned (look_of c.args.placeholders.now) c.args.content c.match-op-3.later c.in_ok-content.content c.args.op.version local later c.in_ok-content.ensures c.in_err-version.ensures.ok_part)
+    let later : c.match-op-4.later ≡ later_of c.args.op.version local = elim c.match-op-4.branch [ in-Some w ↦ w.later-is ∙ c.local_cause-local.ensures.value ∙ sym (ap (λ v. later_of v local) w.in-Some.is) | in-None w ↦ w.later-is ∙ sym (ap (λ v. later_of v local) w.in-None.is) ] in
+    absurd (versioned (look_of c.args.placeholders.now) c.args.content c.match-op-4.later c.in_ok-content.content c.args.op.version local later c.in_ok-content.ensures c.in_err-version.ensures.ok_part)
 
 pub returns : goal.returns
 returns c =
     let fits : SFits w64 c.args.op.id = search rules in
     let named : name_of (look_of c.args.placeholders.now) c.args.op.kind c.args.op.id ≡ Ok c.in_ok-name.name = sym (simp to_z-of_z at c.in_ok-name.ensures) in
     let local = local_cause c.args.op.tags c.args.content in
-    let later : c.match-op-3.later ≡ later_of c.args.op.version local = elim c.match-op-3.branch [ in-Some w ↦ w.later-is ∙ c.local_cause-local.ensures.value ∙ sym (ap (λ v. later_of v local) w.in-Some.is) | in-None w ↦ w.later-is ∙ sym (ap (λ v. later_of v local) w.in-None.is) ] in
-    modified-goes (look_of c.args.placeholders.now) c.args.op c.args.content c.match-op-3.later c.in_ok-name.name c.in_ok-content.content c.in_ok-version.version named later c.in_ok-content.ensures c.in_ok-version.ensures.ok_part
+    let later : c.match-op-4.later ≡ later_of c.args.op.version local = elim c.match-op-4.branch [ in-Some w ↦ w.later-is ∙ c.local_cause-local.ensures.value ∙ sym (ap (λ v. later_of v local) w.in-Some.is) | in-None w ↦ w.later-is ∙ sym (ap (λ v. later_of v local) w.in-None.is) ] in
+    modified-goes (look_of c.args.placeholders.now) c.args.op c.args.content c.match-op-4.later c.in_ok-name.name c.in_ok-content.content c.in_ok-version.version named later c.in_ok-content.ensures c.in_ok-version.ensures.ok_part
