@@ -9,15 +9,15 @@ use crate::send::{Shown, members, moment, natural, optional_moment, version};
 use json::Writer;
 use osm_base::{Box7, Owner};
 use osm_change::ChangesetRow;
-use std::alloc::{AllocError, Global};
+use std::alloc::AllocError;
 
-fn life(alloc: Global, out: &mut Writer, row: &ChangesetRow) -> Result<(), AllocError>
+fn life(out: &mut Writer, row: &ChangesetRow) -> Result<(), AllocError>
     requires { HasShownLife row.now }
     ensures { SendsFields result out.old out.new (life_fields row.now) }
 {
     natural(out, "changes_count", row.count)?;
-    optional_moment(alloc, out, "closed_at", row.closes)?;
-    moment(alloc, out, "created_at", row.created)?;
+    optional_moment(out, "closed_at", row.closes)?;
+    moment(out, "created_at", row.created)?;
     natural(out, "id", row.id)?;
     Ok(())
 }
@@ -49,12 +49,12 @@ fn owner(out: &mut Writer, owner: &Owner) -> Result<(), AllocError>
     )
 }
 
-fn changeset_row(alloc: Global, out: &mut Writer, row: &ChangesetRow) -> Result<(), AllocError>
+fn changeset_row(out: &mut Writer, row: &ChangesetRow) -> Result<(), AllocError>
     requires { HasShownLife row.now }
     ensures { Sends result out.old out.new (tokens_of (row_data row.now)) }
 {
     out.begin_object()?;
-    life(alloc, out, row)?;
+    life(out, row)?;
     touched(out, &row.touched)?;
     open(out, row)?;
     out.key("tags")?;
@@ -63,43 +63,35 @@ fn changeset_row(alloc: Global, out: &mut Writer, row: &ChangesetRow) -> Result<
     out.end_object()
 }
 
-pub(crate) fn changeset(
-    alloc: Global,
-    out: &mut Writer,
-    row: &ChangesetRow,
-) -> Result<(), AllocError>
+pub(crate) fn changeset(out: &mut Writer, row: &ChangesetRow) -> Result<(), AllocError>
     requires { HasShownLife row.now }
     ensures { Sends result out.old out.new (tokens_of (changeset_data row.now)) }
 {
     out.begin_object()?;
     out.key("changeset")?;
-    changeset_row(alloc, out, row)?;
+    changeset_row(out, row)?;
     version(out)?;
     out.end_object()
 }
 
-fn changeset_rows(alloc: Global, out: &mut Writer, rows: &[ChangesetRow]) -> Result<(), AllocError>
+fn changeset_rows(out: &mut Writer, rows: &[ChangesetRow]) -> Result<(), AllocError>
     requires { All HasShownLife rows.now }
     ensures { Sends result out.old out.new (flat_map (λ r. tokens_of (row_data r)) rows.now) }
 {
     for row in rows {
-        changeset_row(alloc, out, row)?;
+        changeset_row(out, row)?;
     }
     Ok(())
 }
 
-pub(crate) fn changesets(
-    alloc: Global,
-    out: &mut Writer,
-    rows: &[ChangesetRow],
-) -> Result<(), AllocError>
+pub(crate) fn changesets(out: &mut Writer, rows: &[ChangesetRow]) -> Result<(), AllocError>
     requires { All HasShownLife rows.now }
     ensures { Sends result out.old out.new (tokens_of (changesets_data rows.now)) }
 {
     out.begin_object()?;
     out.key("changesets")?;
     out.begin_array()?;
-    changeset_rows(alloc, out, rows)?;
+    changeset_rows(out, rows)?;
     out.end_array()?;
     version(out)?;
     out.end_object()

@@ -11,7 +11,7 @@ use json::Writer;
 use osm_base::Box7;
 use osm_change::ElementRow;
 use osm_element::Version;
-use std::alloc::{AllocError, Global};
+use std::alloc::AllocError;
 
 fn number(out: &mut Writer, row: &ElementRow<'_>) -> Result<(), AllocError>
     ensures { SendsFields result out.old out.new (number_fields row.now) }
@@ -46,7 +46,7 @@ fn origin(out: &mut Writer, row: &ElementRow<'_>) -> Result<(), AllocError>
     )
 }
 
-fn element(alloc: Global, out: &mut Writer, row: &ElementRow<'_>) -> Result<(), AllocError>
+fn element(out: &mut Writer, row: &ElementRow<'_>) -> Result<(), AllocError>
     requires { HasShownStamp row.now }
     ensures { Sends result out.old out.new (tokens_of (element_data row.now)) }
 {
@@ -55,17 +55,17 @@ fn element(alloc: Global, out: &mut Writer, row: &ElementRow<'_>) -> Result<(), 
     visible(out, row.version)?;
     redaction(out, row.version)?;
     visible_tags(out, row.version)?;
-    moment(alloc, out, "timestamp", row.version.stamp)?;
+    moment(out, "timestamp", row.version.stamp)?;
     origin(out, row)?;
     out.end_object()
 }
 
-fn element_rows(alloc: Global, out: &mut Writer, rows: &[ElementRow<'_>]) -> Result<(), AllocError>
+fn element_rows(out: &mut Writer, rows: &[ElementRow<'_>]) -> Result<(), AllocError>
     requires { All HasShownStamp rows.now }
     ensures { Sends result out.old out.new (flat_map (λ r. tokens_of (element_data r)) rows.now) }
 {
     for row in rows {
-        element(alloc, out, row)?;
+        element(out, row)?;
     }
     Ok(())
 }
@@ -87,7 +87,6 @@ fn bounds(out: &mut Writer, bounds: &Option<Box7>) -> Result<(), AllocError>
 }
 
 pub(crate) fn elements(
-    alloc: Global,
     out: &mut Writer,
     within: &Option<Box7>,
     rows: &[ElementRow<'_>],
@@ -99,7 +98,7 @@ pub(crate) fn elements(
     bounds(out, within)?;
     out.key("elements")?;
     out.begin_array()?;
-    element_rows(alloc, out, rows)?;
+    element_rows(out, rows)?;
     out.end_array()?;
     version(out)?;
     out.end_object()
@@ -117,40 +116,36 @@ fn action_name(row: &ElementRow<'_>) -> &'static str
     }
 }
 
-fn block(alloc: Global, out: &mut Writer, row: &ElementRow<'_>) -> Result<(), AllocError>
+fn block(out: &mut Writer, row: &ElementRow<'_>) -> Result<(), AllocError>
     requires { HasShownStamp row.now }
     ensures { Sends result out.old out.new (tokens_of (block_data row.now)) }
 {
     out.begin_object()?;
     out.key(action_name(row))?;
     out.begin_array()?;
-    element(alloc, out, row)?;
+    element(out, row)?;
     out.end_array()?;
     out.end_object()
 }
 
-fn blocks(alloc: Global, out: &mut Writer, rows: &[ElementRow<'_>]) -> Result<(), AllocError>
+fn blocks(out: &mut Writer, rows: &[ElementRow<'_>]) -> Result<(), AllocError>
     requires { All HasShownStamp rows.now }
     ensures { Sends result out.old out.new (flat_map (λ r. tokens_of (block_data r)) rows.now) }
 {
     for row in rows {
-        block(alloc, out, row)?;
+        block(out, row)?;
     }
     Ok(())
 }
 
-pub(crate) fn download(
-    alloc: Global,
-    out: &mut Writer,
-    rows: &[ElementRow<'_>],
-) -> Result<(), AllocError>
+pub(crate) fn download(out: &mut Writer, rows: &[ElementRow<'_>]) -> Result<(), AllocError>
     requires { All HasShownStamp rows.now }
     ensures { Sends result out.old out.new (tokens_of (download_data rows.now)) }
 {
     out.begin_object()?;
     out.key("osmChange")?;
     out.begin_array()?;
-    blocks(alloc, out, rows)?;
+    blocks(out, rows)?;
     out.end_array()?;
     version(out)?;
     out.end_object()

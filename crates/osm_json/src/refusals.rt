@@ -13,7 +13,7 @@ use json::Writer;
 use osm_base::{Kind, Stamp};
 use osm_change::{Refusal, Said};
 use osm_element::LocalFault;
-use std::alloc::{AllocError, Global};
+use std::alloc::AllocError;
 
 fn local_name(fault: LocalFault) -> &'static str
     ensures { result.now ≡ name_of_local fault }
@@ -74,19 +74,19 @@ fn error_name(fault: &Refusal) -> &'static str
     }
 }
 
-fn closed(alloc: Global, out: &mut Writer, changeset: u64, at: Stamp) -> Result<(), AllocError>
+fn closed(out: &mut Writer, changeset: u64, at: Stamp) -> Result<(), AllocError>
     requires { IsShownMoment at }
     ensures { SendsFields result out.old out.new
         (field (codes "changeset") (natural changeset) ∷ field (codes "closed_at") (moment at) ∷ []) }
 {
     natural(out, "changeset", changeset)?;
-    moment(alloc, out, "closed_at", at)?;
+    moment(out, "closed_at", at)?;
     Ok(())
 }
 
 /// The members whose names stand before that of the error.
 #[tactic(auto, unfolding(crate::specs::Refused::before_error))]
-fn before_error(alloc: Global, out: &mut Writer, fault: &Refusal) -> Result<(), AllocError>
+fn before_error(out: &mut Writer, fault: &Refusal) -> Result<(), AllocError>
     requires { RefusalHasShownEnd fault.now }
     ensures { SendsFields result out.old out.new (fields_before fault.now) }
 {
@@ -97,7 +97,7 @@ fn before_error(alloc: Global, out: &mut Writer, fault: &Refusal) -> Result<(), 
         Refusal::Closed {
             changeset,
             closed_at,
-        } => closed(alloc, out, *changeset, *closed_at),
+        } => closed(out, *changeset, *closed_at),
         Refusal::Full {
             applied,
             changeset,
@@ -337,12 +337,12 @@ fn of_element(out: &mut Writer, fault: &Refusal) -> Result<(), AllocError>
 }
 
 /// The object of a refusal.
-pub(crate) fn refusal(alloc: Global, out: &mut Writer, fault: &Refusal) -> Result<(), AllocError>
+pub(crate) fn refusal(out: &mut Writer, fault: &Refusal) -> Result<(), AllocError>
     requires { RefusalHasShownEnd fault.now }
     ensures { Sends result out.old out.new (tokens_of (refusal_data fault.now)) }
 {
     out.begin_object()?;
-    before_error(alloc, out, fault)?;
+    before_error(out, fault)?;
     text(out, "error", error_name(fault))?;
     of_request(out, fault)?;
     of_changeset(out, fault)?;

@@ -16,7 +16,7 @@ use crate::moment::moment_text;
 use json::Writer;
 use osm_base::{Kind, Stamp};
 use osm_change::Said;
-use std::alloc::{AllocError, Global};
+use std::alloc::AllocError;
 
 // A member of an object.
 
@@ -134,23 +134,17 @@ pub(crate) fn said(said: Said) -> Shown<'static>
     }
 }
 
-// Moments, each in a call of its own, since its text lives no longer.
+// Moments, whose text is made on the stack.
 
-pub(crate) fn moment(
-    alloc: Global,
-    out: &mut Writer,
-    name: &str,
-    stamp: Stamp,
-) -> Result<(), AllocError>
+pub(crate) fn moment(out: &mut Writer, name: &str, stamp: Stamp) -> Result<(), AllocError>
     requires { IsShownMoment stamp }
     ensures { Sends result out.old out.new (field_tokens (field name.now (moment stamp))) }
 {
-    let shown = moment_text(alloc, stamp)?;
+    let shown = moment_text(stamp);
     text(out, name, shown.as_str())
 }
 
 pub(crate) fn optional_moment(
-    alloc: Global,
     out: &mut Writer,
     name: &str,
     stamp: Option<Stamp>,
@@ -159,7 +153,7 @@ pub(crate) fn optional_moment(
     ensures { Sends result out.old out.new (field_tokens (field_if name.now moment stamp)) }
 {
     match stamp {
-        Some(at) => moment(alloc, out, name, at),
+        Some(at) => moment(out, name, at),
         None => Ok(()),
     }
 }
