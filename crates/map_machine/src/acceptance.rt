@@ -15,7 +15,7 @@ use osm_world::World;
 use std::alloc::Global;
 use std::marker::Brand;
 use std::sync::ledger::{Blank, Ledger};
-use upload_check::accepts_upload;
+use upload_check::{UploadAt, accepts_upload};
 
 /// Whether an entry may come next: its command is accepted at its stamp, and that is no earlier
 /// than the last one.
@@ -41,10 +41,14 @@ fn is_accepted(
 {
     match command {
         Command::Upload { changeset, change } => {
-            is_change_accepted(alloc, world, user, at, *changeset, change)
+            is_change_accepted(alloc, world, &upload_at(user, at, *changeset, change))
         }
         Command::Single { changeset, change } => {
-            is_change_accepted(alloc, world, user, at, *changeset, change.change())
+            is_change_accepted(
+                alloc,
+                world,
+                &upload_at(user, at, *changeset, change.change()),
+            )
         }
         other => is_other_accepted(alloc, world, user, at, other),
     }
@@ -68,46 +72,43 @@ fn is_other_accepted(
     }
 }
 
+/// An upload at a stamp.
+fn upload_at<'a>(user: &'a User, at: Stamp, changeset: u64, change: &'a Change) -> UploadAt<'a>
+    ensures user { result.user.now ≡ user.now }
+    ensures changeset { result.changeset ≡ changeset }
+    ensures change { result.change.now ≡ change.now }
+    ensures moment { result.moment ≡ at }
+{
+    UploadAt {
+        user,
+        changeset,
+        change,
+        moment: at.seconds(),
+    }
+}
+
 /// The same of an upload. Its steps are counted in the ledger, for nobody.
 fn count_accepted<L: Ledger>(
     blank: Blank,
     alloc: Global,
     world: &World,
-    user: &User,
-    at: Stamp,
-    changeset: u64,
-    change: &Change,
+    asked: &UploadAt<'_>,
 ) -> Result<bool, Memory>
-    requires stamped { stamp_after (state_of world.now).last at ≡ at }
+    requires stamped { stamp_after (state_of world.now).last asked.now.moment ≡ asked.now.moment }
     requires name { blank.name ≡ L.name }
     requires parts { blank.parts ≡ L.parts }
     requires some { 0 < blank.parts }
-    ensures { IfOk result (λ b. b ≡ is_ok (upload (state_of world.now) user.now at changeset change.now)) }
+    ensures { IfOk result (λ b. b ≡ is_ok (upload (state_of world.now) asked.now.user.now asked.now.moment asked.now.changeset asked.now.change.now)) }
 {
     let (book, share) = blank.open::<L>();
     let mut steps = Steps::of(book, share);
-    accepts_upload(
-        alloc,
-        world,
-        user,
-        changeset,
-        change,
-        at.seconds(),
-        &mut steps,
-    )
+    accepts_upload(alloc, world, asked, &mut steps)
 }
 
 /// The same over a ledger of its own.
-fn is_change_accepted(
-    alloc: Global,
-    world: &World,
-    user: &User,
-    at: Stamp,
-    changeset: u64,
-    change: &Change,
-) -> Result<bool, Memory>
-    requires { stamp_after (state_of world.now).last at ≡ at }
-    ensures { IfOk result (λ b. b ≡ is_ok (upload (state_of world.now) user.now at changeset change.now)) }
+fn is_change_accepted(alloc: Global, world: &World, asked: &UploadAt<'_>) -> Result<bool, Memory>
+    requires { stamp_after (state_of world.now).last asked.now.moment ≡ asked.now.moment }
+    ensures { IfOk result (λ b. b ≡ is_ok (upload (state_of world.now) asked.now.user.now asked.now.moment asked.now.changeset asked.now.change.now)) }
 {
-    count_accepted::<Brand>(Blank::new(1), alloc, world, user, at, changeset, change)
+    count_accepted::<Brand>(Blank::new(1), alloc, world, asked)
 }

@@ -4,6 +4,7 @@ pub mod Checks
 pub mod Effects
 pub mod Shifts
 pub mod Judged
+pub mod Seen
 pub mod Asked
 pub mod Planned
 pub mod Commands

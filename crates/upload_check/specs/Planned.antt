@@ -1,11 +1,13 @@
 -- An upload that was planned on a map, and where its plan stands.
-use Rattle.std.specs.Prelude.{◌≡◌, ℕ, List, slice_get, Some, Result, Ok, Err, MatchResult}
+use Rattle.std.specs.Prelude.{◌≡◌, ℕ, ◌+◌, nat_lt, List, length, slice_get, Some, Result, Ok, Err, MatchResult}
 use Rattle.osm_base.specs.Key.{IsRising}
-use Rattle.osm_base.specs.Outcome.{◌>>=◌}
+use Rattle.osm_base.specs.Outcome.{◌>>=◌, refuse_if}
 use Rattle.osm_base.specs.declared.people.User.{User}
 use Rattle.osm_change.specs.Moments.{RefusalHasShownEnd}
 use Rattle.osm_change.specs.declared.operations.OpDone.{OpDone}
 use Rattle.osm_change.specs.declared.refusals.Refusal.{Refusal}
+use Rattle.osm_change.specs.declared.refusals.Refusal.TheVariants as refused
+use Rattle.changeset_core.specs.Changeset.{limit_of}
 use Rattle.changeset_core.specs.declared.records.ChangesetRecord.{ChangesetRecord}
 use Rattle.osm_element.specs.declared.elements.Elements.{Elements}
 use Rattle.osm_later.specs.declared.looks.CountLook.{CountLook}
@@ -51,6 +53,11 @@ IsStill told p E = MatchResult told (λ _. StandsOn (plan_of p) E) (λ look. ¬ 
 -- what was found out, where the changeset takes it
 abbrev pub taken_by : User → ℕ → ChangesetRecord → Result Done Refusal → Result (List OpDone) Refusal
 taken_by user c r outcome = outcome >>= tested_done user c r
+
+-- the changeset takes so many versions more
+abbrev pub room_for : ℕ → ChangesetRecord → ℕ → Result (Unit {0}) Refusal
+room_for c r n =
+    refuse_if (nat_lt (limit_of r) (length r.did + n)) (refused.Full n c (length r.did) (limit_of r))
 
 abbrev pub IsShown : Result Done Refusal → Type 0
 IsShown (Ok d) = Unit {0}

@@ -26,8 +26,9 @@ mod shifts;
 mod sights;
 mod standings;
 mod stills;
+mod witnesses;
 
-pub use acceptance::accepts_upload;
+pub use acceptance::{UploadAt, accepts_upload};
 pub use judged::{Judged, check_op};
 pub use law::stills_tell_what_changed;
 pub use osm_later::Look;

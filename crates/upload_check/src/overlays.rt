@@ -1,6 +1,7 @@
 //! What an upload has come to so far, beside the map of before.
 ghost use Rattle.std.specs.Prelude.{◌≡◌, ℕ, ◌<◌, ◌^◌, [], ◌∷◌, ◌++◌, List, None, length, IfOk, OnOk, OnErr};
 ghost use Rattle.osm_element.specs.Elements.{refs_in};
+ghost use Rattle.osm_change.specs.Keys.{ids_after};
 ghost use Rattle.osm_change.specs.declared.operations.Op.{Op};
 ghost use Rattle.changeset_core.specs.Changeset.{join_areas};
 ghost use Rattle.diff_result.specs.Counted.{HasNumbers};
@@ -109,19 +110,19 @@ impl Overlay {
         ensures entered { OnOk result (IsEntered (sight (state_of world.now).elements operations.now self.old) operation.now step self.new) }
         ensures memory { OnErr result (StandsAlike (state_of world.now).elements self.old self.new) }
     {
-        let next = self.next.after(operation)?;
         if step.applies {
-            self.apply(alloc, world, operations, operation, step.key, next)
+            self.apply(alloc, world, operations, operation, step.key)
         } else {
-            self.skip(step.key, next)
+            self.skip(operation, step.key)
         }
     }
 
     /// Enters an operation that leaves its element as it is.
-    fn skip(&mut self, key: Key, next: FirstIds) -> Result<(), Memory>
-        ensures entered { OnOk result (self.new ≡ record self.old { keys = self.old.keys ++ key ∷ []; next = next }) }
+    fn skip(&mut self, operation: &Op, key: Key) -> Result<(), Memory>
+        ensures entered { OnOk result (self.new ≡ record self.old { keys = self.old.keys ++ key ∷ []; next = ids_after self.old.next operation.now }) }
         ensures memory { OnErr result (self.new ≡ self.old) }
     {
+        let next = self.next.after(operation)?;
         self.keys.push(key)?;
         self.next = next;
         Ok(())
@@ -137,17 +138,17 @@ impl Overlay {
         operations: &[Op],
         operation: &Op,
         key: Key,
-        next: FirstIds,
     ) -> Result<(), Memory>
         requires few { length self.old.keys < 2 ^ 32 }
         requires users { HasUsers (sight (state_of world.now).elements operations.now self.old) key }
         requires fresh { IsFresh (sight (state_of world.now).elements operations.now self.old) operation.now key }
         ensures keys { OnOk result (self.new.keys ≡ self.old.keys ++ key ∷ []) }
-        ensures next { OnOk result (self.new.next ≡ next) }
+        ensures next { OnOk result (self.new.next ≡ ids_after self.old.next operation.now) }
         ensures notes { OnOk result (IsApplied (sight (state_of world.now).elements operations.now self.old) operation.now key self.new.notes) }
         ensures touched { OnOk result (self.new.touched ≡ join_areas self.old.touched (touched_now (sight (state_of world.now).elements operations.now self.old) key (content_of_op self.old.keys operation.now))) }
         ensures memory { OnErr result (StandsAlike (state_of world.now).elements self.old self.new) }
     {
+        let next = self.next.after(operation)?;
         let ended = self.ended_uses(alloc, world, operations, operation, key)?;
         let begun = self.begun_uses(alloc, operation)?;
         let touched = View {

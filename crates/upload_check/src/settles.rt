@@ -1,10 +1,10 @@
 //! What an upload comes to: a plan that stands is settled without judging an operation.
-ghost use Rattle.std.specs.Prelude.{◌≡◌, count_by, IfOk, IfErr};
+ghost use Rattle.std.specs.Prelude.{◌≡◌, ◌+◌, nat_lt, count_by, IfOk, IfErr};
 ghost use Rattle.osm_base.specs.Stamp.{stamp_after};
 ghost use Rattle.osm_change.specs.Done.{is_applied};
 ghost use Rattle.osm_change.specs.Moments.{RefusalHasShownEnd};
 ghost use Rattle.changeset_core.specs.Changeset.{join_areas};
-ghost use Rattle.osm_later.specs.Settle.{counted_done, settle_done};
+ghost use Rattle.osm_later.specs.Settle.{settle_done};
 ghost use Rattle.osm_later.specs.Plan.{StandsOn, IsPlannedOn};
 ghost use Rattle.osm_model.specs.Fold.{box_allowed};
 ghost use Rattle.osm_model.specs.Journal.{Later};
@@ -12,7 +12,7 @@ ghost use Rattle.osm_model.specs.Outcome.{Gives};
 ghost use Rattle.osm_model.specs.declared.states.State.{State};
 ghost use Rattle.osm_world.specs.World.{state_of};
 ghost use Rattle.upload_check.specs.Asked.{IsOutcome, OnRefused};
-ghost use Rattle.upload_check.specs.Planned.{plan_of, outcome_of, taken_by, IsShown};
+ghost use Rattle.upload_check.specs.Planned.{plan_of, outcome_of, room_for, taken_by, IsShown};
 
 use crate::copies::copy_rows;
 use crate::overlays::first_ids;
@@ -75,7 +75,7 @@ fn taken(
 {
     match found {
         Found::Done { rows, touched } => {
-            has_room(kept, id, rows.items())?;
+            has_room(kept, id, applied_among(rows.items()) as u64)?;
             has_box(kept, user, id, *touched)?;
             Ok(copy_rows(alloc, rows.items())?)
         }
@@ -83,15 +83,24 @@ fn taken(
     }
 }
 
-/// The changeset takes as many changes more.
-pub fn has_room(kept: &Changeset, id: u64, rows: &[OpDone]) -> Result<(), Refusal>
-    ensures value { result ≡ counted_done id kept.now.kept rows.now }
+/// Whether a number and so many more are over a limit.
+fn is_over(number: u64, more: u64, limit: u64) -> bool
+    ensures { result ≡ nat_lt limit (number + more) }
+{
+    match number.checked_add(more) {
+        Some(sum) => sum > limit,
+        None => true,
+    }
+}
+
+/// The changeset takes so many versions more.
+pub fn has_room(kept: &Changeset, id: u64, applied: u64) -> Result<(), Refusal>
+    ensures value { result ≡ room_for id kept.now.kept applied }
     ensures shown { IfErr result RefusalHasShownEnd }
 {
-    let applied = applied_among(rows) as u64;
     let count = kept.count();
     let limit = kept.limit();
-    if count + applied > limit {
+    if is_over(count, applied, limit) {
         Err(Refusal::Full {
             applied,
             changeset: id,
