@@ -12,17 +12,17 @@ use json::Writer;
 use osm_base::{Key, User};
 use osm_change::Change;
 use osm_element::Tags;
-use osm_json::{Shown, kind_name, write_change, write_members, write_record, write_tags};
+use osm_json::{FieldValue, kind_name, write_change, write_members, write_record, write_tags};
 use osm_model::{Command, Entry};
 use std::alloc::AllocError;
 
 /// A number that is left out where there is none.
-fn optional(number: Option<u64>) -> Shown<'static>
+fn optional(number: Option<u64>) -> FieldValue<'static>
     ensures { IsMember result (λ name. field_if name natural number) }
 {
     match number {
-        Some(n) => Shown::Natural(n),
-        None => Shown::Absent,
+        Some(n) => FieldValue::Natural(n),
+        None => FieldValue::Absent,
     }
 }
 
@@ -33,15 +33,19 @@ fn user(out: &mut Writer, user: &User) -> Result<(), AllocError>
     write_record(
         out,
         &[
-            ("id", Shown::Natural(user.id)),
+            ("id", FieldValue::Natural(user.id)),
             ("limit", optional(user.limit)),
-            ("moderator", Shown::Flag(user.moderator)),
-            ("name", Shown::Text(user.name.as_str())),
+            ("moderator", FieldValue::Flag(user.moderator)),
+            ("name", FieldValue::Text(user.name.as_str())),
         ],
     )
 }
 
-fn with_tags(out: &mut Writer, front: &[(&str, Shown<'_>)], tags: &Tags) -> Result<(), AllocError>
+fn with_tags(
+    out: &mut Writer,
+    front: &[(&str, FieldValue<'_>)],
+    tags: &Tags,
+) -> Result<(), AllocError>
     ensures { Sends result out.old out.new (tokens_of (record_of (shown_fields front.now ++ field (codes "tags") (tags_data tags.now) ∷ []))) }
 {
     out.begin_object()?;
@@ -58,7 +62,7 @@ fn create(out: &mut Writer, tags: &Tags, large_from: Option<u64>) -> Result<(), 
     with_tags(
         out,
         &[
-            ("act", Shown::Text("create_changeset")),
+            ("act", FieldValue::Text("create_changeset")),
             ("large_from", optional(large_from)),
         ],
         tags,
@@ -80,8 +84,8 @@ fn with_change(
     write_members(
         out,
         &[
-            ("act", Shown::Text(act)),
-            ("changeset", Shown::Natural(changeset)),
+            ("act", FieldValue::Text(act)),
+            ("changeset", FieldValue::Natural(changeset)),
         ],
     )?;
     out.key("osmChange")?;
@@ -96,11 +100,11 @@ fn redact(out: &mut Writer, key: Key, version: u64, redaction: u64) -> Result<()
     write_record(
         out,
         &[
-            ("act", Shown::Text("redact")),
-            ("id", Shown::Natural(key.id)),
-            ("redaction", Shown::Natural(redaction)),
-            ("type", Shown::Text(kind_name(key.kind))),
-            ("version", Shown::Natural(version)),
+            ("act", FieldValue::Text("redact")),
+            ("id", FieldValue::Natural(key.id)),
+            ("redaction", FieldValue::Natural(redaction)),
+            ("type", FieldValue::Text(kind_name(key.kind))),
+            ("version", FieldValue::Natural(version)),
         ],
     )
 }
@@ -112,10 +116,10 @@ fn unredact(out: &mut Writer, key: Key, version: u64) -> Result<(), AllocError>
     write_record(
         out,
         &[
-            ("act", Shown::Text("unredact")),
-            ("id", Shown::Natural(key.id)),
-            ("type", Shown::Text(kind_name(key.kind))),
-            ("version", Shown::Natural(version)),
+            ("act", FieldValue::Text("unredact")),
+            ("id", FieldValue::Natural(key.id)),
+            ("type", FieldValue::Text(kind_name(key.kind))),
+            ("version", FieldValue::Natural(version)),
         ],
     )
 }
@@ -129,16 +133,16 @@ fn command(out: &mut Writer, command: &Command) -> Result<(), AllocError>
         Command::Retag { changeset, tags } => with_tags(
             out,
             &[
-                ("act", Shown::Text("retag")),
-                ("changeset", Shown::Natural(*changeset)),
+                ("act", FieldValue::Text("retag")),
+                ("changeset", FieldValue::Natural(*changeset)),
             ],
             tags,
         ),
         Command::CloseChangeset { changeset } => write_record(
             out,
             &[
-                ("act", Shown::Text("close")),
-                ("changeset", Shown::Natural(*changeset)),
+                ("act", FieldValue::Text("close")),
+                ("changeset", FieldValue::Natural(*changeset)),
             ],
         ),
         Command::Upload { changeset, change } => with_change(out, "upload", *changeset, change),
@@ -148,8 +152,8 @@ fn command(out: &mut Writer, command: &Command) -> Result<(), AllocError>
         Command::MakeRedaction { title } => write_record(
             out,
             &[
-                ("act", Shown::Text("make_redaction")),
-                ("title", Shown::Text(title.as_str())),
+                ("act", FieldValue::Text("make_redaction")),
+                ("title", FieldValue::Text(title.as_str())),
             ],
         ),
         Command::Redact {
@@ -169,13 +173,16 @@ pub(crate) fn entry(out: &mut Writer, entry: &Entry) -> Result<(), AllocError>
     write_members(
         out,
         &[
-            ("at", Shown::Natural(entry.stamp.seconds())),
-            ("call", Shown::Natural(entry.call)),
+            ("at", FieldValue::Natural(entry.stamp.seconds())),
+            ("call", FieldValue::Natural(entry.call)),
         ],
     )?;
     out.key("command")?;
     command(out, &entry.command)?;
-    write_members(out, &[("session", Shown::Natural(entry.session as u64))])?;
+    write_members(
+        out,
+        &[("session", FieldValue::Natural(entry.session as u64))],
+    )?;
     out.key("user")?;
     user(out, &entry.user)?;
     out.end_object()

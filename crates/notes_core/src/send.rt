@@ -18,7 +18,7 @@ use crate::limits::NOTES_AREA_LIMIT;
 use crate::notes::{NoteAction, NoteComment, NoteRefusal};
 use json::Writer;
 use osm_base::{COMMENT_LIMIT, Coord, Memory, Owner, Stamp, Text};
-use osm_json::{Shown, stamp_text, write_members, write_record};
+use osm_json::{FieldValue, stamp_text, write_members, write_record};
 use std::alloc::Global;
 
 fn action_name(action: NoteAction) -> &'static str
@@ -41,21 +41,21 @@ fn status_name(closed: Option<Stamp>) -> &'static str
     }
 }
 
-fn uid(caller: &Option<Owner>) -> Shown<'_>
+fn uid(caller: &Option<Owner>) -> FieldValue<'_>
     ensures { IsMember result (λ name. field_if name (λ (o : Owner). natural o.id) caller.now) }
 {
     match caller {
-        Some(owner) => Shown::Natural(owner.id),
-        None => Shown::Absent,
+        Some(owner) => FieldValue::Natural(owner.id),
+        None => FieldValue::Absent,
     }
 }
 
-fn user(caller: &Option<Owner>) -> Shown<'_>
+fn user(caller: &Option<Owner>) -> FieldValue<'_>
     ensures { IsMember result (λ name. field_if name (λ (o : Owner). string o.name) caller.now) }
 {
     match caller {
-        Some(owner) => Shown::Text(owner.name.as_str()),
-        None => Shown::Absent,
+        Some(owner) => FieldValue::Text(owner.name.as_str()),
+        None => FieldValue::Absent,
     }
 }
 
@@ -65,7 +65,7 @@ fn write_date(alloc: Global, out: &mut Writer, name: &str, at: Stamp) -> Result<
     ensures { SendsFields result out.old out.new (field name.now (moment at) ∷ []) }
 {
     let date = stamp_text(alloc, at)?;
-    write_members(out, &[(name, Shown::Text(date.as_str()))])?;
+    write_members(out, &[(name, FieldValue::Text(date.as_str()))])?;
     Ok(())
 }
 
@@ -82,9 +82,9 @@ fn write_comment(
         (record { caller = caller.now; stamp = at; action = action; text = text.now }))) }
 {
     out.begin_object()?;
-    write_members(out, &[("action", Shown::Text(action_name(action)))])?;
+    write_members(out, &[("action", FieldValue::Text(action_name(action)))])?;
     write_date(alloc, out, "date", at)?;
-    write_members(out, &[("text", Shown::Text(text.as_str()))])?;
+    write_members(out, &[("text", FieldValue::Text(text.as_str()))])?;
     write_members(out, &[("uid", uid(caller)), ("user", user(caller))])?;
     out.end_object()?;
     Ok(())
@@ -170,7 +170,7 @@ fn write_end(alloc: Global, out: &mut Writer, closed: Option<Stamp>) -> Result<(
     match closed {
         Some(at) => write_date(alloc, out, "closed_at", at),
         None => {
-            write_members(out, &[("closed_at", Shown::Absent)])?;
+            write_members(out, &[("closed_at", FieldValue::Absent)])?;
             Ok(())
         }
     }
@@ -186,10 +186,10 @@ pub(crate) struct Head {
 }
 
 /// A coordinate, in units of 1e-7 degrees.
-fn units(at: i32) -> Shown<'static>
+fn units(at: i32) -> FieldValue<'static>
     ensures { IsMember result (λ name. field name (integer at)) }
 {
-    Shown::Integer(at as i64)
+    FieldValue::Integer(at as i64)
 }
 
 fn write_position(out: &mut Writer, at: Coord) -> Result<(), Memory>
@@ -207,9 +207,12 @@ fn write_life(alloc: Global, out: &mut Writer, head: Head) -> Result<(), Memory>
     ensures { SendsFields result out.old out.new (life_fields head.id (note_with head.at head.created head.closed [])) }
 {
     write_date(alloc, out, "date_created", head.created)?;
-    write_members(out, &[("id", Shown::Natural(head.id))])?;
+    write_members(out, &[("id", FieldValue::Natural(head.id))])?;
     write_position(out, head.at)?;
-    write_members(out, &[("status", Shown::Text(status_name(head.closed)))])?;
+    write_members(
+        out,
+        &[("status", FieldValue::Text(status_name(head.closed)))],
+    )?;
     Ok(())
 }
 
@@ -243,7 +246,7 @@ pub(crate) fn write_note(
 pub(crate) fn write_version(out: &mut Writer) -> Result<(), Memory>
     ensures { SendsFields result out.old out.new (version_field ∷ []) }
 {
-    write_members(out, &[("version", Shown::Text("0.6"))])?;
+    write_members(out, &[("version", FieldValue::Text("0.6"))])?;
     Ok(())
 }
 
@@ -256,8 +259,8 @@ fn write_closed(alloc: Global, out: &mut Writer, closed_at: Stamp, id: u64) -> R
     write_members(
         out,
         &[
-            ("error", Shown::Text("note_closed")),
-            ("id", Shown::Natural(id)),
+            ("error", FieldValue::Text("note_closed")),
+            ("id", FieldValue::Natural(id)),
         ],
     )?;
     out.end_object()?;
@@ -290,7 +293,10 @@ fn write_named(out: &mut Writer, error: &str, id: u64) -> Result<(), Memory>
 {
     write_record(
         out,
-        &[("error", Shown::Text(error)), ("id", Shown::Natural(id))],
+        &[
+            ("error", FieldValue::Text(error)),
+            ("id", FieldValue::Natural(id)),
+        ],
     )?;
     Ok(())
 }
@@ -302,9 +308,9 @@ fn write_full(out: &mut Writer, id: u64) -> Result<(), Memory>
     write_record(
         out,
         &[
-            ("error", Shown::Text("note_full")),
-            ("id", Shown::Natural(id)),
-            ("limit", Shown::Natural(COMMENT_LIMIT as u64)),
+            ("error", FieldValue::Text("note_full")),
+            ("id", FieldValue::Natural(id)),
+            ("limit", FieldValue::Natural(COMMENT_LIMIT as u64)),
         ],
     )?;
     Ok(())
@@ -317,9 +323,9 @@ fn write_area(out: &mut Writer, area: u64) -> Result<(), Memory>
     write_record(
         out,
         &[
-            ("area", Shown::Natural(area)),
-            ("error", Shown::Text("notes_area")),
-            ("limit", Shown::Natural(NOTES_AREA_LIMIT)),
+            ("area", FieldValue::Natural(area)),
+            ("error", FieldValue::Text("notes_area")),
+            ("limit", FieldValue::Natural(NOTES_AREA_LIMIT)),
         ],
     )?;
     Ok(())

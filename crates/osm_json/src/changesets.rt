@@ -5,7 +5,7 @@ ghost use Rattle.osm_change.specs.Moments.{HasShownLife};
 ghost use Rattle.osm_json.specs.Sent.{Sends, SendsFields, tokens_of};
 
 use crate::contents::{edges, tags};
-use crate::send::{Shown, members, moment, natural, optional_moment, version};
+use crate::send::{FieldValue, members, moment, natural, optional_moment, version};
 use json::Writer;
 use osm_base::{Box7, Owner};
 use osm_change::ChangesetRow;
@@ -34,7 +34,7 @@ fn touched(out: &mut Writer, touched: &Option<Box7>) -> Result<(), AllocError>
 fn open(out: &mut Writer, row: &ChangesetRow) -> Result<(), AllocError>
     ensures { SendsFields result out.old out.new (open_fields row.now) }
 {
-    members(out, &[("open", Shown::Flag(row.closes.is_none()))])
+    members(out, &[("open", FieldValue::Flag(row.closes.is_none()))])
 }
 
 fn owner(out: &mut Writer, owner: &Owner) -> Result<(), AllocError>
@@ -43,8 +43,8 @@ fn owner(out: &mut Writer, owner: &Owner) -> Result<(), AllocError>
     members(
         out,
         &[
-            ("uid", Shown::Natural(owner.id)),
-            ("user", Shown::Text(owner.name.as_str())),
+            ("uid", FieldValue::Natural(owner.id)),
+            ("user", FieldValue::Text(owner.name.as_str())),
         ],
     )
 }

@@ -6,17 +6,17 @@ ghost use Rattle.osm_json.specs.Fields.{IsMember};
 ghost use Rattle.osm_json.specs.Rows.{reference as reference_data, content_fields, visible_fields, tag_field, tags as tags_data, tags_fields, box_fields};
 ghost use Rattle.osm_json.specs.Sent.{Sends, SendsFields, tokens_of};
 
-use crate::send::{Shown, kind_name, members, record, text};
+use crate::send::{FieldValue, kind_name, members, record, text};
 use json::Writer;
 use osm_base::{Box7, Coord, Text};
 use osm_element::{Content, Member, Tags, Version};
 use std::alloc::AllocError;
 
 /// A coordinate, in units of 1e-7 degrees.
-fn units(at: i32) -> Shown<'static>
+fn units(at: i32) -> FieldValue<'static>
     ensures { IsMember result (λ name. field name (integer at)) }
 {
-    Shown::Integer(at as i64)
+    FieldValue::Integer(at as i64)
 }
 
 /// The edges of a box.
@@ -51,9 +51,9 @@ fn reference(out: &mut Writer, member: &Member<u64>) -> Result<(), AllocError>
     record(
         out,
         &[
-            ("ref", Shown::Natural(member.name)),
-            ("role", Shown::Text(member.role.as_str())),
-            ("type", Shown::Text(kind_name(member.kind))),
+            ("ref", FieldValue::Natural(member.name)),
+            ("role", FieldValue::Text(member.role.as_str())),
+            ("type", FieldValue::Text(kind_name(member.kind))),
         ],
     )
 }

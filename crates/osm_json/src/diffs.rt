@@ -3,7 +3,7 @@ ghost use Rattle.std.specs.Prelude.{flat_map};
 ghost use Rattle.osm_json.specs.Rows.{diff_row as diff_row_data, diff as diff_data};
 ghost use Rattle.osm_json.specs.Sent.{Sends, tokens_of};
 
-use crate::send::{Shown, kind_name, optional, record, version};
+use crate::send::{FieldValue, kind_name, optional, record, version};
 use json::Writer;
 use osm_change::DiffRow;
 use std::alloc::AllocError;
@@ -17,8 +17,8 @@ fn diff_row(out: &mut Writer, row: &DiffRow) -> Result<(), AllocError>
         &[
             ("new_id", optional(row.new_id)),
             ("new_version", optional(row.new_version)),
-            ("old_id", Shown::Integer(row.old_id)),
-            ("type", Shown::Text(kind_name(row.kind))),
+            ("old_id", FieldValue::Integer(row.old_id)),
+            ("type", FieldValue::Text(kind_name(row.kind))),
         ],
     )
 }

@@ -6,7 +6,7 @@ ghost use Rattle.osm_change.specs.Moments.{HasShownStamp};
 ghost use Rattle.osm_json.specs.Sent.{Sends, SendsFields, tokens_of};
 
 use crate::contents::{edges, visible, visible_tags};
-use crate::send::{Shown, kind_name, members, moment, optional, version};
+use crate::send::{FieldValue, kind_name, members, moment, optional, version};
 use json::Writer;
 use osm_base::Box7;
 use osm_change::ElementRow;
@@ -19,8 +19,8 @@ fn number(out: &mut Writer, row: &ElementRow<'_>) -> Result<(), AllocError>
     members(
         out,
         &[
-            ("changeset", Shown::Natural(row.version.changeset)),
-            ("id", Shown::Natural(row.key.id)),
+            ("changeset", FieldValue::Natural(row.version.changeset)),
+            ("id", FieldValue::Natural(row.key.id)),
         ],
     )
 }
@@ -37,11 +37,11 @@ fn origin(out: &mut Writer, row: &ElementRow<'_>) -> Result<(), AllocError>
     members(
         out,
         &[
-            ("type", Shown::Text(kind_name(row.key.kind))),
-            ("uid", Shown::Natural(row.owner.id)),
-            ("user", Shown::Text(row.owner.name.as_str())),
-            ("version", Shown::Natural(row.number)),
-            ("visible", Shown::Flag(row.version.content.is_some())),
+            ("type", FieldValue::Text(kind_name(row.key.kind))),
+            ("uid", FieldValue::Natural(row.owner.id)),
+            ("user", FieldValue::Text(row.owner.name.as_str())),
+            ("version", FieldValue::Natural(row.number)),
+            ("visible", FieldValue::Flag(row.version.content.is_some())),
         ],
     )
 }

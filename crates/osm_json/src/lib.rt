@@ -35,7 +35,7 @@ pub use change::read_change;
 pub use fault::BodyFault;
 pub use law::{parts_are_read_again, texts_are_read_again, values_are_read_again};
 pub use moment::stamp_text;
-pub use send::{Shown, kind_name, members as write_members, record as write_record};
+pub use send::{FieldValue, kind_name, members as write_members, record as write_record};
 pub use single::{read_single, read_tags};
 pub use status::answer_status;
 pub use title::read_title;

@@ -8,7 +8,7 @@ ghost use Rattle.osm_json.specs.Refused.{local_name as name_of_local, error_name
 ghost use Rattle.osm_change.specs.Moments.{IsShownMoment, RefusalHasShownEnd};
 ghost use Rattle.osm_json.specs.Sent.{Sends, SendsFields, tokens_of};
 
-use crate::send::{Shown, kind_name, members, moment, natural, operation, said, text};
+use crate::send::{FieldValue, kind_name, members, moment, natural, operation, said, text};
 use json::Writer;
 use osm_base::{Kind, Stamp};
 use osm_change::{Refusal, Said};
@@ -92,7 +92,7 @@ fn before_error(out: &mut Writer, fault: &Refusal) -> Result<(), AllocError>
 {
     match fault {
         Refusal::NotOwner { changeset, .. } => {
-            members(out, &[("changeset", Shown::Natural(*changeset))])
+            members(out, &[("changeset", FieldValue::Natural(*changeset))])
         }
         Refusal::Closed {
             changeset,
@@ -106,9 +106,9 @@ fn before_error(out: &mut Writer, fault: &Refusal) -> Result<(), AllocError>
         } => members(
             out,
             &[
-                ("applied", Shown::Natural(*applied)),
-                ("changeset", Shown::Natural(*changeset)),
-                ("count", Shown::Natural(*count)),
+                ("applied", FieldValue::Natural(*applied)),
+                ("changeset", FieldValue::Natural(*changeset)),
+                ("count", FieldValue::Natural(*count)),
             ],
         ),
         Refusal::BoxTooLarge {
@@ -118,11 +118,11 @@ fn before_error(out: &mut Writer, fault: &Refusal) -> Result<(), AllocError>
         } => members(
             out,
             &[
-                ("area", Shown::Natural(*area)),
-                ("changeset", Shown::Natural(*changeset)),
+                ("area", FieldValue::Natural(*area)),
+                ("changeset", FieldValue::Natural(*changeset)),
             ],
         ),
-        Refusal::MapArea { area, .. } => members(out, &[("area", Shown::Natural(*area))]),
+        Refusal::MapArea { area, .. } => members(out, &[("area", FieldValue::Natural(*area))]),
         _ => Ok(()),
     }
 }
@@ -140,7 +140,10 @@ fn of_request(out: &mut Writer, fault: &Refusal) -> Result<(), AllocError>
     ensures { SendsFields result out.old out.new (fields_of_request fault.now) }
 {
     match fault {
-        Refusal::BadParameter { name } => members(out, &[("name", Shown::Text(name.as_str()))]),
+        Refusal::BadParameter { name } => members(
+            out,
+            &[("name", FieldValue::Text(name.as_str()))],
+        ),
         Refusal::Shape { op } => at_operation(out, *op),
         Refusal::NotNegative { op } => at_operation(out, *op),
         Refusal::DoublePlaceholder { op } => at_operation(out, *op),
@@ -149,7 +152,10 @@ fn of_request(out: &mut Writer, fault: &Refusal) -> Result<(), AllocError>
         Refusal::Local { op, .. } => at_operation(out, *op),
         Refusal::OtherChangeset { named, op } => members(
             out,
-            &[("named", Shown::Natural(*named)), ("op", operation(*op))],
+            &[
+                ("named", FieldValue::Natural(*named)),
+                ("op", operation(*op)),
+            ],
         ),
         _ => Ok(()),
     }
@@ -161,24 +167,27 @@ fn of_changeset(out: &mut Writer, fault: &Refusal) -> Result<(), AllocError>
     ensures { SendsFields result out.old out.new (fields_of_changeset fault.now) }
 {
     match fault {
-        Refusal::NoChangeset { id } => members(out, &[("id", Shown::Natural(*id))]),
-        Refusal::NotOwner { owner, .. } => members(out, &[("owner", Shown::Natural(*owner))]),
-        Refusal::Full { limit, .. } => members(out, &[("limit", Shown::Natural(*limit))]),
-        Refusal::BoxTooLarge { limit, .. } => members(out, &[("limit", Shown::Natural(*limit))]),
-        Refusal::NoRedaction { id } => members(out, &[("id", Shown::Natural(*id))]),
-        Refusal::MapArea { limit, .. } => members(out, &[("limit", Shown::Natural(*limit))]),
+        Refusal::NoChangeset { id } => members(out, &[("id", FieldValue::Natural(*id))]),
+        Refusal::NotOwner { owner, .. } => members(out, &[("owner", FieldValue::Natural(*owner))]),
+        Refusal::Full { limit, .. } => members(out, &[("limit", FieldValue::Natural(*limit))]),
+        Refusal::BoxTooLarge { limit, .. } => members(
+            out,
+            &[("limit", FieldValue::Natural(*limit))],
+        ),
+        Refusal::NoRedaction { id } => members(out, &[("id", FieldValue::Natural(*id))]),
+        Refusal::MapArea { limit, .. } => members(out, &[("limit", FieldValue::Natural(*limit))]),
         Refusal::MapNodes { limit, nodes } => members(
             out,
             &[
-                ("limit", Shown::Natural(*limit)),
-                ("nodes", Shown::Natural(*nodes)),
+                ("limit", FieldValue::Natural(*limit)),
+                ("nodes", FieldValue::Natural(*nodes)),
             ],
         ),
         Refusal::NoPiece { last, number } => members(
             out,
             &[
-                ("last", Shown::Natural(*last)),
-                ("number", Shown::Natural(*number)),
+                ("last", FieldValue::Natural(*last)),
+                ("number", FieldValue::Natural(*number)),
             ],
         ),
         _ => Ok(()),
@@ -193,7 +202,7 @@ fn element(out: &mut Writer, id: Said, op: Option<u32>, kind: Kind) -> Result<()
         &[
             ("id", said(id)),
             ("op", operation(op)),
-            ("type", Shown::Text(kind_name(kind))),
+            ("type", FieldValue::Text(kind_name(kind))),
         ],
     )
 }
@@ -212,8 +221,8 @@ fn current(
         &[
             ("id", said(id)),
             ("op", operation(op)),
-            ("type", Shown::Text(kind_name(kind))),
-            ("version", Shown::Natural(version)),
+            ("type", FieldValue::Text(kind_name(kind))),
+            ("version", FieldValue::Natural(version)),
         ],
     )
 }
@@ -225,8 +234,8 @@ fn one_version(out: &mut Writer, id: Said, kind: Kind, version: u64) -> Result<(
         out,
         &[
             ("id", said(id)),
-            ("type", Shown::Text(kind_name(kind))),
-            ("version", Shown::Natural(version)),
+            ("type", FieldValue::Text(kind_name(kind))),
+            ("version", FieldValue::Natural(version)),
         ],
     )
 }
@@ -244,11 +253,11 @@ fn conflict(
     members(
         out,
         &[
-            ("found", Shown::Natural(found)),
+            ("found", FieldValue::Natural(found)),
             ("id", said(id)),
             ("op", operation(op)),
-            ("provided", Shown::Natural(provided)),
-            ("type", Shown::Text(kind_name(kind))),
+            ("provided", FieldValue::Natural(provided)),
+            ("type", FieldValue::Text(kind_name(kind))),
         ],
     )
 }
@@ -260,8 +269,8 @@ fn user(out: &mut Writer, id: Said, kind: Kind, version: u64) -> Result<(), Allo
         out,
         &[
             ("user_id", said(id)),
-            ("user_type", Shown::Text(kind_name(kind))),
-            ("user_version", Shown::Natural(version)),
+            ("user_type", FieldValue::Text(kind_name(kind))),
+            ("user_version", FieldValue::Natural(version)),
         ],
     )
 }
@@ -279,9 +288,9 @@ fn redacted(
         out,
         &[
             ("id", said(id)),
-            ("redaction", Shown::Natural(redaction)),
-            ("type", Shown::Text(kind_name(kind))),
-            ("version", Shown::Natural(version)),
+            ("redaction", FieldValue::Natural(redaction)),
+            ("type", FieldValue::Text(kind_name(kind))),
+            ("version", FieldValue::Natural(version)),
         ],
     )
 }

@@ -54,7 +54,7 @@ pub fn kind_name(kind: Kind) -> &'static str
 
 /// The value of a member, or that the member is left out.
 #[derive(Clone, Copy)]
-pub enum Shown<'a> {
+pub enum FieldValue<'a> {
     Absent,
     Natural(u64),
     Integer(i64),
@@ -69,19 +69,19 @@ fn flag(out: &mut Writer, name: &str, b: bool) -> Result<(), AllocError>
     out.boolean(b)
 }
 
-fn member(out: &mut Writer, name: &str, value: Shown<'_>) -> Result<(), AllocError>
+fn member(out: &mut Writer, name: &str, value: FieldValue<'_>) -> Result<(), AllocError>
     ensures { Sends result out.old out.new (field_tokens (shown_field name.now value.entry)) }
 {
     match value {
-        Shown::Absent => Ok(()),
-        Shown::Natural(n) => natural(out, name, n),
-        Shown::Integer(n) => integer(out, name, n),
-        Shown::Flag(b) => flag(out, name, b),
-        Shown::Text(s) => text(out, name, s),
+        FieldValue::Absent => Ok(()),
+        FieldValue::Natural(n) => natural(out, name, n),
+        FieldValue::Integer(n) => integer(out, name, n),
+        FieldValue::Flag(b) => flag(out, name, b),
+        FieldValue::Text(s) => text(out, name, s),
     }
 }
 
-pub fn members(out: &mut Writer, fields: &[(&str, Shown<'_>)]) -> Result<(), AllocError>
+pub fn members(out: &mut Writer, fields: &[(&str, FieldValue<'_>)]) -> Result<(), AllocError>
     ensures { SendsFields result out.old out.new (shown_fields fields.now) }
 {
     for (name, value) in fields {
@@ -91,7 +91,7 @@ pub fn members(out: &mut Writer, fields: &[(&str, Shown<'_>)]) -> Result<(), All
 }
 
 /// An object of these members.
-pub fn record(out: &mut Writer, fields: &[(&str, Shown<'_>)]) -> Result<(), AllocError>
+pub fn record(out: &mut Writer, fields: &[(&str, FieldValue<'_>)]) -> Result<(), AllocError>
     ensures { Sends result out.old out.new (tokens_of (record_of (shown_fields fields.now))) }
 {
     out.begin_object()?;
@@ -103,34 +103,34 @@ pub fn record(out: &mut Writer, fields: &[(&str, Shown<'_>)]) -> Result<(), Allo
 pub(crate) fn version(out: &mut Writer) -> Result<(), AllocError>
     ensures { SendsFields result out.old out.new (version_field ∷ []) }
 {
-    members(out, &[("version", Shown::Text("0.6"))])
+    members(out, &[("version", FieldValue::Text("0.6"))])
 }
 
-pub(crate) fn optional(value: Option<u64>) -> Shown<'static>
+pub(crate) fn optional(value: Option<u64>) -> FieldValue<'static>
     ensures { IsMember result (λ name. field_if name natural value) }
 {
     match value {
-        Some(n) => Shown::Natural(n),
-        None => Shown::Absent,
+        Some(n) => FieldValue::Natural(n),
+        None => FieldValue::Absent,
     }
 }
 
 /// The number of an operation.
-pub(crate) fn operation(op: Option<u32>) -> Shown<'static>
+pub(crate) fn operation(op: Option<u32>) -> FieldValue<'static>
     ensures { IsMember result (λ name. field_if name natural op) }
 {
     match op {
-        Some(n) => Shown::Natural(n as u64),
-        None => Shown::Absent,
+        Some(n) => FieldValue::Natural(n as u64),
+        None => FieldValue::Absent,
     }
 }
 
-pub(crate) fn said(said: Said) -> Shown<'static>
+pub(crate) fn said(said: Said) -> FieldValue<'static>
     ensures { IsMember result (λ name. field name (named said)) }
 {
     match said {
-        Said::Id(id) => Shown::Natural(id),
-        Said::Placeholder(placeholder) => Shown::Integer(placeholder),
+        Said::Id(id) => FieldValue::Natural(id),
+        Said::Placeholder(placeholder) => FieldValue::Integer(placeholder),
     }
 }
 

@@ -14,7 +14,7 @@ ghost use Rattle.osm_json.specs.Uploads.{text_if_some, given_member, content_giv
 ghost use Rattle.osm_json.specs.Blocks.{opened, closed, turned};
 
 use crate::contents::tags;
-use crate::send::{Shown, kind_name, members, optional, record};
+use crate::send::{FieldValue, kind_name, members, optional, record};
 use json::Writer;
 use osm_base::Kind;
 use osm_change::{Action, Change, Name, Op, kind_of, names_are_said};
@@ -23,13 +23,13 @@ use std::alloc::AllocError;
 
 // The parts of an operation.
 
-fn text_if_some(text: &str) -> Shown<'_>
+fn text_if_some(text: &str) -> FieldValue<'_>
     ensures { IsMember result (λ name. text_if_some name text.now) }
 {
     if text.is_empty() {
-        Shown::Absent
+        FieldValue::Absent
     } else {
-        Shown::Text(text)
+        FieldValue::Text(text)
     }
 }
 
@@ -41,9 +41,9 @@ fn member(out: &mut Writer, change: &Change, member: &Member<Name>) -> Result<()
     record(
         out,
         &[
-            ("ref", Shown::Integer(change.said(member.name))),
+            ("ref", FieldValue::Integer(change.said(member.name))),
             ("role", text_if_some(member.role.as_str())),
-            ("type", Shown::Text(kind_name(member.kind))),
+            ("type", FieldValue::Text(kind_name(member.kind))),
         ],
     )
 }
@@ -74,8 +74,8 @@ fn position(out: &mut Writer, lat7: i32, lon7: i32) -> Result<(), AllocError>
     members(
         out,
         &[
-            ("lat7", Shown::Integer(lat7 as i64)),
-            ("lon7", Shown::Integer(lon7 as i64)),
+            ("lat7", FieldValue::Integer(lat7 as i64)),
+            ("lon7", FieldValue::Integer(lon7 as i64)),
         ],
     )
 }
@@ -122,7 +122,7 @@ fn type_and_version(out: &mut Writer, of: Kind, version: Option<u64>) -> Result<
     members(
         out,
         &[
-            ("type", Shown::Text(kind_name(of))),
+            ("type", FieldValue::Text(kind_name(of))),
             ("version", optional(version)),
         ],
     )
@@ -146,7 +146,7 @@ fn kept(
         ∷ field_if (codes "version") natural version ∷ []))))) }
 {
     out.begin_object()?;
-    members(out, &[("id", Shown::Integer(id))])?;
+    members(out, &[("id", FieldValue::Integer(id))])?;
     content(out, change, holds)?;
     tags_if_some(out, tags)?;
     type_and_version(out, kind_of(holds), version)?;
@@ -185,10 +185,10 @@ fn operation(out: &mut Writer, change: &Change, op: &Op) -> Result<(), AllocErro
         } => record(
             out,
             &[
-                ("id", Shown::Integer(change.said(*name))),
-                ("tags", Shown::Absent),
-                ("type", Shown::Text(kind_name(*kind))),
-                ("version", Shown::Natural(*version)),
+                ("id", FieldValue::Integer(change.said(*name))),
+                ("tags", FieldValue::Absent),
+                ("type", FieldValue::Text(kind_name(*kind))),
+                ("version", FieldValue::Natural(*version)),
             ],
         ),
     }
@@ -237,15 +237,15 @@ fn open(out: &mut Writer, action: Action) -> Result<(), AllocError>
     Ok(())
 }
 
-fn if_unused(action: Action) -> Shown<'static>
+fn if_unused(action: Action) -> FieldValue<'static>
     ensures { shown_field (codes "if-unused") result ≡ if_unused_field action }
 {
     match action {
-        Action::Create | Action::Modify => Shown::Absent,
+        Action::Create | Action::Modify => FieldValue::Absent,
         Action::Delete { if_unused } => if if_unused {
-            Shown::Flag(true)
+            FieldValue::Flag(true)
         } else {
-            Shown::Absent
+            FieldValue::Absent
         },
     }
 }
