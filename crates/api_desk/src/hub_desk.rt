@@ -160,11 +160,11 @@ impl<'a, N: HubName, G: Gate + Drop, R: Wait + Drop, W: Wait> HubDesk<'a, N, G, 
         let mut steps = Steps::of(ledger, share);
         match request_of(alloc, message, self.routes, self.users) {
             Ok(request) => {
+                let (rt, hub) = (self.rt, self.hub);
                 let session = &mut self.session;
-                let reply =
-                    answer_request(self.rt, self.hub, session, alloc, request, moment, &mut steps);
-                self.hub.gate().at(Point::Answered {
-                    session: self.session.number(),
+                let reply = answer_request(rt, hub, session, alloc, request, moment, &mut steps);
+                hub.gate().at(Point::Answered {
+                    session: session.number(),
                 });
                 reply
             }

@@ -142,10 +142,11 @@ impl<'a, N: HubName, G: Gate + Drop, R: Wait + Drop, W: Wait> NotesDesk<'a, N, G
         let mut steps = Steps::of(ledger, share);
         match notes_request_of(alloc, message, self.users) {
             Ok(request) => {
+                let (rt, hub) = (self.rt, self.hub);
                 let session = &mut self.session;
-                let reply = answer_request(self.rt, self.hub, session, request, moment, &mut steps);
-                self.hub.gate().at(Point::Answered {
-                    session: self.session.number(),
+                let reply = answer_request(rt, hub, session, request, moment, &mut steps);
+                hub.gate().at(Point::Answered {
+                    session: session.number(),
                 });
                 reply
             }
