@@ -44,7 +44,7 @@ returns-clause-done c final runs =
     put
     (c.apply_all-touched.ensures.done final (subst (λ (n : ℕ). Runs c.args.self.now.map.elements n c.args.at c.args.operations final) (sym id) runs))
     (c.finish.ensures.kept
-    ∙ ap (λ (n : ℕ). record s { activity = (if nat_lt n (length s.did) then c.args.at else s.activity); touched = join_areas s.touched c.apply_all-touched.result }) c.count-before.ensures)
+    ∙ ap (λ (n : ℕ). record s { activity = (if nat_lt n (length s.did) then c.args.at else s.activity); touched = join_areas s.touched c.apply_all-touched.result }) c.count-before.ensures.counted)
 
 pub returns-clause-numbered : goal.returns-clause-numbered
 returns-clause-numbered c =
