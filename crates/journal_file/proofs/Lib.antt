@@ -1,0 +1,6 @@
+mod Cuts
+mod Gates
+mod Moments
+mod Quiet
+mod Repair
+mod WholeLines

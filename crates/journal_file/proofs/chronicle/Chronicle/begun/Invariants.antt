@@ -1,0 +1,4 @@
+use Rattle.journal_file.proofs.chronicle.Chronicle.begun.Given as goal
+
+abbrev pub ghost-of : goal.ghost-of
+ghost-of g a = g.history

@@ -1,0 +1,4 @@
+pub mod Device
+pub mod History
+pub mod Settled
+pub mod Whole

@@ -1,0 +1,19 @@
+//! What the file of a journal holds of a list of entries that only grows: every crash leaves a
+//! beginning of that list, which has at least what was promised.
+#![tactic(auto)]
+
+mod keeping;
+mod moment;
+mod receipts;
+mod shelf;
+#[cfg(test)]
+mod tests;
+mod told;
+mod writing;
+
+pub use keeping::{KeepFault, keep};
+pub use moment::Moment;
+pub use receipts::Receipt;
+pub use shelf::{Shelf, receipts_stay};
+pub use told::{Behind, Told, receipts_for};
+pub use writing::Lines;
