@@ -1,0 +1,131 @@
+#!/usr/bin/env python3
+"""Where an upload's instructions go: examples/instructions.py [--program PROGRAM] [--few 200] [--many 600]
+
+Counts by valgrind's callgrind what hub_bench does for so few and for so many uploads, of eleven new elements and of eleven new versions,
+on a book and on a hub. Prints the instructions of one upload, which are the difference by the uploads between, and how they are shared
+among functions, in hundredths: each with all that it calls, but for the last rows, which stand for themselves wherever they are called.
+An indented row is part of the one above it. PROGRAM is crates/hub_bench/out/hub_bench where none is named. Needs Debian's valgrind.
+"""
+
+from __future__ import annotations
+
+import argparse
+import os
+import re
+import subprocess
+import sys
+import tempfile
+from collections import Counter
+from concurrent.futures import ThreadPoolExecutor
+from typing import NamedTuple
+
+HERE = os.path.dirname(os.path.abspath(__file__))
+UPLOADS = {
+    "new, book": "book load",
+    "new, hub": "1 load",
+    "versions, book": "book apart",
+    "versions, hub": "1 apart",
+}
+"""Each kind of upload, and the order of hub_bench that does so many of them."""
+LINE = re.compile(r"\s*([\d,]+) \([ .\d]+%\)\s+[^ :]*:(.*?)(?:::<.*?)?(?: \[[^\]]*\])?$")
+
+
+class Row(NamedTuple):
+    """A row of the table."""
+
+    name: str
+    functions: tuple[str, ...]
+    """Patterns of names, of which the first counts that is found: a function may be built into the one that calls it."""
+    alone: bool = False
+    """Whether it is without what they call."""
+
+
+MACHINE = r"map_machine::machine::MapMachineMachine::"
+ROWS = (
+    Row("making the body", (r"workload::loads::Load::next_request|hub_bench::texts::versions",)),
+    Row("reading the body", (r"hub_bench::seats::change_of", r"osm_json::change::read_change|osm_change::changes::Change::build")),
+    Row("planning", (rf"{MACHINE}plan", r"map_machine::planning::plan_command", r"upload_check::planning::plan_upload")),
+    Row("under the lock", (r"snapshot_hub::hub::Hub::commit_locked", r"snapshot_hub::held::commit")),
+    Row("judging", (rf"{MACHINE}(still|settle)", r"map_machine::planning::command_still|map_machine::machine::settle_plan")),
+    Row("  the answer's bytes", (r"map_machine::answers::bytes_of", r"osm_json::answers::write_answer")),
+    Row("publishing", (r"snapshot_hub::press::Press::publish", r"snapshot_hub::held::publish_for")),
+    Row("  making ready", (r"snapshot_hub::shown::make_ready",)),
+    Row("    the test of the entry", (rf"{MACHINE}accepts", r"map_machine::acceptance::takes")),
+    Row("    room", (rf"{MACHINE}make_room", r"osm_world::worlds::World::make_room")),
+    Row("  applying", (rf"{MACHINE}apply", r"osm_world::worlds::World::apply")),
+    Row("copies of entries", (rf"{MACHINE}copy", r"osm_model::commands::EntryTryCopy::copy")),
+    Row("memcpy, memmove", (r".*mem(cpy|move).*",), alone=True),
+    Row("memset", (r".*memset.*",), alone=True),
+    Row("malloc and its kin", (r"(.*_)?(malloc|free|realloc|calloc)(_.*)?|unlink_chunk.*",), alone=True),
+)
+
+
+class Costs(NamedTuple):
+    """Instructions by function, with what each calls and without."""
+
+    whole: Counter[str]
+    alone: Counter[str]
+
+    def of(self, row: Row) -> int:
+        among = self.alone if row.alone else self.whole
+        sums = (sum(count for name, count in among.items() if re.fullmatch(pattern, name)) for pattern in row.functions)
+        return next(filter(None, sums), 0)
+
+
+def output(*words: str, given: str = "") -> str:
+    done = subprocess.run(words, input=given, capture_output=True, text=True, check=False)
+    if done.returncode:
+        raise SystemExit(f"{words[0]} ended with status {done.returncode}: {done.stderr[-600:]}")
+    return done.stdout
+
+
+def costs_in(path: str, inclusive: str) -> Counter[str]:
+    """By the names of functions, without their files and without what stands for their types."""
+    costs: Counter[str] = Counter()
+    for line in output("callgrind_annotate", f"--inclusive={inclusive}", "--threshold=100", "--auto=no", path).splitlines():
+        found = LINE.match(line)
+        if found:
+            costs[found[2]] += int(found[1].replace(",", ""))
+    return costs
+
+
+def counted(program: str, order: str, uploads: int) -> Costs:
+    with tempfile.TemporaryDirectory() as folder:
+        path = os.path.join(folder, "callgrind.out")
+        output("valgrind", "-q", "--tool=callgrind", f"--callgrind-out-file={path}", program, given=f"{order} {uploads}\n")
+        return Costs(costs_in(path, "yes"), costs_in(path, "no"))
+
+
+def of_one(program: str, order: str, few: int, many: int) -> Costs:
+    """What one upload costs, in thousandths of an instruction."""
+    less, more = (counted(program, order, uploads) for uploads in (few, many))
+    return Costs(*(Counter({name: 1000 * (count - old[name]) // (many - few) for name, count in new.items()}) for old, new in zip(less, more)))
+
+
+def table(columns: dict[str, Costs]) -> None:
+    print(f"{'':24}" + "".join(f"{name:>16}" for name in columns))
+    alls = [costs.alone.total() for costs in columns.values()]
+    print(f"{'instructions':24}" + "".join(f"{count / 1000:16,.0f}" for count in alls))
+    for row in ROWS:
+        shares = (100 * costs.of(row) / count for costs, count in zip(columns.values(), alls))
+        print(f"{row.name:24}" + "".join(f"{share:16.1f}" if share else f"{'-':>16}" for share in shares))
+
+
+def main() -> int:
+    parser = argparse.ArgumentParser(description=(__doc__ or "").split("\n")[0])
+    parser.add_argument("--program", default=os.path.join(HERE, "..", "crates", "hub_bench", "out", "hub_bench"))
+    parser.add_argument("--few", type=int, default=200)
+    parser.add_argument("--many", type=int, default=600)
+    words = parser.parse_args()
+    if not os.access(words.program, os.X_OK):
+        parser.error(f"there is no program {words.program}: rt ci builds it")
+    if words.many <= words.few:
+        parser.error("--many has to be above --few")
+    with ThreadPoolExecutor(2) as pool:
+        costs = pool.map(lambda order: of_one(words.program, order, words.few, words.many), UPLOADS.values())
+        table(dict(zip(UPLOADS, costs)))
+    return 0
+
+
+if __name__ == "__main__":
+    sys.exit(main())
