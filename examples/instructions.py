@@ -4,7 +4,7 @@
 Counts by valgrind's callgrind what hub_bench does for so few and for so many uploads, of eleven new elements and of eleven new versions,
 on a book and on a hub. Prints the instructions of one upload, which are the difference by the uploads between, and how they are shared
 among functions, in hundredths: each with all that it calls, but for the last rows, which stand for themselves wherever they are called.
-An indented row is part of the one above it. PROGRAM is crates/hub_bench/out/hub_bench where none is named. Needs Debian's valgrind.
+An indented row is part of the one above it on a hub; a book publishes nothing, and has room made and is applied to once. PROGRAM is crates/hub_bench/out/hub_bench where none is named. Needs Debian's valgrind.
 """
 
 from __future__ import annotations
@@ -36,28 +36,35 @@ class Row(NamedTuple):
     name: str
     functions: tuple[str, ...]
     """Patterns of names, of which the first counts that is found: a function may be built into the one that calls it."""
+    without: str = ""
+    """What they call, and isn't part of the row."""
     alone: bool = False
-    """Whether it is without what they call."""
+    """Whether it is without all that they call."""
 
 
-MACHINE = r"map_machine::machine::MapMachineMachine::"
+MACHINE = "map_machine::machine::MapMachineMachine::"
+PLAN = f"{MACHINE}plan|map_machine::planning::plan_command"
 ROWS = (
-    Row("making the body", (r"workload::loads::Load::next_request|hub_bench::texts::versions",)),
-    Row("reading the body", (r"hub_bench::seats::change_of", r"osm_json::change::read_change|osm_change::changes::Change::build")),
-    Row("planning", (rf"{MACHINE}plan", r"map_machine::planning::plan_command", r"upload_check::planning::plan_upload")),
-    Row("under the lock", (r"snapshot_hub::hub::Hub::commit_locked", r"snapshot_hub::held::commit")),
-    Row("judging", (rf"{MACHINE}(still|settle)", r"map_machine::planning::command_still|map_machine::machine::settle_plan")),
-    Row("  the answer's bytes", (r"map_machine::answers::bytes_of", r"osm_json::answers::write_answer")),
-    Row("publishing", (r"snapshot_hub::press::Press::publish", r"snapshot_hub::held::publish_for")),
-    Row("  making ready", (r"snapshot_hub::shown::make_ready",)),
-    Row("    the test of the entry", (rf"{MACHINE}accepts", r"map_machine::acceptance::takes")),
-    Row("    room", (rf"{MACHINE}make_room", r"osm_world::worlds::World::make_room")),
-    Row("  applying", (rf"{MACHINE}apply", r"osm_world::worlds::World::apply")),
-    Row("copies of entries", (rf"{MACHINE}copy", r"osm_model::commands::EntryTryCopy::copy")),
-    Row("memcpy, memmove", (r".*mem(cpy|move).*",), alone=True),
-    Row("memset", (r".*memset.*",), alone=True),
-    Row("malloc and its kin", (r"(.*_)?(malloc|free|realloc|calloc)(_.*)?|unlink_chunk.*",), alone=True),
+    Row("making the body", ("workload::loads::Load::next_request|hub_bench::texts::versions",)),
+    Row("reading the body", ("hub_bench::seats::change_of", "osm_json::change::read_change|osm_change::changes::Change::build")),
+    Row("planning", (PLAN,)),
+    Row("committing, locked", ("hub_bench::seats::Seat::commit",), without=PLAN),
+    Row("  judging", (r"hub_core::\w+::(\w+::)?(judge|settle_by)", f"{MACHINE}(still|settle)|map_machine::machine::settle_upload")),
+    Row("    the answer's bytes", ("map_machine::answers::bytes_of", "map_machine::machine::bytes_from")),
+    Row("  publishing", ("snapshot_hub::press::Press::publish", "snapshot_hub::held::Held::publish", "snapshot_hub::held::publish_for")),
+    Row("    making ready", ("snapshot_hub::shown::make_ready", f"{MACHINE}(accepts|make_room)")),
+    Row("      test of the entry", (f"{MACHINE}accepts", "map_machine::acceptance::takes")),
+    Row("      room", (f"{MACHINE}make_room", "osm_world::worlds::World::make_room")),
+    Row("    applying", (f"{MACHINE}apply", "osm_world::worlds::World::apply")),
+    Row("  copies of the entry", (f"{MACHINE}copy", "osm_model::commands::EntryTryCopy::copy")),
+    Row("memcpy, memmove", (".*mem(cpy|move).*",), alone=True),
+    Row("memset", (".*memset.*",), alone=True),
+    Row("malloc and its kin", ("(.*_)?(malloc|free|realloc|calloc)(_.*)?|unlink_chunk.*|rattle_(|re|de)alloc.*",), alone=True),
 )
+
+
+def matched(costs: Counter[str], pattern: str) -> int:
+    return sum(count for name, count in costs.items() if re.fullmatch(pattern, name))
 
 
 class Costs(NamedTuple):
@@ -68,8 +75,7 @@ class Costs(NamedTuple):
 
     def of(self, row: Row) -> int:
         among = self.alone if row.alone else self.whole
-        sums = (sum(count for name, count in among.items() if re.fullmatch(pattern, name)) for pattern in row.functions)
-        return next(filter(None, sums), 0)
+        return next(filter(None, (matched(among, it) for it in row.functions)), 0) - matched(among, row.without)
 
 
 def output(*words: str, given: str = "") -> str:
