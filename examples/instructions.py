@@ -4,7 +4,8 @@
 Counts by valgrind's callgrind what hub_bench does for so few and for so many uploads, of eleven new elements and of eleven new versions,
 on a book and on a hub. Prints the instructions of one upload, which are the difference by the uploads between, and how they are shared
 among functions, in hundredths: each with all that it calls, but for the last rows, which stand for themselves wherever they are called.
-An indented row is part of the one above it on a hub; a book publishes nothing, and has room made and is applied to once. PROGRAM is crates/hub_bench/out/hub_bench where none is named. Needs Debian's valgrind.
+An indented row is part of the one above it on a hub; a book publishes nothing, and has room made and is applied to once. PROGRAM is
+crates/hub_bench/out/hub_bench where none is named. Needs Debian's valgrind.
 """
 
 from __future__ import annotations
@@ -12,6 +13,7 @@ from __future__ import annotations
 import argparse
 import os
 import re
+import shutil
 import subprocess
 import sys
 import tempfile
@@ -19,6 +21,8 @@ from collections import Counter
 from concurrent.futures import ThreadPoolExecutor
 from typing import NamedTuple
 
+# Callgrind counts a repeated instruction once for each byte, so the C library is to fill and copy by other ones.
+NO_REPEATS = {"GLIBC_TUNABLES": "glibc.cpu.hwcaps=-ERMS"}
 HERE = os.path.dirname(os.path.abspath(__file__))
 UPLOADS = {
     "new, book": "book load",
@@ -79,7 +83,7 @@ class Costs(NamedTuple):
 
 
 def output(*words: str, given: str = "") -> str:
-    done = subprocess.run(words, input=given, capture_output=True, text=True, check=False)
+    done = subprocess.run(words, input=given, capture_output=True, text=True, check=False, env=os.environ | NO_REPEATS)
     if done.returncode:
         raise SystemExit(f"{words[0]} ended with status {done.returncode}: {done.stderr[-600:]}")
     return done.stdout
@@ -125,6 +129,8 @@ def main() -> int:
     words = parser.parse_args()
     if not os.access(words.program, os.X_OK):
         parser.error(f"there is no program {words.program}: rt ci builds it")
+    if not shutil.which("valgrind"):
+        parser.error("there is no valgrind (apt-get install)")
     if words.many <= words.few:
         parser.error("--many has to be above --few")
     with ThreadPoolExecutor(2) as pool:
