@@ -46,6 +46,8 @@ LOAD = ["--seed", "1", "--sessions", "2", "--uploads", "20"]
 WAIT = 10.0
 NO_MEMORY = 5
 MOMENTS = re.compile(rb'"(\w+_at|timestamp)":"[^"]*"')
+# What a piece of the feed tells of the moment, and of the session of the worker whose turn it was.
+ENTERED = re.compile(rb'"(at|session)":\d+')
 
 
 # ---- what is sent
@@ -284,7 +286,7 @@ def converse(ask: Callable[[int, bytes], Reply | None], asked: list[bytes], agai
 
 
 def plain(reply: Reply) -> tuple[int, bytes, bool]:
-    return reply.status, MOMENTS.sub(rb'"\1":""', reply.body), reply.closes
+    return reply.status, ENTERED.sub(rb'"\1":0', MOMENTS.sub(rb'"\1":""', reply.body)), reply.closes
 
 
 def differing(told: Told, usual: Told) -> int | None:
