@@ -24,6 +24,8 @@ from session_rows import rows_of
 KINDS = "node|way|relation"
 FRAMING = {"bad_head", "head_long", "coded", "bad_length", "body_long", "no_path", "wrong_method", "xml", "not_json"}
 """Refusals of messages that the gateway doesn't send."""
+LONG = 33_554_432 - 1_024
+"""A body that is longer than this is beyond the server's limit in the gateway's form, which has members that may be left out."""
 BODY = "HTTP/1.1 {} X\r\nContent-Type: application/json\r\nContent-Length: {}\r\n\r\n"
 
 
@@ -232,6 +234,14 @@ class Play:
             want(back, expected, "the reply read back")
             self.counts["replies"] += 1
 
+    def too_long(self, it: Request) -> None:
+        body = body_of(it)
+        for as_json in (False, True):
+            came = self.send(it, body.json if as_json else body.xml, as_json)
+            want(came.status, 413, f"the status ({came.text[:200]})")
+            want(len(self.standing.got), 0, "requests to the server")
+        self.counts["bodies too long in the gateway's form"] += 1
+
     def refused(self, it: Request, reply: Reply) -> None:
         """Also a body that can't be put in another form: it goes as it stands, and has to be refused all the same."""
         try:
@@ -259,7 +269,10 @@ def run(_: str) -> str:
                     continue
                 standing.next = reply
                 try:
-                    (play.accepted if reply.status == 200 else play.refused)(it, reply)
+                    if reply.status == 200 and len(it.body) > LONG:
+                        play.too_long(it)
+                    else:
+                        (play.accepted if reply.status == 200 else play.refused)(it, reply)
                 except (Wrong, AssertionError, ArithmeticError, LookupError) as why:
                     raise Wrong(f"{row.name}: {it.method} {it.path}?{it.query} {it.body[:300]!r}: {why}") from None
     return f"{len(sessions)} sessions: " + ", ".join(f"{count:,} {name}" for name, count in play.counts.items())
