@@ -16,7 +16,7 @@ use crate::changes::Change;
 use crate::operations::{Name, Op};
 use crate::raw::{Action, RawOp};
 use osm_base::{Coord, Items, Kind};
-use osm_element::{Content, Member, Members, RawContent, Refs, Tags, check_local};
+use osm_element::{BoxedItems, Content, Member, RawContent, Tags, check_local};
 use placeholder_map::PlaceholderMap;
 use std::alloc::Global;
 
@@ -33,14 +33,18 @@ fn name_of(placeholders: &PlaceholderMap, kind: Kind, id: i64) -> Result<Name, C
     }
 }
 
-fn names_of(alloc: Global, placeholders: &PlaceholderMap, ids: &[i64]) -> Result<Refs<Name>, Cause>
+fn names_of(
+    alloc: Global,
+    placeholders: &PlaceholderMap,
+    ids: &[i64],
+) -> Result<BoxedItems<Name>, Cause>
     ensures { Gives (each (name_of (look_of placeholders.now) Kind.Node) ids.now) result }
 {
     let mut names = Vec::with_capacity(alloc, ids.len())?;
     for id in ids {
         names.push(name_of(placeholders, Kind::Node, *id)?)?;
     }
-    Ok(Items::of(names))
+    Ok(BoxedItems::of(alloc, names)?)
 }
 
 /// The roles are moved, not copied.
@@ -48,7 +52,7 @@ fn members_named(
     alloc: Global,
     placeholders: &PlaceholderMap,
     members: Vec<Member<i64>>,
-) -> Result<Members<Name>, Cause>
+) -> Result<BoxedItems<Member<Name>>, Cause>
     ensures { Gives (each (member_named (look_of placeholders.now)) members.items) result }
 {
     let mut named = Vec::with_capacity(alloc, members.len())?;
@@ -60,7 +64,7 @@ fn members_named(
             role: member.role,
         })?;
     }
-    Ok(Items::of(named))
+    Ok(BoxedItems::of(alloc, named)?)
 }
 
 fn position(lat7: i64, lon7: i64) -> Coord

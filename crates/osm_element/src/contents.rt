@@ -1,4 +1,5 @@
 //! What elements hold: a position, nodes, members.
+use crate::boxed_items::BoxedItems;
 use osm_base::{Coord, Items, Kind, Memory, Text, TryCopy};
 use std::alloc::Global;
 
@@ -28,12 +29,13 @@ pub type Refs<N> = Items<N>;
 /// The members of a relation, in order.
 pub type Members<N> = Items<Member<N>>;
 
-/// What a visible version of an element holds.
+/// What a visible version of an element holds. Lists stand behind a pointer, so that a version of a
+/// node takes no room for one.
 #[derive(Drop)]
 pub enum Content<N> {
     Node(Coord),
-    Way(Refs<N>),
-    Relation(Members<N>),
+    Way(BoxedItems<N>),
+    Relation(BoxedItems<Member<N>>),
 }
 
 impl<N: TryCopy + Drop> TryCopy for Content<N> {

@@ -1,6 +1,7 @@
 //! The elements of the map: what they hold, their versions and their use.
 #![tactic(auto)]
 
+mod boxed_items;
 mod checks;
 mod contents;
 mod edits;
@@ -12,6 +13,7 @@ mod references;
 mod usage;
 mod versions;
 
+pub use boxed_items::BoxedItems;
 pub use checks::check_local;
 pub use contents::{Content, Member, Members, RawContent, Refs};
 pub use elements::{Elements, History};

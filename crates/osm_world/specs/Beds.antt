@@ -2,14 +2,12 @@
 use Rattle.std.specs.Prelude.{◌≡◌, ⊤, ℕ, ◌+◌, ◌≤◌, Bool, true, ◌&&◌, if◌then◌else◌, List, [], ◌∷◌, ◌++◌, length, Option, Some, None}
 use Rattle.osm_base.specs.Key.{key_eq}
 use Rattle.osm_base.specs.Place.{Position}
-use Rattle.osm_base.specs.Row.{Row}
 use Rattle.osm_base.specs.declared.keys.Kind.TheVariants as kind
 use Rattle.osm_base.specs.declared.keys.Key.{Key}
 use Rattle.osm_element.specs.Elements.{next_id, is_visible}
 use Rattle.osm_element.specs.Tags.{Tag}
 use Rattle.osm_element.specs.declared.contents.Content.{Content}
 use Rattle.osm_element.specs.declared.contents.Content.TheVariants as content
-use Rattle.osm_element.specs.declared.contents.Member.{Member}
 use Rattle.osm_element.specs.declared.elements.Elements.{Elements}
 use Rattle.osm_element.specs.declared.versions.Version.{Version}
 use Rattle.osm_change.specs.Keys.{ids_after, key_of}
@@ -21,6 +19,8 @@ use Rattle.osm_model.specs.Names.{with_ids}
 use Rattle.indexed_map.specs.Indexed.{IsListOf, is_unused, times_listed}
 use Rattle.indexed_map.specs.Placed.{enters}
 use Rattle.osm_world.specs.declared.beds.Bed.{Bed}
+use Rattle.osm_world.specs.declared.beds.Places.{Places}
+use Rattle.osm_world.specs.declared.beds.Places.TheVariants as places
 
 -- the ids that come next
 abbrev pub first_ids : Elements → FirstIds
@@ -60,28 +60,40 @@ version_of c t content tags = record { content = content; tags = tags; changeset
 abbrev pub version_of_op : ℕ → ℕ → List Key → Op → Version
 version_of_op c t ks o = version_of c t (content_of_op ks o) (tags_of_op o)
 
--- there are places for the references of a content
-abbrev pub HasPlaces : Content Name → Row ℕ → Row (Member ℕ) → Type 0
-HasPlaces (content.Node at) ids members = ⊤
-HasPlaces (content.Way nodes) ids members = (ids.items ≡ []) × (length nodes ≤ ids.free)
-HasPlaces (content.Relation named) ids members = (members.items ≡ []) × (length named ≤ members.free)
+-- a box is there, and room for so many ids of nodes
+abbrev pub HasNodes : ℕ → Places → Type 0
+HasNodes n places.None = ⊥
+HasNodes n (places.Nodes boxed) = (boxed.room.items ≡ []) × (n ≤ boxed.room.free)
+HasNodes n (places.Members boxed) = ⊥
 
-abbrev pub HasPlacesFor : Op → Row ℕ → Row (Member ℕ) → Type 0
-HasPlacesFor (Create placeholder content tags) ids members = HasPlaces content ids members
-HasPlacesFor (Modify name version content tags) ids members = HasPlaces content ids members
-HasPlacesFor (Delete kind name version if_unused) ids members = ⊤
+-- the same for members
+abbrev pub HasMembers : ℕ → Places → Type 0
+HasMembers n places.None = ⊥
+HasMembers n (places.Nodes boxed) = ⊥
+HasMembers n (places.Members boxed) = (boxed.room.items ≡ []) × (n ≤ boxed.room.free)
+
+-- there are places for the references of a content
+abbrev pub HasPlaces : Content Name → Places → Type 0
+HasPlaces (content.Node at) p = ⊤
+HasPlaces (content.Way nodes) p = HasNodes (length nodes) p
+HasPlaces (content.Relation named) p = HasMembers (length named) p
+
+abbrev pub HasPlacesFor : Op → Places → Type 0
+HasPlacesFor (Create placeholder content tags) p = HasPlaces content p
+HasPlacesFor (Modify name version content tags) p = HasPlaces content p
+HasPlacesFor (Delete kind name version if_unused) p = ⊤
 
 -- what was laid by serves an operation after others with these keys
 pub record IsBedOf (ks : List Key) (ids : FirstIds) (o : Op) (b : Bed) : Type 0 where
   pub key : b.key ≡ key_of ks ids o
   pub listed : IsListOf (content_of_op ks o) b.listed
-  pub places : HasPlacesFor o b.ids b.members
+  pub places : HasPlacesFor o b.places
 
 -- the same of an operation with this element and this content
 pub record IsLaidFor (ks : List Key) (k : Key) (c : Content Name) (b : Bed) : Type 0 where
   pub key : b.key ≡ k
   pub listed : IsListOf (Some (with_ids ks c)) b.listed
-  pub places : HasPlaces c b.ids b.members
+  pub places : HasPlaces c b.places
 
 -- one for each operation
 abbrev pub AreBedsOf : List Key → FirstIds → List Op → List Bed → Type 0

@@ -21,7 +21,7 @@ ghost use Rattle.indexed_map.specs.Placed.{enters};
 ghost use Rattle.osm_world.specs.declared.beds.Bed.{Bed};
 ghost use Rattle.osm_world.specs.Beds.{first_ids, place_in, place_of_op, HasPlaces, IsBedOf, IsLaidFor, AreBedsOf, made, begun, entered};
 
-use crate::beds::{Bed, Laid};
+use crate::beds::{Bed, BoxedRoom, Laid, Places};
 use indexed_map::IndexedMap;
 use osm_base::{Coord, Items, Key, Kind, Memory, Roomy};
 use osm_change::{FirstIds, Name, Op, kind_of};
@@ -71,22 +71,15 @@ fn listed_by(alloc: Global, keys: &[Key], content: &Content<Name>) -> Result<Ite
     Ok(Items::of(keys_sorted_once(listed)))
 }
 
-type Places = (Roomy<u64>, Roomy<Member<u64>>);
-
 fn places_for(alloc: Global, content: &Content<Name>) -> Result<Places, Memory>
-    ensures { IfOk result (λ made. HasPlaces content.now made.0 made.1) }
+    ensures { IfOk result (λ made. HasPlaces content.now made) }
 {
-    let mut ids = Roomy::none(alloc);
-    let mut named = Roomy::none(alloc);
     match content {
-        Content::Node(_) => Ok((ids, named)),
-        Content::Way(nodes) => {
-            ids.promise(nodes.len())?;
-            Ok((ids, named))
-        }
+        Content::Node(_) => Ok(Places::None),
+        Content::Way(nodes) => Ok(Places::Nodes(BoxedRoom::for_items(alloc, nodes.len())?)),
         Content::Relation(members) => {
-            named.promise(members.len())?;
-            Ok((ids, named))
+            let places = BoxedRoom::for_items(alloc, members.len())?;
+            Ok(Places::Members(places))
         }
     }
 }
@@ -100,12 +93,11 @@ fn lay_content(
     ensures { IfOk result (λ bed. IsLaidFor keys.now key content.now bed) }
 {
     let listed = listed_by(alloc, keys, content)?;
-    let (ids, members) = places_for(alloc, content)?;
+    let places = places_for(alloc, content)?;
     Ok(Bed {
         key,
         listed,
-        ids,
-        members,
+        places,
     })
 }
 

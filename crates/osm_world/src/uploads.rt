@@ -19,36 +19,38 @@ ghost use Rattle.indexed_map.specs.Placed.{enters};
 ghost use Rattle.osm_world.specs.Beds.{first_ids, content_of_op, tags_of_op, place_of_op, makes, version_of, version_of_op, HasPlaces, HasPlacesFor, AreBedsOf, made, begun, entered};
 ghost use Rattle.osm_world.specs.World.{Runs, IsDone};
 
-use crate::beds::{Bed, Laid};
+use crate::beds::{Bed, BoxedRoom, Laid, Places};
 use changeset_core::{Changeset, join_boxes};
 use indexed_map::IndexedMap;
-use osm_base::{Box7, Items, Key, Kind, Roomy, Stamp};
+use osm_base::{Box7, Items, Key, Kind, Stamp};
 use osm_change::{Name, Op};
-use osm_element::{Content, Member, Tags, Version};
+use osm_element::{BoxedItems, Content, Member, Tags, Version};
 use std::alloc::Global;
 
-fn nodes_with_ids(keys: &[Key], nodes: &[Name], places: Roomy<u64>) -> Items<u64>
-    requires empty { places.items ≡ [] }
-    requires room { length nodes.now ≤ places.free }
+fn nodes_with_ids(keys: &[Key], nodes: &[Name], places: BoxedRoom<u64>) -> BoxedItems<u64>
+    requires empty { places.room.items ≡ [] }
+    requires room { length nodes.now ≤ places.room.free }
     ensures { result ≡ map (id_of keys.now) nodes.now }
 {
-    let mut made = places;
+    let BoxedRoom { room, place } = places;
+    let mut made = room;
     for name in nodes {
         made.push(name.id(keys));
     }
-    Items::of(made.into_vec())
+    place.with(made.into_vec())
 }
 
 fn members_with_ids(
     keys: &[Key],
-    members: Items<Member<Name>>,
-    places: Roomy<Member<u64>>,
-) -> Items<Member<u64>>
-    requires empty { places.items ≡ [] }
-    requires room { length members ≤ places.free }
+    members: BoxedItems<Member<Name>>,
+    places: BoxedRoom<Member<u64>>,
+) -> BoxedItems<Member<u64>>
+    requires empty { places.room.items ≡ [] }
+    requires room { length members ≤ places.room.free }
     ensures { result ≡ map (member_with_id keys.now) members }
 {
-    let mut made = places;
+    let BoxedRoom { room, place } = places;
+    let mut made = room;
     for member in members.into_vec() {
         made.push(Member {
             kind: member.kind,
@@ -56,23 +58,28 @@ fn members_with_ids(
             role: member.role,
         });
     }
-    Items::of(made.into_vec())
+    place.with(made.into_vec())
 }
 
 /// A content with the ids that its names stand for. Roles are moved.
-fn with_ids(
-    keys: &[Key],
-    content: Content<Name>,
-    ids: Roomy<u64>,
-    members: Roomy<Member<u64>>,
-) -> Content<u64>
-    requires { HasPlaces content ids members }
+fn with_ids(keys: &[Key], content: Content<Name>, places: Places) -> Content<u64>
+    requires { HasPlaces content places }
     ensures { result ≡ with_ids keys.now content }
 {
     match content {
         Content::Node(at) => Content::Node(at),
-        Content::Way(nodes) => Content::Way(nodes_with_ids(keys, nodes.items(), ids)),
-        Content::Relation(named) => Content::Relation(members_with_ids(keys, named, members)),
+        Content::Way(nodes) => {
+            let Places::Nodes(places) = places else {
+                unreachable!()
+            };
+            Content::Way(nodes_with_ids(keys, nodes.items(), places))
+        }
+        Content::Relation(members) => {
+            let Places::Members(places) = places else {
+                unreachable!()
+            };
+            Content::Relation(members_with_ids(keys, members, places))
+        }
     }
 }
 
@@ -138,21 +145,15 @@ fn makes(map: &IndexedMap, key: Key, operation: &Op) -> bool
     }
 }
 
-fn given(
-    alloc: Global,
-    keys: &[Key],
-    operation: Op,
-    ids: Roomy<u64>,
-    members: Roomy<Member<u64>>,
-) -> NewVersion
-    requires { HasPlacesFor operation ids members }
+fn given(alloc: Global, keys: &[Key], operation: Op, places: Places) -> NewVersion
+    requires { HasPlacesFor operation places }
     ensures content { result.content ≡ content_of_op keys.now operation }
     ensures tags { result.tags ≡ tags_of_op operation }
     ensures place { new_position result.content ≡ place_of_op operation }
 {
     match operation {
         Op::Create { content, tags, .. } | Op::Modify { content, tags, .. } => NewVersion {
-            content: Some(with_ids(keys, content, ids, members)),
+            content: Some(with_ids(keys, content, places)),
             tags,
         },
         Op::Delete { .. } => NewVersion {
@@ -176,7 +177,7 @@ fn apply_one(
     requires counted { 0 < bed.key.id }
     requires follows { bed.key.id ≤ next_id map.old.elements bed.key.kind }
     requires listed { IsListOf (content_of_op keys.now operation) bed.listed }
-    requires places { HasPlacesFor operation bed.ids bed.members }
+    requires places { HasPlacesFor operation bed.places }
     requires room { HasRoom map.old bed.key bed.listed (place_of_op operation) }
     requires work { 0 < changeset.old.free }
     ensures touched { result ≡ (if makes map.old.elements bed.key operation then touched_area map.old.elements bed.key (content_of_op keys.now operation) else None) }
@@ -200,10 +201,9 @@ fn apply_one(
     let Bed {
         key,
         listed,
-        ids,
-        members,
+        places,
     } = bed;
-    let fresh = given(alloc, keys, operation, ids, members);
+    let fresh = given(alloc, keys, operation, places);
     make_version(map, changeset, at, key, fresh, listed.items())
 }
 

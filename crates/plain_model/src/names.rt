@@ -4,9 +4,9 @@ ghost use Rattle.osm_change.specs.Keys.{id_of};
 ghost use Rattle.osm_model.specs.Names.{of_kind, known_key, said_key, with_ids, member_with_id};
 
 use crate::uploads::UploadTask;
-use osm_base::{Items, Key, Kind, Memory, TryCopy};
+use osm_base::{Key, Kind, Memory, TryCopy};
 use osm_change::{Name, Said, said_made};
-use osm_element::{Content, Member};
+use osm_element::{BoxedItems, Content, Member};
 use osm_model::Progress;
 use std::alloc::{AllocError, Global};
 
@@ -92,11 +92,11 @@ pub fn with_ids(
         Content::Node(at) => Ok(Content::Node(*at)),
         Content::Way(nodes) => {
             let ids = ids_of(alloc, keys, nodes.items())?;
-            Ok(Content::Way(Items::of(ids)))
+            Ok(Content::Way(BoxedItems::of(alloc, ids)?))
         }
         Content::Relation(members) => {
             let made = members_with_ids(alloc, keys, members.items())?;
-            Ok(Content::Relation(Items::of(made)))
+            Ok(Content::Relation(BoxedItems::of(alloc, made)?))
         }
     }
 }

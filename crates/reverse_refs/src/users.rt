@@ -6,6 +6,7 @@ ghost use Rattle.osm_base.specs.declared.keys.Key.{Key};
 
 use crate::key_sets::KeySet;
 use osm_base::{Key, Kind, Memory};
+use segment_list::Segments;
 use std::alloc::Global;
 use std::marker::Model;
 
@@ -20,9 +21,9 @@ pub struct Pair {
 /// what is added to it: nothing here looks at elements.
 #[derive(Drop)]
 pub struct UserIndex {
-    nodes: Vec<KeySet>,
-    ways: Vec<KeySet>,
-    relations: Vec<KeySet>,
+    nodes: Segments<KeySet>,
+    ways: Segments<KeySet>,
+    relations: Segments<KeySet>,
 }
 
 impl Model for UserIndex {
@@ -30,7 +31,7 @@ impl Model for UserIndex {
 
     ghost Value = { UserRows };
 
-    ghost view = { λ u. record { nodes = u.nodes.items; ways = u.ways.items; relations = u.relations.items } };
+    ghost view = { λ u. record { nodes = u.nodes; ways = u.ways; relations = u.relations } };
 }
 
 impl UserIndex {
@@ -42,9 +43,9 @@ impl UserIndex {
         ensures room { (k : Key) → free_in result k ≡ 0 }
     {
         UserIndex {
-            nodes: Vec::new(alloc),
-            ways: Vec::new(alloc),
-            relations: Vec::new(alloc),
+            nodes: Segments::new(alloc),
+            ways: Segments::new(alloc),
+            relations: Segments::new(alloc),
         }
     }
 
@@ -54,9 +55,9 @@ impl UserIndex {
         ensures rising { IsRising result.now }
     {
         match key.kind {
-            Kind::Node => users_at(self.nodes.as_slice(), key.id),
-            Kind::Way => users_at(self.ways.as_slice(), key.id),
-            Kind::Relation => users_at(self.relations.as_slice(), key.id),
+            Kind::Node => users_at(&self.nodes, key.id),
+            Kind::Way => users_at(&self.ways, key.id),
+            Kind::Relation => users_at(&self.relations, key.id),
         }
     }
 
@@ -107,9 +108,9 @@ impl UserIndex {
     {
         let place = used.id as usize;
         match used.kind {
-            Kind::Node => self.nodes[place].release(1),
-            Kind::Way => self.ways[place].release(1),
-            Kind::Relation => self.relations[place].release(1),
+            Kind::Node => self.nodes.item_mut(place).release(1),
+            Kind::Way => self.ways.item_mut(place).release(1),
+            Kind::Relation => self.relations.item_mut(place).release(1),
         }
     }
 
@@ -135,9 +136,9 @@ impl UserIndex {
     {
         let place = pair.used.id as usize;
         match pair.used.kind {
-            Kind::Node => self.nodes[place].add(pair.user),
-            Kind::Way => self.ways[place].add(pair.user),
-            Kind::Relation => self.relations[place].add(pair.user),
+            Kind::Node => self.nodes.item_mut(place).add(pair.user),
+            Kind::Way => self.ways.item_mut(place).add(pair.user),
+            Kind::Relation => self.relations.item_mut(place).add(pair.user),
         }
     }
 
@@ -150,14 +151,14 @@ impl UserIndex {
     {
         let place = pair.used.id as usize;
         match pair.used.kind {
-            Kind::Node => self.nodes[place].take_out(pair.user),
-            Kind::Way => self.ways[place].take_out(pair.user),
-            Kind::Relation => self.relations[place].take_out(pair.user),
+            Kind::Node => self.nodes.item_mut(place).take_out(pair.user),
+            Kind::Way => self.ways.item_mut(place).take_out(pair.user),
+            Kind::Relation => self.relations.item_mut(place).take_out(pair.user),
         }
     }
 }
 
-fn users_at(rows: &[KeySet], id: u64) -> &[Key]
+fn users_at(rows: &Segments<KeySet>, id: u64) -> &[Key]
     ensures users { result.now ≡ (slice_index_or rows.now id no_row).items }
     ensures rising { IsRising result.now }
 {
@@ -167,36 +168,34 @@ fn users_at(rows: &[KeySet], id: u64) -> &[Key]
     }
 }
 
-fn promise_at(alloc: Global, rows: &mut Vec<KeySet>, id: u64) -> Result<(), Memory>
-    ensures users { (i : ℕ) → (slice_index_or rows.new.items i no_row).items ≡ (slice_index_or rows.old.items i no_row).items }
-    ensures ok { OnOk result ((i : ℕ) → (slice_index_or rows.new.items i no_row).free
-        ≡ (slice_index_or rows.old.items i no_row).free + (if i == id then 1 else 0)) }
-    ensures err { OnErr result ((i : ℕ) → (slice_index_or rows.new.items i no_row).free ≡ (slice_index_or rows.old.items i no_row).free) }
+fn promise_at(alloc: Global, rows: &mut Segments<KeySet>, id: u64) -> Result<(), Memory>
+    ensures users { (i : ℕ) → (slice_index_or rows.new i no_row).items ≡ (slice_index_or rows.old i no_row).items }
+    ensures ok { OnOk result ((i : ℕ) → (slice_index_or rows.new i no_row).free
+        ≡ (slice_index_or rows.old i no_row).free + (if i == id then 1 else 0)) }
+    ensures err { OnErr result ((i : ℕ) → (slice_index_or rows.new i no_row).free ≡ (slice_index_or rows.old i no_row).free) }
 {
     let place = id as usize;
     extend(rows, place)?;
-    rows[place].promise(alloc, 1)
+    rows.item_mut(place).promise(alloc, 1)
 }
 
-fn forget_at(rows: &mut Vec<KeySet>, id: u64)
-    ensures users { (i : ℕ) → (slice_index_or rows.new.items i no_row).items ≡ (slice_index_or rows.old.items i no_row).items }
-    ensures room { (i : ℕ) → (slice_index_or rows.new.items i no_row).free
-        ≡ (if i == id then 0 else (slice_index_or rows.old.items i no_row).free) }
+fn forget_at(rows: &mut Segments<KeySet>, id: u64)
+    ensures users { (i : ℕ) → (slice_index_or rows.new i no_row).items ≡ (slice_index_or rows.old i no_row).items }
+    ensures room { (i : ℕ) → (slice_index_or rows.new i no_row).free
+        ≡ (if i == id then 0 else (slice_index_or rows.old i no_row).free) }
 {
     let place = id as usize;
     if place < rows.len() {
-        rows[place].forget();
+        rows.item_mut(place).forget();
     }
 }
 
 /// Makes empty rows up to a place.
-fn extend(rows: &mut Vec<KeySet>, place: usize) -> Result<(), Memory>
-    ensures same { (i : ℕ) → slice_index_or rows.new.items i no_row ≡ slice_index_or rows.old.items i no_row }
-    ensures ok { OnOk result (place < length rows.new.items) }
+fn extend(rows: &mut Segments<KeySet>, place: usize) -> Result<(), Memory>
+    ensures same { (i : ℕ) → slice_index_or rows.new i no_row ≡ slice_index_or rows.old i no_row }
+    ensures ok { OnOk result (place < length rows.new) }
 {
-    let wanted = place.checked_add(1).ok_or(Memory)?;
-    rows.reserve(wanted.saturating_sub(rows.len()))?;
-    while rows.len() < wanted {
+    while rows.len() <= place {
         rows.push(KeySet::none())?;
     }
     Ok(())

@@ -14,6 +14,14 @@ use osm_base::Memory;
 use std::alloc::Global;
 use std::marker::Model;
 
+/// The most room of a cell that takes memory for just what it is promised.
+const SHORT: usize = 4;
+
+/// For how many nodes beyond those that are promised room a cell takes memory, where it takes any.
+fn ahead_of(room: usize) -> usize {
+    if room <= SHORT { 0 } else { room / 2 }
+}
+
 /// The nodes of the cell at a column of a row, in no order, and how many more are promised room.
 /// It isn't a `Roomy`, which has no way to take an item out that leaves the others in their places.
 #[derive(Drop)]
@@ -60,15 +68,19 @@ impl Tile {
         self.ids.as_slice()
     }
 
-    /// Promises room for one more node. Where it takes memory, that is for as many again as there
-    /// are.
+    /// Promises room for one more node. Where it takes memory, a cell with little room takes it for
+    /// no others, and one with more for half as much again, so that many promises one after the other
+    /// cost no more than their nodes, also before any of these is placed.
     pub fn promise(&mut self) -> Result<(), Memory>
         ensures { self.new ≡ record self.old { free = self.old.free + (if is_ok result then 1 else 0) } }
     {
         let Some(free) = self.free.checked_add(1) else {
             return Err(Memory);
         };
-        self.ids.reserve(free)?;
+        if self.ids.capacity() - self.ids.len() < free {
+            self.ids
+                .reserve_exact(free.saturating_add(ahead_of(self.ids.capacity())))?;
+        }
         self.free = free;
         Ok(())
     }

@@ -6,7 +6,7 @@ use super::{alice, tells};
 use crate::labels::labels;
 use osm_base::{Box7, Coord, Items, Key, Kind, Memory, Owner, Stamp, Text};
 use osm_change::{Answer, ElementRow, ElementRows};
-use osm_element::{Content, Member, Tags, Version};
+use osm_element::{BoxedItems, Content, Member, Tags, Version};
 use row_tally::Tally;
 use std::alloc::Global;
 
@@ -164,7 +164,7 @@ const DOCUMENTS: [Document; 6] = [
 /// The content of a way over these nodes.
 fn over(alloc: Global, nodes: &[u64]) -> Result<Option<Content<u64>>, Memory> {
     let nodes = nodes.to_vec(alloc)?;
-    Ok(Some(Content::Way(Items::of(nodes))))
+    Ok(Some(Content::Way(BoxedItems::of(alloc, nodes)?)))
 }
 
 fn member(alloc: Global, key: Key, role: &str) -> Result<Member<u64>, Memory> {
@@ -182,7 +182,7 @@ fn listing(alloc: Global, members: &[(Key, &str)]) -> Result<Option<Content<u64>
     for (key, role) in members {
         listed.push(member(alloc, *key, role)?)?;
     }
-    Ok(Some(Content::Relation(Items::of(listed))))
+    Ok(Some(Content::Relation(BoxedItems::of(alloc, listed)?)))
 }
 
 fn at(lat7: i32, lon7: i32) -> Option<Content<u64>> {
