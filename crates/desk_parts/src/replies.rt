@@ -17,10 +17,12 @@ fn parted(answer: Bytes) -> Reply
     ensures body { result.body ≡ drop 2 answer }
 {
     let mut bytes = answer.into_vec();
-    let high = bytes.remove(0);
-    let low = bytes.remove(0);
+    let status = u16::from(bytes[0]) * 256 + u16::from(bytes[1]);
+    let rest = bytes.len() - 2;
+    bytes.copy_within(2.., 0);
+    bytes.truncate(rest);
     Reply {
-        status: u16::from(high) * 256 + u16::from(low),
+        status,
         body: Bytes::from_vec(bytes),
     }
 }

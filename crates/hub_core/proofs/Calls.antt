@@ -1,14 +1,16 @@
 -- One more entry of a session is one more call.
-use Rattle.std.proofs.Common.{◌≡◌, ◌≢◌, ℕ, ◌+◌, ◌≤◌, ◌==◌, Bool, true, false, cond, length, take, drop, sym, List, [], ◌∷◌, ◌++◌, ap, ◌∙◌, nat_lt, arith}
+use Rattle.std.proofs.Common.{◌≡◌, ◌≢◌, ℕ, ◌+◌, ◌<◌, ◌≤◌, ◌==◌, Bool, true, false, cond, length, take, drop, sym, List, [], ◌∷◌, ◌++◌, ap, ◌∙◌, nat_lt, arith}
 use Rattle.std.specs.Prelude.{count_by}
 use Rattle.std.specs.List.{sum_by}
 use Rattle.std.proofs.lemmas.List.{take-append-drop, take-append-le, length-take-le}
 use Rattle.std.proofs.lemmas.List.Sums.{sum_by-append}
-use Rattle.std.proofs.lemmas.Bool.{eq-eqb, ne_eqb}
+use Rattle.std.proofs.lemmas.Bool.{eq-eqb, ne_eqb, ltb-false}
 use Rattle.machine_law.specs.declared.tags.Tag.{Tag}
 use Rattle.std.proofs.Common.{Option, Some, None, unwrap_or, refl}
 use Rattle.std.specs.BTreeMap.{BTreeMap, get, is_at, Updates}
-use Rattle.std.specs.Ordering.{is_eq, nat_cmp}
+use Rattle.std.specs.Ordering.{is_eq, is_lt, nat_cmp}
+use Rattle.std.specs.Prelude.{IsSome}
+use Rattle.std.proofs.lemmas.Map.Keys.{ge_from_not_lt}
 use Rattle.std.specs.declared.cmp.Ordering.TheVariants.{Less, Equal, Greater}
 use native.Mathlib.Decide.{ℕ_discrete}
 use Rattle.hub_core.specs.Journal.{calls_of, count_of, AreCounted}
@@ -72,3 +74,17 @@ place_more old new session none set other = go (ℕ_discrete other session) wher
   go : Dec (other ≡ session) → count_of new other ≡ count_of old other
   go (yes same) = rw same (ap (λ (o : Option ℕ). unwrap_or o 0) set.1 ∙ sym (ap (λ (o : Option ℕ). unwrap_or o 0) none))
   go (no apart) = ap (λ (o : Option ℕ). unwrap_or o 0) (set.2 other (other_key session other (λ same. apart (sym same))))
+
+-- where the last place below an end is known, and no session from the end on has an entry, none past that place has
+pub none_past : (counts : BTreeMap ℕ ℕ) (last end : ℕ) → ((session : ℕ) → nat_cmp session end ≡ Less → IsSome (get nat_cmp counts session) → is_lt (nat_cmp last session) ≡ false)
+    → ((session : ℕ) → end ≤ session → count_of counts session ≡ 0) → (session : ℕ) → last < session → count_of counts session ≡ 0
+none_past counts last end below from session past = go (nat_lt session end) refl where
+  at : nat_lt session end ≡ true → (o : Option ℕ) → get nat_cmp counts session ≡ o → count_of counts session ≡ 0
+  at lt None is = ap (λ (o : Option ℕ). unwrap_or o 0) is
+  at lt (Some n) is =
+      let less : nat_cmp session end ≡ Less = ap (λ (b : Bool). cond b Less (cond (session == end) Equal Greater)) lt in
+      absurd (omega (arith, ge_from_not_lt last session (below session less (rw is refl)), past))
+
+  go : (b : Bool) → nat_lt session end ≡ b → count_of counts session ≡ 0
+  go true lt = at lt (get nat_cmp counts session) refl
+  go false ge = from session (ltb-false session end ge)

@@ -1,5 +1,5 @@
 -- The journal of a machine: the list of its entries, and the calls that it has of each session.
-use Rattle.std.specs.Prelude.{◌≡◌, ℕ, ◌+◌, ◌==◌, Bool, true, ◌&&◌, List, [], ◌∷◌, ◌++◌, Option, Some, None, count_by, length, unwrap_or}
+use Rattle.std.specs.Prelude.{◌≡◌, ℕ, ◌+◌, ◌<◌, ◌==◌, Bool, true, ◌&&◌, List, [], ◌∷◌, ◌++◌, Option, Some, None, MatchOption, count_by, length, unwrap_or}
 use Rattle.std.specs.BTreeMap.{BTreeMap, get}
 use Rattle.std.specs.Ordering.{nat_cmp}
 use mathlib.Core.List.{IsPrefix}
@@ -9,6 +9,16 @@ use Rattle.machine_law.specs.Rules.{Rules, replay, is_legal}
 -- what the counts have of the session: 0 where it has no place
 abbrev pub count_of : BTreeMap ℕ ℕ → ℕ → ℕ
 count_of counts session = unwrap_or (get nat_cmp counts session) 0
+
+-- what the counts have at their last place, where there is one. No session past it has an entry
+abbrev pub IsLast : BTreeMap ℕ ℕ → Option (ℕ × ℕ) → Type 0
+IsLast counts place = MatchOption place ((session : ℕ) → count_of counts session ≡ 0)
+    (λ place. (count_of counts place.0 ≡ place.1) × ((session : ℕ) → place.0 < session → count_of counts session ≡ 0))
+
+-- the greatest session with an entry, where there is one
+abbrev pub IsGreatest : BTreeMap ℕ ℕ → Option ℕ → Type 0
+IsGreatest counts greatest = MatchOption greatest ((session : ℕ) → count_of counts session ≡ 0)
+    (λ last. (0 < count_of counts last) × ((session : ℕ) → last < session → count_of counts session ≡ 0))
 
 module _ {E : Type 0} (tag_of : E → Tag) where
   -- how many entries the session has

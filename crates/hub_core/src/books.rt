@@ -1,5 +1,5 @@
 //! The journal with its world, and the commit.
-ghost use Rattle.std.specs.Prelude.{◌≡◌, ◌+◌, true, [], ◌∷◌, ◌++◌, length, IfOk, OnOk, OnErr, IfSome, MatchOption, List};
+ghost use Rattle.std.specs.Prelude.{◌≡◌, ◌+◌, ◌<◌, ◌≤◌, ℕ, true, [], ◌∷◌, ◌++◌, length, IfOk, OnOk, OnErr, IfSome, MatchOption, List};
 ghost use mathlib.Core.List.{IsPrefix};
 ghost use Rattle.machine_law.specs.Rules.{replay};
 ghost use Rattle.hub_core.specs.Journal.{calls_of, extended, place_of, IsJournal, IsMadeBefore};
@@ -66,6 +66,18 @@ impl<M: Machine> Book<M> {
         journal.into_journal()
     }
 
+    /// The journal with its counts alone: the world is let go.
+    pub fn into_counted(self) -> CountedJournal<M>
+        ensures { result ≡ self }
+    {
+        let Book {
+            alloc: _,
+            journal,
+            world: _,
+        } = self;
+        journal
+    }
+
     /// The world after the journal.
     pub fn world(&self) -> &M::World
         ensures world { M.state result.now ≡ replay M.rules self.now }
@@ -81,6 +93,15 @@ impl<M: Machine> Book<M> {
         ensures { result ≡ calls_of M.rules.tag_of session self.now }
     {
         self.journal.calls(session)
+    }
+
+    /// One more than the greatest session with an entry, or 0 where there is none: so many seats the
+    /// journal needs. In steps that don't grow with the journal.
+    pub fn sessions(&self) -> u64
+        ensures past { (session : ℕ) → result ≤ session → calls_of M.rules.tag_of session self.now ≡ 0 }
+        ensures least { (session : ℕ) → result ≡ session + 1 → 0 < calls_of M.rules.tag_of session self.now }
+    {
+        self.journal.sessions()
     }
 
     // Puts an entry at the end, and offers it. It returns its place.
@@ -152,7 +173,7 @@ impl<M: Machine> Book<M> {
         ensures fast { IfOk result (λ done. MatchPath done.path (steps.new ≡ steps.old) (λ look. Unit {0})) }
         ensures err { OnErr result ((self.new ≡ self.old) × O.kept outlet.old outlet.new) }
     {
-        let judged = self.journal.judge(&self.world, &plan, moment, tag, steps)?;
+        let judged = self.journal.judge(&self.world, plan, moment, tag, steps)?;
         let Judged { settled, path } = judged;
         let Settled { answer, entry } = settled;
         let place = self.enter(entry, tag, outlet)?;

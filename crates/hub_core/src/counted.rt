@@ -1,10 +1,10 @@
 //! The journal with its counts of calls, and what a plan comes to at its end.
-ghost use Rattle.std.specs.Prelude.{◌≡◌, ◌+◌, ◌<◌, ℕ, true, Some, [], ◌∷◌, ◌++◌, length, IfOk, OnOk, OnErr, IfSome, MatchOption, List, vec_len, vec_capacity};
+ghost use Rattle.std.specs.Prelude.{◌≡◌, ◌+◌, ◌<◌, ◌≤◌, ℕ, true, Some, [], ◌∷◌, ◌++◌, length, IfOk, OnOk, OnErr, IfSome, MatchOption, List, vec_len, vec_capacity};
 ghost use Rattle.std.specs.BTreeMap.{ContainsKey, Updates};
 ghost use Rattle.std.specs.Ordering.{nat_cmp};
 ghost use mathlib.Core.List.{IsPrefix};
 ghost use Rattle.machine_law.specs.Rules.{replay, Later, IsForeseen};
-ghost use Rattle.hub_core.specs.Journal.{calls_of, count_of, extended, place_of, IsJournal, IsMadeBefore};
+ghost use Rattle.hub_core.specs.Journal.{calls_of, count_of, extended, place_of, IsGreatest, IsJournal, IsLast, IsMadeBefore};
 ghost use Rattle.hub_core.specs.Paths.{MatchPath, IsPath};
 
 use crate::dones::{Judged, Path};
@@ -79,26 +79,38 @@ impl<M: Machine> CountedJournal<M> {
         self.calls.get(&session).copied().unwrap_or(0)
     }
 
+    /// One more than the greatest session with an entry, or 0 where there is none: so many seats the
+    /// journal needs. In steps that don't grow with the journal.
+    pub fn sessions(&self) -> u64
+        ensures past { (session : ℕ) → result ≤ session → calls_of M.rules.tag_of session self.now ≡ 0 }
+        ensures least { (session : ℕ) → result ≡ session + 1 → 0 < calls_of M.rules.tag_of session self.now }
+    {
+        match greatest(&self.calls) {
+            Some(session) => u64::from(session) + 1,
+            None => 0,
+        }
+    }
+
     /// What a plan comes to at the end of the journal, as the session's next call at that moment, on
     /// the world after it. Nothing is entered yet.
     pub fn judge<L: Ledger>(
         &self,
         world: &M::World,
-        plan: &M::Plan,
+        plan: M::Plan,
         moment: u64,
         tag: Tag,
         steps: &mut Steps<L>,
     ) -> Result<Judged<M::Entry, M::Look>, Memory>
         requires world { M.state world.now ≡ replay M.rules self.now }
-        requires made { IsMadeBefore M.rules plan.now self.now }
-        ensures acts { (made : List M.Entry) (command : M.Command) → IsPrefix made self.now → M.rules.planned (replay M.rules made) command plan.now
+        requires made { IsMadeBefore M.rules plan self.now }
+        ensures acts { (made : List M.Entry) (command : M.Command) → IsPrefix made self.now → M.rules.planned (replay M.rules made) command plan
             → IfOk result (λ judged. judged.settled ≡ M.rules.act (replay M.rules self.now) tag moment command) }
         ensures fits { IfOk result
             (λ judged. IfSome judged.settled.entry (λ e. (M.rules.takes (replay M.rules self.now) e ≡ true) × (M.rules.tag_of e ≡ tag))) }
-        ensures path { IfOk result (λ judged. IsPath M.rules plan.now (replay M.rules self.now) judged.path) }
+        ensures path { IfOk result (λ judged. IsPath M.rules plan (replay M.rules self.now) judged.path) }
         ensures fast { IfOk result (λ judged. MatchPath judged.path (steps.new ≡ steps.old) (λ look. Unit {0})) }
     {
-        let path = path_of::<M>(world, plan);
+        let path = path_of::<M>(world, &plan);
         let settled = settle_by::<M, L>(self.alloc, world, plan, &path, tag, moment, steps)?;
         Ok(Judged { settled, path })
     }
@@ -190,6 +202,39 @@ fn set_count(calls: &mut BTreeMap<u32, u64>, session: u32, count: u64)
     }
 }
 
+// The greatest session with an entry.
+fn greatest(calls: &BTreeMap<u32, u64>) -> Option<u32>
+    ensures { IsGreatest calls.now result }
+{
+    let mut place = last_place(calls);
+    while let Some((session, count)) = place {
+        if count > 0 {
+            return Some(session);
+        }
+        place = place_before(calls, session);
+    }
+    None
+}
+
+// The last session that has a place, and its count.
+fn last_place(calls: &BTreeMap<u32, u64>) -> Option<(u32, u64)>
+    ensures { IsLast calls.now result }
+{
+    let (session, count) = calls.last_key_value()?;
+    Some((*session, *count))
+}
+
+// The last session before this one that has a place, and its count. No session from this one on
+// has an entry.
+fn place_before(calls: &BTreeMap<u32, u64>, session: u32) -> Option<(u32, u64)>
+    requires { (other : ℕ) → session ≤ other → count_of calls.now other ≡ 0 }
+    ensures last { IsLast calls.now result }
+    ensures before { IfSome result (λ place. place.0 < session) }
+{
+    let (before, count) = calls.range(..session).next_back()?;
+    Some((*before, *count))
+}
+
 // Offers an entry, and returns a copy of it.
 fn offer_copied<M: Machine, O: Outlet<M::Entry>>(
     alloc: Global,
@@ -219,15 +264,15 @@ fn path_of<M: Machine>(world: &M::World, plan: &M::Plan) -> Path<M::Look>
 fn settle_by<M: Machine, L: Ledger>(
     alloc: Global,
     world: &M::World,
-    plan: &M::Plan,
+    plan: M::Plan,
     path: &Path<M::Look>,
     tag: Tag,
     moment: u64,
     steps: &mut Steps<L>,
 ) -> Result<Settled<M::Entry>, Memory>
-    requires foreseen { IsForeseen M.rules plan.now (M.state world.now) }
-    requires path { IsPath M.rules plan.now (M.state world.now) path.now }
-    ensures acts { (begun : M.State) (command : M.Command) → M.rules.planned begun command plan.now → Later M.rules begun (M.state world.now)
+    requires foreseen { IsForeseen M.rules plan (M.state world.now) }
+    requires path { IsPath M.rules plan (M.state world.now) path.now }
+    ensures acts { (begun : M.State) (command : M.Command) → M.rules.planned begun command plan → Later M.rules begun (M.state world.now)
         → IfOk result (λ s. s ≡ M.rules.act (M.state world.now) tag moment command) }
     ensures entry { IfOk result (λ s. IfSome s.entry (λ e. (M.rules.takes (M.state world.now) e ≡ true) × (M.rules.tag_of e ≡ tag))) }
     ensures fast { MatchPath path.now (steps.new ≡ steps.old) (λ look. Unit {0}) }

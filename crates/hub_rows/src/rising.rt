@@ -60,7 +60,7 @@ impl Machine for Rising {
     fn settle<L: Ledger>(
         alloc: Global,
         world: &Vec<u64>,
-        plan: &(u64, Option<u64>),
+        plan: (u64, Option<u64>),
         tag: Tag,
         _moment: u64,
         _steps: &mut Steps<L>,
@@ -71,7 +71,7 @@ impl Machine for Rising {
     fn again<L: Ledger>(
         alloc: Global,
         world: &Vec<u64>,
-        plan: &(u64, Option<u64>),
+        plan: (u64, Option<u64>),
         tag: Tag,
         _moment: u64,
         _steps: &mut Steps<L>,

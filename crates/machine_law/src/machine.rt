@@ -62,18 +62,19 @@ pub trait Machine {
         ensures { MatchResult result (λ _. rules.stands plan.now (state world.now))
             (λ look. ¬ rules.stands plan.now (state world.now) × rules.differs look plan.now (state world.now)) };
 
-    /// What the command of a plan that stands comes to on this world, without a step.
+    /// What the command of a plan that stands comes to on this world, without a step. The plan is given
+    /// up, so that the entry can have the command itself.
     fn settle<L: Ledger>(
         alloc: Global,
         world: &Self::World,
-        plan: &Self::Plan,
+        plan: Self::Plan,
         tag: Tag,
         moment: u64,
         steps: &mut Steps<L>,
     ) -> Result<Settled<Self::Entry>, Memory>
-        requires stands { rules.stands plan.now (state world.now) }
-        requires foreseen { IsForeseen rules plan.now (state world.now) }
-        ensures acts { (begun : Self.State) (command : Self.Command) → rules.planned begun command plan.now → Later rules begun (state world.now)
+        requires stands { rules.stands plan (state world.now) }
+        requires foreseen { IsForeseen rules plan (state world.now) }
+        ensures acts { (begun : Self.State) (command : Self.Command) → rules.planned begun command plan → Later rules begun (state world.now)
             → IfOk result (λ s. s ≡ rules.act (state world.now) tag moment command) }
         ensures steps { steps.new ≡ steps.old };
 
@@ -81,13 +82,13 @@ pub trait Machine {
     fn again<L: Ledger>(
         alloc: Global,
         world: &Self::World,
-        plan: &Self::Plan,
+        plan: Self::Plan,
         tag: Tag,
         moment: u64,
         steps: &mut Steps<L>,
     ) -> Result<Settled<Self::Entry>, Memory>
-        requires { IsForeseen rules plan.now (state world.now) }
-        ensures { (begun : Self.State) (command : Self.Command) → rules.planned begun command plan.now → Later rules begun (state world.now)
+        requires { IsForeseen rules plan (state world.now) }
+        ensures { (begun : Self.State) (command : Self.Command) → rules.planned begun command plan → Later rules begun (state world.now)
             → IfOk result (λ s. s ≡ rules.act (state world.now) tag moment command) };
 
     /// A second entry that is equal to this one.

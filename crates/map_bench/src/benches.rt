@@ -35,9 +35,9 @@ pub struct Bench {
     user: User,
     book: Book<MapMachine>,
     load: Load,
-    /// The change of the last body, and its last plan.
+    /// The change of the last body, and the plans that are kept.
     change: Option<Change>,
-    plan: Option<Plan>,
+    plans: Vec<Plan>,
     /// The open changeset, 0 where there is none yet, and how many operations it still takes.
     changeset: u64,
     left: u64,
@@ -59,7 +59,7 @@ impl Bench {
             book: Book::<MapMachine>::new(alloc),
             load,
             change: None,
-            plan: None,
+            plans: Vec::new(alloc),
             changeset: 0,
             left: 0,
         })
@@ -172,28 +172,26 @@ impl Bench {
     /// Plans the change of the last body and settles it, and gives how many operations it has.
     fn judge<L: Ledger>(&self, steps: &mut Steps<L>) -> Option<usize> {
         let plan = self.planned(steps)?;
-        self.settled(&plan)
-    }
-
-    fn settled(&self, plan: &Plan) -> Option<usize> {
-        settled_on(self.alloc, self.world(), plan)
+        settled_on(self.world(), plan)
     }
 
     /// Plans the change of the last body, keeps the plan, and gives how many operations it has.
     fn keep_plan<L: Ledger>(&mut self, steps: &mut Steps<L>) -> Option<usize> {
         let plan = self.planned(steps)?;
         let operations = plan.cmd().change.len() as usize;
-        self.plan = Some(plan);
+        self.plans.push(plan).ok()?;
         Some(operations)
     }
 
     fn stands(&self) -> Option<usize> {
-        let plan = self.plan.as_ref()?;
+        let plan = self.plans.last()?;
         Some(usize::from(still(self.world(), plan).is_ok()))
     }
 
-    fn settle_kept(&self) -> Option<usize> {
-        self.settled(self.plan.as_ref()?)
+    /// Settles the last plan that is kept, which is given up.
+    fn settle_kept(&mut self) -> Option<usize> {
+        let plan = self.plans.pop()?;
+        settled_on(self.world(), plan)
     }
 
     /// Applies all entries to a second map, and gives how many they are.
@@ -275,12 +273,9 @@ fn bytes_of(done: &Done<Look>) -> Option<usize> {
 }
 
 /// What a plan settles to on a world, if it stands: how many operations it has.
-fn settled_on(alloc: Global, world: &World, plan: &Plan) -> Option<usize> {
-    match still(world, plan) {
-        Ok(()) => match settle(alloc, world, plan, MOMENT) {
-            Ok(outcome) => accepted(&outcome),
-            Err(Memory) => None,
-        },
+fn settled_on(world: &World, plan: Plan) -> Option<usize> {
+    match still(world, &plan) {
+        Ok(()) => accepted(&settle(world, plan, MOMENT).outcome),
         Err(_) => None,
     }
 }

@@ -18,9 +18,9 @@ pub enum Work {
     Judge,
     /// Plans it, and keeps the plan.
     Plan,
-    /// Looks whether that plan stands.
+    /// Looks whether the last plan that is kept stands.
     Still,
-    /// Looks whether it stands, and settles it.
+    /// Looks whether it stands, and settles it. It is kept no more.
     Settle,
     /// Copies it.
     Copy,

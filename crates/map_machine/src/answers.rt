@@ -1,14 +1,14 @@
 //! An answer as bytes: the two of its status, high byte first, and then its body.
 //!
-//! The status is put before the body by moving it, so the body is never held twice; who tells the
-//! answer takes the two off in place.
-ghost use Rattle.std.specs.Prelude.{◌≡◌, ◌/◌, ◌%◌, ◌∷◌, IfOk};
+//! The body is written behind the two, so it is never moved; who tells the answer takes them off in
+//! place.
+ghost use Rattle.std.specs.Prelude.{◌≡◌, ◌/◌, ◌%◌, ◌∷◌, [], IfOk};
 ghost use Rattle.osm_change.specs.Moments.{HasShownMoments};
 ghost use Rattle.map_machine.specs.Machine.{bytes_of};
 
 use osm_base::{Bytes, Memory};
 use osm_change::Answer;
-use osm_json::{answer_body, answer_status};
+use osm_json::{answer_behind, answer_status};
 use std::alloc::Global;
 
 /// The bytes of an answer.
@@ -16,16 +16,15 @@ pub(crate) fn bytes_of(alloc: Global, answer: &Answer<'_>) -> Result<Bytes, Memo
     requires { HasShownMoments answer.now }
     ensures { IfOk result (λ bytes. bytes ≡ bytes_of answer.now) }
 {
-    let body = answer_body(alloc, answer)?;
-    with_status(answer_status(answer), body)
+    answer_behind(status_bytes(alloc, answer_status(answer))?, answer)
 }
 
-fn with_status(status: u16, body: Bytes) -> Result<Bytes, Memory>
-    ensures { IfOk result (λ bytes. bytes ≡ (status / 256) ∷ (status % 256) ∷ body) }
+/// The two bytes of a status.
+fn status_bytes(alloc: Global, status: u16) -> Result<Vec<u8>, Memory>
+    ensures { IfOk result (λ bytes. bytes.items ≡ (status / 256) ∷ (status % 256) ∷ []) }
 {
-    let mut bytes = body.into_vec();
-    bytes.reserve(2)?;
-    bytes.insert(0, (status % 256) as u8)?;
-    bytes.insert(0, (status / 256) as u8)?;
-    Ok(Bytes::from_vec(bytes))
+    let mut bytes = Vec::new(alloc);
+    bytes.push((status / 256) as u8)?;
+    bytes.push((status % 256) as u8)?;
+    Ok(bytes)
 }

@@ -48,6 +48,15 @@ impl BookKeeper {
         book_law(&self.book);
         &self.book
     }
+
+    /// The book of what is kept, which is legal.
+    pub fn into_book(self) -> Book<MapMachine>
+        ensures book { result ≡ self }
+        ensures legal { IsLegal self }
+    {
+        book_law(&self.book);
+        self.book
+    }
 }
 
 impl Keeper for BookKeeper {

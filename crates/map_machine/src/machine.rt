@@ -19,7 +19,7 @@ ghost use Rattle.map_machine.specs.declared.plans.Asked.{Asked};
 use crate::acceptance::takes;
 use crate::answers::bytes_of;
 use crate::judging::judge_on;
-use crate::planning::{command_still, plan_command, upload_answer, upload_entry};
+use crate::planning::{accepted_answer, command_still, plan_command, upload_entry};
 use crate::plans::{Asked, MapPlan};
 use crate::world_asks::world_ask;
 use machine_law::{Machine, Settled, Tag};
@@ -30,7 +30,7 @@ use osm_model::{Entry, Fault, Query, State};
 use osm_world::World;
 use std::alloc::Global;
 use std::sync::ledger::Ledger;
-use upload_check::{Look, Plan, plan_again};
+use upload_check::{Look, Outcome, Plan, SettledUpload, UploadCmd, plan_again, settle};
 
 /// The map with its indexes, and the allocator, since entries are applied without one.
 #[derive(Drop)]
@@ -102,7 +102,7 @@ impl Machine for MapMachine {
     fn settle<L: Ledger>(
         alloc: Global,
         world: &MapWorld,
-        plan: &MapPlan,
+        plan: MapPlan,
         tag: Tag,
         moment: u64,
         _steps: &mut Steps<L>,
@@ -113,7 +113,7 @@ impl Machine for MapMachine {
     fn again<L: Ledger>(
         alloc: Global,
         world: &MapWorld,
-        plan: &MapPlan,
+        plan: MapPlan,
         tag: Tag,
         moment: u64,
         steps: &mut Steps<L>,
@@ -163,59 +163,56 @@ fn bytes_from(alloc: Global, answer: Answer<'_>) -> Result<Bytes, Memory>
     bytes_of(alloc, &answer)
 }
 
-/// The entry of a user's command, as that call, at a stamp.
-fn entry_by(alloc: Global, asked: &Asked, tag: Tag, at: Stamp) -> Result<Entry, Memory>
-    ensures { IfOk result (λ entry. entry
-        ≡ record { session = tag.session; call = tag.call; user = asked.now.user; stamp = at; command = asked.now.command }) }
+/// The entry of a user's command, as that call, at a stamp. It has the command itself.
+fn entry_by(asked: Asked, tag: Tag, at: Stamp) -> Entry
+    ensures { result
+        ≡ record { session = tag.session; call = tag.call; user = asked.user; stamp = at; command = asked.command } }
 {
-    let user = asked.user.copy(alloc)?;
-    let command = asked.command.copy(alloc)?;
-    Ok(Entry {
+    let Asked { user, command } = asked;
+    Entry {
         session: tag.session,
         call: tag.call,
         user,
         stamp: at,
         command,
-    })
+    }
 }
 
 /// What a user's command comes to that is answered so, as that call, at a stamp.
 fn accepted(
     alloc: Global,
-    asked: &Asked,
+    asked: Asked,
     tag: Tag,
     at: Stamp,
     answer: Answer<'_>,
 ) -> Result<Settled<Entry>, Memory>
     requires { HasShownMoments answer }
     ensures { IfOk result (λ s. s
-        ≡ record { answer = bytes_of answer.entry; entry = Some (record { session = tag.session; call = tag.call; user = asked.now.user; stamp = at; command = asked.now.command }) }) }
+        ≡ record { answer = bytes_of answer.entry; entry = Some (record { session = tag.session; call = tag.call; user = asked.user; stamp = at; command = asked.command }) }) }
 {
     let answer = bytes_from(alloc, answer)?;
-    let entry = entry_by(alloc, asked, tag, at)?;
     Ok(Settled {
         answer,
-        entry: Some(entry),
+        entry: Some(entry_by(asked, tag, at)),
     })
 }
 
-/// What the upload of a plan comes to that is answered so, as that call, at a stamp.
+/// What an upload comes to that is answered so, as that call, at a stamp.
 fn accepted_upload(
     alloc: Global,
-    plan: &Plan,
+    cmd: UploadCmd,
     tag: Tag,
     at: Stamp,
     answer: Answer<'_>,
 ) -> Result<Settled<Entry>, Memory>
     requires { HasShownMoments answer }
     ensures { IfOk result (λ s. s
-        ≡ record { answer = bytes_of answer.entry; entry = Some (record { session = tag.session; call = tag.call; user = plan.now.asked.user; stamp = at; command = command_of plan.now.asked }) }) }
+        ≡ record { answer = bytes_of answer.entry; entry = Some (record { session = tag.session; call = tag.call; user = cmd.user; stamp = at; command = command_of cmd }) }) }
 {
     let answer = bytes_from(alloc, answer)?;
-    let entry = upload_entry(alloc, plan, tag, at)?;
     Ok(Settled {
         answer,
-        entry: Some(entry),
+        entry: Some(upload_entry(cmd, tag, at)),
     })
 }
 
@@ -235,12 +232,12 @@ fn refused(alloc: Global, refusal: Refusal) -> Result<Settled<Entry>, Memory>
 fn settle_on(
     alloc: Global,
     world: &World,
-    asked: &Asked,
+    asked: Asked,
     tag: Tag,
     moment: u64,
 ) -> Result<Settled<Entry>, Memory>
-    requires { IsOther asked.now.command }
-    ensures { IfOk result (λ s. s ≡ act_as (state_of world.now) tag moment asked.now) }
+    requires { IsOther asked.command }
+    ensures { IfOk result (λ s. s ≡ act_as (state_of world.now) tag moment asked) }
 {
     let at = Stamp::after(world.last_stamp(), moment);
     match judge_on(alloc, world, &asked.user, at, &asked.command) {
@@ -254,13 +251,13 @@ fn settle_on(
 fn settle_plan(
     alloc: Global,
     world: &World,
-    plan: &MapPlan,
+    plan: MapPlan,
     tag: Tag,
     moment: u64,
 ) -> Result<Settled<Entry>, Memory>
-    requires stands { StandsAs plan.now (state_of world.now) }
-    requires foreseen { IsForeseenAs plan.now (state_of world.now) }
-    ensures { (begun : State) (asked : Asked) → IsPlannedAs begun asked plan.now → Later begun (state_of world.now)
+    requires stands { StandsAs plan (state_of world.now) }
+    requires foreseen { IsForeseenAs plan (state_of world.now) }
+    ensures { (begun : State) (asked : Asked) → IsPlannedAs begun asked plan → Later begun (state_of world.now)
         → IfOk result (λ s. s ≡ act_as (state_of world.now) tag moment asked) }
 {
     match plan {
@@ -273,20 +270,23 @@ fn settle_plan(
 fn settle_upload(
     alloc: Global,
     world: &World,
-    plan: &Plan,
+    plan: Plan,
     tag: Tag,
     moment: u64,
 ) -> Result<Settled<Entry>, Memory>
-    requires stands { StandsOn (plan_of plan.now) (state_of world.now).elements }
-    requires foreseen { IsForeseen plan.now (state_of world.now) }
-    ensures { (begun : State) (asked : Asked) → IsUploadPlan begun asked.user asked.command plan.now → Later begun (state_of world.now)
+    requires stands { StandsOn (plan_of plan) (state_of world.now).elements }
+    requires foreseen { IsForeseen plan (state_of world.now) }
+    ensures { (begun : State) (asked : Asked) → IsUploadPlan begun asked.user asked.command plan → Later begun (state_of world.now)
         → IfOk result (λ s. s ≡ act_as (state_of world.now) tag moment asked) }
 {
     let at = Stamp::after(world.last_stamp(), moment);
-    match upload_answer(alloc, world, plan, moment) {
-        Ok(answer) => accepted_upload(alloc, plan, tag, at, answer),
-        Err(Fault::Refused(cause)) => refused(alloc, cause),
-        Err(Fault::Memory) => Err(Memory),
+    let SettledUpload { cmd, outcome } = settle(world, plan, moment);
+    match outcome {
+        Outcome::Accepted { first, rows } => {
+            let answer = accepted_answer(alloc, &cmd, first, &rows)?;
+            accepted_upload(alloc, cmd, tag, at, answer)
+        }
+        Outcome::Refused(refusal) => refused(alloc, refusal),
     }
 }
 
@@ -294,13 +294,13 @@ fn settle_upload(
 fn settle_again<L: Ledger>(
     alloc: Global,
     world: &World,
-    plan: &MapPlan,
+    plan: MapPlan,
     tag: Tag,
     moment: u64,
     steps: &mut Steps<L>,
 ) -> Result<Settled<Entry>, Memory>
-    requires { IsForeseenAs plan.now (state_of world.now) }
-    ensures { (begun : State) (asked : Asked) → IsPlannedAs begun asked plan.now → IfOk result
+    requires { IsForeseenAs plan (state_of world.now) }
+    ensures { (begun : State) (asked : Asked) → IsPlannedAs begun asked plan → IfOk result
         (λ s. s ≡ act_as (state_of world.now) tag moment asked) }
 {
     match plan {
@@ -312,15 +312,15 @@ fn settle_again<L: Ledger>(
 fn upload_again<L: Ledger>(
     alloc: Global,
     world: &World,
-    plan: &Plan,
+    plan: Plan,
     tag: Tag,
     moment: u64,
     steps: &mut Steps<L>,
 ) -> Result<Settled<Entry>, Memory>
-    ensures { (begun : State) (asked : Asked) → IsUploadPlan begun asked.user asked.command plan.now → IfOk result
+    ensures { (begun : State) (asked : Asked) → IsUploadPlan begun asked.user asked.command plan → IfOk result
         (λ s. s ≡ act_as (state_of world.now) tag moment asked) }
 {
     maps_follow_themselves();
     let plan = plan_again(alloc, world, plan, steps)?;
-    settle_upload(alloc, world, &plan, tag, moment)
+    settle_upload(alloc, world, plan, tag, moment)
 }

@@ -1,29 +1,23 @@
 //! What is planned of a user's command, where the plan stands, and what it comes to.
 ghost use Rattle.std.specs.Prelude.{◌≡◌, ◌<◌, ◌+◌, [], true, length, IfOk, MatchResult};
-ghost use Rattle.osm_base.specs.Stamp.{stamp_after};
 ghost use Rattle.osm_change.specs.Keys.{key_of, keys_of};
 ghost use Rattle.diff_result.specs.Counted.{HasNumbers};
-ghost use Rattle.osm_later.specs.Plan.{StandsOn};
-ghost use Rattle.osm_model.specs.Act.{judge, number_of, single_number};
-ghost use Rattle.osm_model.specs.Journal.{Later};
-ghost use Rattle.osm_model.specs.declared.states.State.{State};
+ghost use Rattle.osm_model.specs.Act.{number_of, single_number};
 ghost use Rattle.osm_world.specs.World.{state_of};
-ghost use Rattle.upload_check.specs.Commands.{IsUploadPlan, IsForeseen, command_of, told_upload};
+ghost use Rattle.upload_check.specs.Commands.{command_of, told_upload};
 ghost use Rattle.upload_check.specs.Asked.{IsAsked};
-ghost use Rattle.upload_check.specs.Planned.{IsPlanOf, plan_of};
-ghost use Rattle.map_machine.specs.Judging.{Judges, IsShown};
+ghost use Rattle.upload_check.specs.Planned.{IsPlanOf};
 ghost use Rattle.map_machine.specs.Machine.{IsPlannedAs, StandsAs, DiffersAs};
-ghost use Rattle.map_machine.specs.declared.plans.Asked.{Asked};
 
 use crate::plans::{Asked, MapPlan};
 use machine_law::Tag;
-use osm_base::{Memory, Stamp, Steps, TryCopy};
+use osm_base::{Memory, Stamp, Steps};
 use osm_change::{Answer, Change, FirstIds, OneOp, Op, OpDone, OpDones, kind_of};
-use osm_model::{Command, Entry, Fault};
+use osm_model::{Command, Entry};
 use osm_world::World;
 use std::alloc::Global;
 use std::sync::ledger::Ledger;
-use upload_check::{Look, Outcome, Plan, UploadCmd, plan_upload, settle, still};
+use upload_check::{Look, UploadCmd, plan_upload, still};
 
 fn upload_plan<L: Ledger>(
     alloc: Global,
@@ -106,7 +100,7 @@ fn single_number(change: &Change, first: FirstIds, done: &[OpDone]) -> u64
 }
 
 /// The answer to an upload or a single change that is accepted.
-fn accepted_answer(
+pub fn accepted_answer(
     alloc: Global,
     cmd: &UploadCmd,
     first: FirstIds,
@@ -124,40 +118,24 @@ fn accepted_answer(
     Ok(Answer::Diff(rows))
 }
 
-/// What the upload of a plan that stands is answered at a moment, or why it is refused.
-pub fn upload_answer(
-    alloc: Global,
-    world: &World,
-    plan: &Plan,
-    moment: u64,
-) -> Result<Answer<'static>, Fault>
-    requires stands { StandsOn (plan_of plan.now) (state_of world.now).elements }
-    requires foreseen { IsForeseen plan.now (state_of world.now) }
-    ensures judged { (begun : State) (asked : Asked) → IsUploadPlan begun asked.user asked.command plan.now → Later begun (state_of world.now)
-        → Judges (judge (state_of world.now) asked.user (stamp_after (state_of world.now).last moment) asked.command) result }
-    ensures shown { IsShown result }
+/// The entry of an upload, as that call, at a stamp. It has the upload itself.
+pub fn upload_entry(cmd: UploadCmd, tag: Tag, at: Stamp) -> Entry
+    ensures { result
+        ≡ record { session = tag.session; call = tag.call; user = cmd.user; stamp = at; command = command_of cmd } }
 {
-    match settle(alloc, world, plan, moment)? {
-        Outcome::Accepted { first, rows } => Ok(accepted_answer(alloc, plan.cmd(), first, &rows)?),
-        Outcome::Refused(refusal) => Err(Fault::Refused(refusal)),
-    }
-}
-
-/// The entry of a plan's upload, as that call, at a stamp. Of the plan this is the one copy.
-pub fn upload_entry(alloc: Global, plan: &Plan, tag: Tag, at: Stamp) -> Result<Entry, Memory>
-    ensures { IfOk result (λ entry. entry
-        ≡ record { session = tag.session; call = tag.call; user = plan.now.asked.user; stamp = at; command = command_of plan.now.asked }) }
-{
-    let cmd = plan.cmd();
-    let user = cmd.user.copy(alloc)?;
-    let change = cmd.change.copy(alloc)?;
-    Ok(Entry {
+    let UploadCmd {
+        user,
+        changeset,
+        change,
+        single,
+    } = cmd;
+    Entry {
         session: tag.session,
         call: tag.call,
         user,
         stamp: at,
-        command: command_from(cmd.changeset, change, cmd.single),
-    })
+        command: command_from(changeset, change, single),
+    }
 }
 
 ghost use Rattle.std.specs.Prelude.{if◌then◌else◌};

@@ -136,7 +136,7 @@ impl TryCopy for NoteEntry {
 }
 
 /// A second caller that is equal to this one.
-pub(crate) fn copy_caller(alloc: Global, caller: &Option<Owner>) -> Result<Option<Owner>, Memory>
+fn copy_caller(alloc: Global, caller: &Option<Owner>) -> Result<Option<Owner>, Memory>
     ensures { IfOk result (λ copy. copy ≡ caller.now) }
 {
     match caller {

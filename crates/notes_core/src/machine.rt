@@ -9,9 +9,7 @@ ghost use Rattle.notes_core.specs.Shown.{effect_bytes, one_bytes, found_bytes, r
 ghost use Rattle.notes_core.specs.World.{state_of, IsTimelyMoment};
 
 use crate::answers::{entry_answer, kept_answer, list_answer, refusal_answer};
-use crate::commands::{
-    NoteAsked, NoteEntry, NoteLook, NotePlan, NoteQuery, NoteSubject, copy_caller,
-};
+use crate::commands::{NoteAsked, NoteEntry, NoteLook, NotePlan, NoteQuery, NoteSubject};
 use crate::limits::NOTES_AREA_LIMIT;
 use crate::notes::{NoteRefusal, Notes};
 use crate::search::newest_within;
@@ -70,23 +68,23 @@ impl Machine for NotesMachine {
     fn settle<L: Ledger>(
         alloc: Global,
         world: &NotesWorld,
-        plan: &NotePlan,
+        plan: NotePlan,
         tag: Tag,
         moment: u64,
         _steps: &mut Steps<L>,
     ) -> Result<Settled<NoteEntry>, Memory> {
-        settle_on(alloc, world, &plan.asked, tag, moment)
+        settle_on(alloc, world, plan.asked, tag, moment)
     }
 
     fn again<L: Ledger>(
         alloc: Global,
         world: &NotesWorld,
-        plan: &NotePlan,
+        plan: NotePlan,
         tag: Tag,
         moment: u64,
         _steps: &mut Steps<L>,
     ) -> Result<Settled<NoteEntry>, Memory> {
-        settle_on(alloc, world, &plan.asked, tag, moment)
+        settle_on(alloc, world, plan.asked, tag, moment)
     }
 
     fn copy(alloc: Global, entry: &NoteEntry) -> Result<NoteEntry, Memory> {
@@ -161,11 +159,11 @@ fn count_still(world: &NotesWorld, id: u64, planned: u64) -> Result<(), NoteLook
 fn settle_on(
     alloc: Global,
     world: &NotesWorld,
-    asked: &NoteAsked,
+    asked: NoteAsked,
     tag: Tag,
     moment: u64,
 ) -> Result<Settled<NoteEntry>, Memory>
-    ensures { IfOk result (λ s. s ≡ act_as (state_of world.now) tag moment asked.now) }
+    ensures { IfOk result (λ s. s ≡ act_as (state_of world.now) tag moment asked) }
 {
     let at = Stamp::after(world.last_stamp(), moment);
     match world.judge(&asked.command) {
@@ -178,18 +176,18 @@ fn settle_on(
 fn accepted(
     alloc: Global,
     world: &NotesWorld,
-    asked: &NoteAsked,
+    asked: NoteAsked,
     tag: Tag,
     at: Stamp,
 ) -> Result<Settled<NoteEntry>, Memory>
-    requires accepted { IsOk (judge (state_of world.now) asked.now.caller at asked.now.command) }
+    requires accepted { IsOk (judge (state_of world.now) asked.caller at asked.command) }
     requires timely { IsTimelyMoment at }
     ensures { IfOk result (λ s. s ≡ record {
-      answer = effect_bytes (judge (state_of world.now) asked.now.caller at asked.now.command);
-      entry = Some (record { session = tag.session; call = tag.call; caller = asked.now.caller; stamp = at; command = asked.now.command });
+      answer = effect_bytes (judge (state_of world.now) asked.caller at asked.command);
+      entry = Some (record { session = tag.session; call = tag.call; caller = asked.caller; stamp = at; command = asked.command });
     }) }
 {
-    let entry = entry_by(alloc, asked, tag, at)?;
+    let entry = entry_by(asked, tag, at);
     let answer = entry_answer(alloc, world, &entry)?;
     Ok(Settled {
         answer,
@@ -198,19 +196,18 @@ fn accepted(
 }
 
 /// The entry of a caller's command, as that call, at a stamp.
-fn entry_by(alloc: Global, asked: &NoteAsked, tag: Tag, at: Stamp) -> Result<NoteEntry, Memory>
-    ensures { IfOk result (λ entry. entry
-        ≡ record { session = tag.session; call = tag.call; caller = asked.now.caller; stamp = at; command = asked.now.command }) }
+fn entry_by(asked: NoteAsked, tag: Tag, at: Stamp) -> NoteEntry
+    ensures { result
+        ≡ record { session = tag.session; call = tag.call; caller = asked.caller; stamp = at; command = asked.command } }
 {
-    let caller = copy_caller(alloc, &asked.caller)?;
-    let command = asked.command.copy(alloc)?;
-    Ok(NoteEntry {
+    let NoteAsked { caller, command } = asked;
+    NoteEntry {
         session: tag.session,
         call: tag.call,
         caller,
         stamp: at,
         command,
-    })
+    }
 }
 
 /// What a command that is refused comes to: no entry.

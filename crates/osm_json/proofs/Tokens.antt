@@ -115,3 +115,8 @@ document_sent name part begin key value version end = record_sent begin (member_
 pub text_written : (before w : Written) (d : Data) → before.before ≡ [] → before.tokens ≡ [] → Appends before w (tokens_of d) → w.before ++ print w.tokens ≡ compact_text d
 unfolding tokens_of
 text_written before w d none empty p = rw (p.before, none, p.tokens, empty) (print-outline d)
+
+-- the same behind bytes that are there already
+pub text_behind : (before w : Written) (d : Data) → before.tokens ≡ [] → Appends before w (tokens_of d) → w.before ++ print w.tokens ≡ before.before ++ compact_text d
+unfolding tokens_of
+text_behind before w d empty p = rw (p.before, p.tokens, empty) (ap (λ text. before.before ++ text) (print-outline d))

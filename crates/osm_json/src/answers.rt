@@ -1,5 +1,5 @@
 //! The body of an answer.
-ghost use Rattle.std.specs.Prelude.{◌≡◌, IfOk};
+ghost use Rattle.std.specs.Prelude.{◌≡◌, ◌++◌, IfOk};
 ghost use Rattle.osm_change.specs.Moments.{HasShownMoments};
 ghost use Rattle.osm_json.specs.Answered.{answer as answer_data, body_of};
 ghost use Rattle.osm_json.specs.Sent.{Sends, tokens_of};
@@ -54,13 +54,23 @@ fn room_of(count: usize, each: usize) -> usize {
     count.saturating_mul(each).saturating_add(LEAST_ROOM)
 }
 
+/// The body of an answer, behind the bytes that are there already and aren't moved.
+pub fn answer_behind(front: Vec<u8>, answer: &Answer<'_>) -> Result<Bytes, Memory>
+    requires { HasShownMoments answer.now }
+    ensures { IfOk result (λ bytes. bytes ≡ front.items ++ body_of answer.now) }
+{
+    let mut front = front;
+    front.reserve(room_for(answer))?;
+    let mut out = Writer::new(front);
+    write_answer(&mut out, answer)?;
+    Ok(Bytes::from_vec(out.into_inner()))
+}
+
 /// The body of an answer: compact JSON, the members in the byte order of their names, positions
 /// and boxes in units of 1e-7 degrees (OpenStreetMap wiki, "API v0.6").
 pub fn answer_body(alloc: Global, answer: &Answer<'_>) -> Result<Bytes, Memory>
     requires { HasShownMoments answer.now }
     ensures { IfOk result (λ body. body ≡ body_of answer.now) }
 {
-    let mut out = Writer::new(Vec::with_capacity(alloc, room_for(answer))?);
-    write_answer(&mut out, answer)?;
-    Ok(Bytes::from_vec(out.into_inner()))
+    answer_behind(Vec::new(alloc), answer)
 }

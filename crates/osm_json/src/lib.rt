@@ -30,7 +30,7 @@ mod title;
 mod uploads;
 
 pub use again::{next_change, next_flag, next_kind, next_natural, next_tags, next_text};
-pub use answers::answer_body;
+pub use answers::{answer_behind, answer_body};
 pub use change::read_change;
 pub use fault::BodyFault;
 pub use law::{parts_are_read_again, texts_are_read_again, values_are_read_again};

@@ -107,7 +107,7 @@ impl Machine for Listing {
     fn settle<L: Ledger>(
         alloc: Global,
         _world: &Numbers,
-        plan: &Aim,
+        plan: Aim,
         tag: Tag,
         _moment: u64,
         _steps: &mut Steps<L>,
@@ -118,7 +118,7 @@ impl Machine for Listing {
     fn again<L: Ledger>(
         alloc: Global,
         _world: &Numbers,
-        plan: &Aim,
+        plan: Aim,
         tag: Tag,
         _moment: u64,
         _steps: &mut Steps<L>,

@@ -11,8 +11,6 @@ use Rattle.osm_model.specs.Fold.{start, task, upload}
 use Rattle.osm_model.specs.Operation.{operate}
 use Rattle.osm_model.specs.Upload.{Upload}
 use Rattle.osm_model.specs.declared.states.State.{State}
-use Rattle.osm_model.specs.declared.faults.Fault.{Fault}
-use Rattle.osm_model.specs.declared.faults.Fault.TheVariants as fault
 use Rattle.osm_model.specs.declared.uploads.Progress.{Progress}
 use Rattle.diff_result.specs.Counted.{HasNumbers}
 use Rattle.osm_world.specs.Beds.{first_ids}
@@ -60,10 +58,3 @@ judged_from u (Ok g) (o ∷ ops) = 1 + judged_from u (operate u g o) ops
 -- and of a change to whatever changeset
 abbrev pub judged_count : Elements → List Op → ℕ
 judged_count E ops = judged_from (task E 0 0 ops) (Ok (start E)) ops
-
--- -- for private clauses
-
-abbrev pub OnRefused : {A : Type 0} → Result A Fault → (Refusal → Type 0) → Type 0
-OnRefused (Ok p) Q = Unit {0}
-OnRefused (Err fault.Memory) Q = Unit {0}
-OnRefused (Err (fault.Refused r)) Q = Q r

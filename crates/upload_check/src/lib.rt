@@ -9,7 +9,6 @@
 mod acceptance;
 mod boxes;
 mod checks;
-mod copies;
 mod counts;
 mod judged;
 mod kind_standings;
@@ -35,5 +34,5 @@ pub use osm_later::Look;
 pub use overlays::Overlay;
 pub use planning::{plan_again, plan_upload};
 pub use plans::{Plan, UploadCmd};
-pub use settles::{Outcome, settle};
+pub use settles::{Outcome, SettledUpload, settle};
 pub use stills::still;

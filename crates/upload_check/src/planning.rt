@@ -18,7 +18,7 @@ use crate::looks::{count_looks, users_looks};
 use crate::overlays::Overlay;
 use crate::plans::{Found, Plan, UploadCmd};
 use crate::witnesses::{Looks, Witness};
-use osm_base::{Box7, Items, Memory, Steps, TryCopy};
+use osm_base::{Box7, Items, Memory, Steps};
 use osm_change::{Change, OpDone, Refusal};
 use osm_later::{changes_can_be_planned, stills_say_where_they_differ};
 use osm_world::World;
@@ -126,17 +126,22 @@ pub fn plan_upload<L: Ledger>(
     })
 }
 
-/// A plan of the same upload on another world.
+/// A plan of the same upload on another world, which has the upload of the first.
 pub fn plan_again<L: Ledger>(
     alloc: Global,
     world: &World,
-    plan: &Plan,
+    plan: Plan,
     steps: &mut Steps<L>,
 ) -> Result<Plan, Memory>
-    ensures planned { IfOk result (λ again. IsPlanOf (state_of world.now).elements plan.now.asked again) }
-    ensures steps { OnOk result (steps.new ≡ steps.old + judged_count (state_of world.now).elements plan.now.asked.change) }
-    ensures bound { steps.new ≤ steps.old + length plan.now.asked.change }
+    ensures planned { IfOk result (λ again. IsPlanOf (state_of world.now).elements plan.asked again) }
+    ensures steps { OnOk result (steps.new ≡ steps.old + judged_count (state_of world.now).elements plan.asked.change) }
+    ensures bound { steps.new ≤ steps.old + length plan.asked.change }
 {
-    let cmd = plan.cmd.copy(alloc)?;
+    let Plan {
+        cmd,
+        counts: _,
+        users: _,
+        found: _,
+    } = plan;
     plan_upload(alloc, world, cmd, steps)
 }

@@ -1,12 +1,11 @@
 //! Uploads as they are asked for, and their plans.
 //!
-//! A plan owns what is asked for (`UploadCmd`), since it outlives the request, and the entry is
-//! copied from it once it is accepted: nothing of a refused upload is copied but by a second plan.
+//! A plan owns what is asked for (`UploadCmd`), since it outlives the request, and the entry has it
+//! once it is accepted, as a second plan of it has: nothing of an upload is copied.
 //! Whoever follows a journal asks `accepts_upload`, which is lent the change and keeps no plan.
-use osm_base::{Box7, Items, Memory, TryCopy, User};
+use osm_base::{Box7, Items, User};
 use osm_change::{Change, OpDones, Refusal};
 use osm_later::{CountLook, UsersLook};
-use std::alloc::Global;
 use std::marker::Model;
 
 /// An upload to a changeset, or a single change, as a user asks for it.
@@ -26,19 +25,6 @@ impl Model for UploadCmd {
     ghost view = { λ c. record { user = c.user; changeset = c.changeset; change = c.change; single = c.single } };
 
     ghost invariant = { λ c. IsAsked (record { user = c.user; changeset = c.changeset; change = c.change; single = c.single }) };
-}
-
-impl TryCopy for UploadCmd {
-    fn copy(&self, alloc: Global) -> Result<UploadCmd, Memory> {
-        let user = self.user.copy(alloc)?;
-        let change = self.change.copy(alloc)?;
-        Ok(UploadCmd {
-            user,
-            changeset: self.changeset,
-            change,
-            single: self.single,
-        })
-    }
 }
 
 /// What the operations of an upload did and the least box of what they touched, or why one is refused.

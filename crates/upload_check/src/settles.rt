@@ -1,5 +1,5 @@
 //! What an upload comes to: a plan that stands is settled without judging an operation.
-ghost use Rattle.std.specs.Prelude.{◌≡◌, ◌+◌, nat_lt, count_by, IfOk, IfErr};
+ghost use Rattle.std.specs.Prelude.{◌≡◌, ◌+◌, nat_lt, count_by, IfErr};
 ghost use Rattle.osm_base.specs.Stamp.{stamp_after};
 ghost use Rattle.osm_change.specs.Done.{is_applied};
 ghost use Rattle.osm_change.specs.Moments.{RefusalHasShownEnd};
@@ -8,22 +8,19 @@ ghost use Rattle.osm_later.specs.Settle.{settle_done};
 ghost use Rattle.osm_later.specs.Plan.{StandsOn, IsPlannedOn};
 ghost use Rattle.osm_model.specs.Fold.{box_allowed};
 ghost use Rattle.osm_model.specs.Journal.{Later};
-ghost use Rattle.osm_model.specs.Outcome.{Gives};
 ghost use Rattle.osm_model.specs.declared.states.State.{State};
 ghost use Rattle.osm_world.specs.World.{state_of};
-ghost use Rattle.upload_check.specs.Asked.{IsOutcome, OnRefused};
+ghost use Rattle.upload_check.specs.Asked.{IsAsked, IsOutcome};
 ghost use Rattle.upload_check.specs.Planned.{plan_of, outcome_of, room_for, taken_by, IsShown};
 
-use crate::copies::copy_rows;
 use crate::overlays::first_ids;
-use crate::plans::{Found, Plan};
+use crate::plans::{Found, Plan, UploadCmd};
 use changeset_core::{Changeset, join_boxes};
-use osm_base::{Box7, Memory, Stamp, TryCopy, User};
+use osm_base::{Box7, Stamp, User};
 use osm_change::{FirstIds, OpDone, OpDones, Refusal};
 use osm_later::plans_settle;
-use osm_model::{Fault, box_allowed};
+use osm_model::box_allowed;
 use osm_world::World;
-use std::alloc::Global;
 
 /// What an upload comes to. The creates of each kind are numbered from `first` on.
 #[derive(Drop)]
@@ -32,54 +29,63 @@ pub enum Outcome {
     Refused(Refusal),
 }
 
-/// What the upload of a plan that stands comes to on a world at a moment, in seconds since 1970. The
-/// changeset is tested on this world, and new ids are those that come next here; no operation is
-/// judged.
-pub fn settle(alloc: Global, world: &World, plan: &Plan, moment: u64) -> Result<Outcome, Memory>
-    requires stands { StandsOn (plan_of plan.now) (state_of world.now).elements }
-    ensures { (begun : State) → IsPlannedOn begun.elements (plan_of plan.now) → Later begun (state_of world.now)
-        → IfOk result (IsOutcome (state_of world.now) plan.now.asked (stamp_after (state_of world.now).last moment)) }
-{
-    plans_settle();
-    plan.laws();
-    let at = Stamp::after(world.last_stamp(), moment);
-    let first = first_ids(world);
-    match settled(alloc, world, plan, at) {
-        Ok(rows) => Ok(Outcome::Accepted { first, rows }),
-        Err(Fault::Refused(refusal)) => Ok(Outcome::Refused(refusal)),
-        Err(Fault::Memory) => Err(Memory),
-    }
+/// An upload with what it comes to.
+#[derive(Drop)]
+pub struct SettledUpload {
+    pub cmd: UploadCmd,
+    pub outcome: Outcome,
 }
 
-/// What the operations did, if the changeset takes it.
-fn settled(alloc: Global, world: &World, plan: &Plan, at: Stamp) -> Result<OpDones, Fault>
-    ensures gives { Gives (settle_done (state_of world.now) plan.now.asked.user at plan.now.asked.changeset plan.now.outcome) result }
-    ensures shown { OnRefused result RefusalHasShownEnd }
+/// What the upload of a plan that stands comes to on a world at a moment, in seconds since 1970. The
+/// changeset is tested on this world, and new ids are those that come next here; no operation is
+/// judged. The plan is given up: its upload and the rows of what was done are handed on as they are,
+/// so it takes no memory.
+pub fn settle(world: &World, plan: Plan, moment: u64) -> SettledUpload
+    requires stands { StandsOn (plan_of plan) (state_of world.now).elements }
+    ensures cmd { result.cmd ≡ plan.asked }
+    ensures one { IsAsked plan.asked }
+    ensures comes { (begun : State) → IsPlannedOn begun.elements (plan_of plan) → Later begun (state_of world.now)
+        → IsOutcome (state_of world.now) plan.asked (stamp_after (state_of world.now).last moment) result.outcome }
 {
-    plan.laws();
-    let kept = world.own_changeset(&plan.cmd.user, at, plan.cmd.changeset)?;
-    taken(alloc, kept, &plan.cmd.user, plan.cmd.changeset, &plan.found)
+    plans_settle();
+    let at = Stamp::after(world.last_stamp(), moment);
+    let first = first_ids(world);
+    let Plan {
+        cmd,
+        counts: _,
+        users: _,
+        found,
+    } = plan;
+    let outcome = match settled(world, &cmd, found, at) {
+        Ok(rows) => Outcome::Accepted { first, rows },
+        Err(refusal) => Outcome::Refused(refusal),
+    };
+    SettledUpload { cmd, outcome }
+}
+
+/// What the operations of an upload did, if the changeset takes it.
+fn settled(world: &World, cmd: &UploadCmd, found: Found, at: Stamp) -> Result<OpDones, Refusal>
+    requires { IsShown (outcome_of found) }
+    ensures value { result ≡ settle_done (state_of world.now) cmd.now.user at cmd.now.changeset (outcome_of found) }
+    ensures shown { IfErr result RefusalHasShownEnd }
+{
+    let kept = world.own_changeset(&cmd.user, at, cmd.changeset)?;
+    taken(kept, &cmd.user, cmd.changeset, found)
 }
 
 /// What was found out, if the changeset takes it.
-fn taken(
-    alloc: Global,
-    kept: &Changeset,
-    user: &User,
-    id: u64,
-    found: &Found,
-) -> Result<OpDones, Fault>
-    requires { IsShown (outcome_of found.now) }
-    ensures gives { Gives (taken_by user.now id kept.now.kept (outcome_of found.now)) result }
-    ensures shown { OnRefused result RefusalHasShownEnd }
+fn taken(kept: &Changeset, user: &User, id: u64, found: Found) -> Result<OpDones, Refusal>
+    requires { IsShown (outcome_of found) }
+    ensures value { result ≡ taken_by user.now id kept.now.kept (outcome_of found) }
+    ensures shown { IfErr result RefusalHasShownEnd }
 {
     match found {
         Found::Done { rows, touched } => {
             has_room(kept, id, applied_among(rows.items()) as u64)?;
-            has_box(kept, user, id, *touched)?;
-            Ok(copy_rows(alloc, rows.items())?)
+            has_box(kept, user, id, touched)?;
+            Ok(rows)
         }
-        Found::Refused(refusal) => Err(Fault::Refused(refusal.copy(alloc)?)),
+        Found::Refused(refusal) => Err(refusal),
     }
 }
 

@@ -9,7 +9,7 @@ use Rattle.notes_core.proofs.machine.settle_on.Goals as goal
 pub returns-in-Ok : goal.returns-in-Ok
 returns-in-Ok c =
     let S = state_of c.args.world.now in
-    let asked = c.args.asked.now in
+    let asked = c.args.asked in
     let stamped = c.after-at.ensures ∙ ap (λ (last : ℕ). stamp_after last c.args.moment) c.last_stamp.ensures.value in
     subst (λ (x : Settled NoteEntry). IfOk c.accepted.result (λ s. s ≡ x))
     (acts_accepted S c.args.tag c.args.moment c.after-at.result asked stamped (c.in-Ok.ensures.value asked.caller c.after-at.result))
@@ -18,7 +18,7 @@ returns-in-Ok c =
 pub returns-in-Err : goal.returns-in-Err
 returns-in-Err c =
     let S = state_of c.args.world.now in
-    let asked = c.args.asked.now in
+    let asked = c.args.asked in
     let stamped = c.after-at.ensures ∙ ap (λ (last : ℕ). stamp_after last c.args.moment) c.last_stamp.ensures.value in
     subst (λ (x : Settled NoteEntry). IfOk c.refused.result (λ s. s ≡ x))
     (acts_refused S c.args.tag c.args.moment c.after-at.result asked c.in-Err.refusal stamped (c.in-Err.ensures.value asked.caller c.after-at.result))

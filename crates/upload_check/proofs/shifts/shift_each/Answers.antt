@@ -1,8 +1,7 @@
-use Rattle.std.proofs.Common.{get_or}
 use Rattle.osm_base.specs.declared.keys.Kind.TheVariants.{Node}
 use Rattle.osm_base.specs.declared.keys.Key.{Key}
 use Rattle.osm_world.specs.World.{state_of}
-use Rattle.upload_check.proofs.Walks.{walk_start, walk_next, walk_end, walk_some, walk_ready}
+use Rattle.upload_check.proofs.Walks.{walk_start, walk_next, walk_some, walk_ready}
 use Rattle.upload_check.proofs.shifts.shift_each.Goals as goal
 
 abbrev no_key : Key
