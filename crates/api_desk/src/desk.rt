@@ -188,11 +188,18 @@ impl<'a> OneDesk<'a> {
 }
 
 impl Desk for OneDesk<'_> {
+    ghost use Rattle.std.specs.Prelude.{⊤};
     ghost use Rattle.api_desk.specs.Desk.{Allows};
 
     ghost allows = { λ old message moment reply new. Allows old message moment reply new };
 
+    ghost tells = { λ _. ⊤ };
+
     fn answer(&mut self, alloc: Global, message: Message, moment: u64) -> Result<Reply, Memory> {
         self.answer_on::<Brand>(alloc, &message, moment, Blank::new(1))
+    }
+
+    fn may_tell(&mut self) -> bool {
+        true
     }
 }

@@ -26,10 +26,11 @@ use http_link::{Desk, Reply};
 use http_wire::Message;
 use map_machine::{MapMachine, fronts_are_the_maps};
 use osm_base::{Bytes, Memory, Steps};
+use osm_model::Entry;
 use osm_outside::{Gate, Point};
 use route_table::Routes;
-use session_desk::{SessionDesk, command_bytes, freshen, query_bytes};
-use shared_front::HubName;
+use session_desk::{HasSession, SessionDesk, behind, command_bytes, freshen, query_bytes};
+use shared_front::{Front, HubName};
 use snapshot_hub::{Hub, Session, Shown, Snapshot};
 use std::alloc::Global;
 use std::marker::{Brand, Model};
@@ -174,12 +175,19 @@ impl<'a, N: HubName, G: Gate + Drop, R: Wait + Drop, W: Wait> HubDesk<'a, N, G, 
 }
 
 impl<'a, N: HubName, G: Gate + Drop, R: Wait + Drop, W: Wait> Desk for HubDesk<'a, N, G, R, W> {
+    ghost use Rattle.std.specs.Prelude.{⊤};
     ghost use Rattle.api_desk.specs.HubDesk.{AllowsMap};
 
     ghost allows = { λ old message moment reply new. AllowsMap old message moment reply new };
 
+    ghost tells = { λ _. ⊤ };
+
     fn answer(&mut self, alloc: Global, message: Message, moment: u64) -> Result<Reply, Memory> {
         self.answer_on::<Brand>(alloc, &message, moment, Blank::new(1))
+    }
+
+    fn may_tell(&mut self) -> bool {
+        true
     }
 }
 
@@ -202,10 +210,24 @@ impl<'a, N: HubName, G: Gate + Drop, R: Wait + Drop, W: Wait> SessionDesk<
         freshen(self.rt, self.hub, &mut self.session)
     }
 
+    fn front(&self) -> &Front<N, Entry> {
+        self.session.front()
+    }
+
+    fn behind(&mut self, front: &Front<N, Entry>) -> Result<Vec<Entry>, Memory> {
+        behind(self.rt, self.hub, &mut self.session, front)
+    }
+
     fn law(&self) {
         self.session.law();
     }
+}
 
+impl<'a, N: HubName, G: Gate + Drop, R: Wait + Drop, W: Wait> HasSession<
+    N,
+    MapMachine,
+    Shown<N, MapMachine>,
+> for HubDesk<'a, N, G, R, W> {
     fn into_session(self) -> MapSession<N> {
         self.session
     }

@@ -10,7 +10,7 @@ use Rattle.http_wire.specs.declared.message.Message.{Message}
 use Rattle.http_wire.specs.declared.end.WireEnd.{WireEnd}
 use Rattle.http_wire.specs.Written.{Written}
 use Rattle.http_link.specs.declared.desk.Reply.{Reply}
-use Rattle.http_link.specs.Exchange.{Exchange, Chain, text_of}
+use Rattle.http_link.specs.Exchange.{Exchange, Chain, Telling, text_of}
 use Rattle.http_link.specs.Turns.{Turn, Ending, no_ending, events_of, events_of_turn, exchanges_of, bytes_of, AreRead, AreWritten, ReadsTurn}
 use Rattle.http_link.specs.Turn.{Step, Stop}
 use Rattle.http_link.specs.Link.{Served, NoneCloses}
@@ -62,6 +62,11 @@ Chain-push : {D : Type 0} (allows : D → Message → ℕ → Reply → D → Ty
 Chain-push allows start old new [] e c a = (new, rw c at a, refl)
 Chain-push allows start old new (f ∷ exchanges) e c a = (c.0, c.1, Chain-push allows c.0 old new exchanges e c.2 a)
 
+Chain-allowed : {D : Type 0} (allows : D → Message → ℕ → Reply → D → Type 0) (tells : D → Type 0) (start now : D)
+    (exchanges : List Exchange) → Chain (Telling allows tells) start exchanges now → Chain allows start exchanges now
+Chain-allowed allows tells start now [] c = c
+Chain-allowed allows tells start now (e ∷ exchanges) c = (c.0, c.1.0, Chain-allowed allows tells c.0 now exchanges c.2)
+
 pub NoneCloses-push : (exchanges : List Exchange) (e : Exchange) → NoneCloses exchanges → IsFalse e.message.close
     → NoneCloses (exchanges ++ e ∷ [])
 NoneCloses-push [] e n c = (c, tt)
@@ -86,6 +91,22 @@ module _ (body_limit : ℕ) where
   AreRead-push kept left next [] turn same r = (next, subst (λ (l : List ℕ). ReadsTurn body_limit l turn next) same r, refl)
   AreRead-push kept left next (t ∷ turns) turn (behind, first, more) r =
       (behind, first, AreRead-push behind left next turns turn more r)
+
+  -- ---- what the desk let be sent was allowed
+
+  pub Served-allowed : {D : Type 0} (allows : D → Message → ℕ → Reply → D → Type 0) (tells : D → Type 0) (start now : D) (a b : Told)
+      (left : List ℕ) (turns : List Turn) (ending : Ending)
+      → Served body_limit (Telling allows tells) start now a b left turns ending → Served body_limit allows start now a b left turns ending
+  Served-allowed allows tells start now a b left turns ending s = record {
+    trace = s.trace;
+    read = s.read;
+    input = s.input;
+    answered = Chain-allowed allows tells start now (exchanges_of turns) s.answered;
+    fixed = s.fixed;
+    stays = s.stays;
+    read_faults = s.read_faults;
+    write_faults = s.write_faults;
+  }
 
   -- ---- a message was answered
 

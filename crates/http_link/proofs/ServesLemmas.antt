@@ -1,5 +1,6 @@
 -- How a link ends, by its last turn.
 use Rattle.std.proofs.Common.{◌≡◌, ℕ, ◌+◌, ◌<◌, ◌≤◌, Bool, true, false, List, [], ◌∷◌, ◌++◌, length, Option, Some, None, IfSome, Result, Ok, Err, IsTrue, IsFalse, if◌then◌else◌, refl, sym, ap, ◌∙◌, append-nil, arith, inl, inr}
+use Rattle.std.specs.Prelude.{⊤}
 use Rattle.std.specs.List.{AllByRecursion, concat}
 use Rattle.std.specs.Io.KnownBytes.{Consumes}
 use Rattle.std.proofs.KnownBytes.{Consumes-nil}
@@ -15,12 +16,12 @@ use Rattle.osm_base.specs.declared.limits.TheConstants.{REQUEST_LIMIT}
 use Rattle.http_link.specs.declared.end.LinkEnd.{LinkEnd}
 use Rattle.http_link.specs.declared.end.LinkEnd.TheVariants as ends
 use Rattle.http_link.specs.declared.turn.Next.TheVariants as next
-use Rattle.http_link.specs.Exchange.{Exchange, text_of}
+use Rattle.http_link.specs.Exchange.{Exchange, Chain, Telling, text_of}
 use Rattle.http_link.specs.Refusal.{refusal, end_of}
 use Rattle.http_link.specs.Turns.{Turn, Ending, no_ending, exchanges_of, bytes_of, AreRead, AreWritten, ReadsEnd}
-use Rattle.http_link.specs.Turn.{Step, Stop, TakesTurn, next_after}
-use Rattle.http_link.specs.Link.{Served, Serves, LinkEnds, NoneCloses, GoesOn, ComesTo, AgreesWithBytes}
-use Rattle.http_link.proofs.LinkLemmas.{Served-step, Served-stop, exchanges_of-push, AreWritten-push, NoneCloses-push}
+use Rattle.http_link.specs.Turn.{Step, Held, Stop, TakesTurn, next_after}
+use Rattle.http_link.specs.Link.{Served, Serves, ServesTold, AreTold, LinkEnds, NoneCloses, GoesOn, ComesTo, AgreesWithBytes}
+use Rattle.http_link.proofs.LinkLemmas.{Served-step, Served-stop, Served-allowed, exchanges_of-push, AreWritten-push, NoneCloses-push}
 
 -- `body_limit` is the most bytes that a body may have.
 module _ (body_limit : ℕ) where
@@ -47,7 +48,7 @@ module _ (body_limit : ℕ) where
   place_of : (turns : List Turn) → 0 + length turns ≡ length turns
   place_of turns = omega arith
 
-  Serves-of : {D : Type 0} (tells : TellsEnd) (allows : D → Message → ℕ → Reply → D → Type 0) (start now : D) (before after : Told)
+  abbrev Serves-of : {D : Type 0} (tells : TellsEnd) (allows : D → Message → ℕ → Reply → D → Type 0) (start now : D) (before after : Told)
       (turns : List Turn) (left : List ℕ) (ending : Ending) (end : LinkEnd) → length turns ≤ REQUEST_LIMIT
       → Served body_limit allows start now before after left turns ending
       → LinkEnds body_limit before after turns left ending end → Serves body_limit allows start now before after end
@@ -60,6 +61,53 @@ module _ (body_limit : ℕ) where
     ends = facts;
     agrees = tells before after turns left ending end served.read served.input facts;
   }
+
+  -- ---- what the desk let be sent
+
+  -- the desk was asked of each reply that was sent
+  abbrev AllTold : LinkEnd → Type 0
+  AllTold ends.Unkept = ⊥
+  AllTold other = ⊤
+
+  told_all : {D : Type 0} (allows : D → Message → ℕ → Reply → D → Type 0) (tells : D → Type 0) (start now : D) (exchanges : List Exchange)
+      (end : LinkEnd) → AllTold end → Chain (Telling allows tells) start exchanges now → AreTold allows tells start exchanges now end
+  told_all allows tells start now exchanges ends.Ended all c = c
+  told_all allows tells start now exchanges ends.Closed all c = c
+  told_all allows tells start now exchanges ends.Budget all c = c
+  told_all allows tells start now exchanges (ends.Refused why) all c = c
+  told_all allows tells start now exchanges ends.ReadFault all c = c
+  told_all allows tells start now exchanges ends.WriteFault all c = c
+  told_all allows tells start now exchanges ends.Unkept all c = absurd all
+  told_all allows tells start now exchanges ends.Memory all c = c
+
+  ServesTold-of : {D : Type 0} (allows : D → Message → ℕ → Reply → D → Type 0) (tells : D → Type 0) (start now : D) (before after : Told)
+      (end : LinkEnd) → AllTold end → Serves body_limit (Telling allows tells) start now before after end
+      → ServesTold body_limit allows tells start now before after end
+  ServesTold-of allows tells start now before after end all s = record {
+    serves = record {
+      turns = s.turns;
+      few = s.few;
+      left = s.left;
+      ending = s.ending;
+      served = Served-allowed body_limit allows tells start now before after s.left s.turns s.ending s.served;
+      ends = s.ends;
+      agrees = s.agrees;
+    };
+    told = told_all allows tells start now (exchanges_of s.turns) end all s.served.answered;
+  }
+
+  all_told_at_stop : (why : WireEnd) → AllTold (end_of why)
+  all_told_at_stop wire.End = tt
+  all_told_at_stop wire.Truncated = tt
+  all_told_at_stop wire.BadHead = tt
+  all_told_at_stop wire.HeadLong = tt
+  all_told_at_stop wire.BadLength = tt
+  all_told_at_stop wire.BodyLong = tt
+  all_told_at_stop wire.Coded = tt
+  all_told_at_stop wire.ReadFault = tt
+  all_told_at_stop wire.Memory = tt
+
+  -- ---- the last turn
 
   module _ {D : Type 0} (tells : TellsEnd) (allows : D → Message → ℕ → Reply → D → Type 0) (start old new : D) (a b c : Told)
       (kept left : List ℕ) (turns : List Turn)
@@ -173,29 +221,75 @@ module _ (body_limit : ℕ) where
     ended read wire.BodyLong s sent = stopped read wire.BodyLong s (ends.Refused wire.BodyLong) sent (tt, comes_to read wire.BodyLong s sent)
     ended read wire.Coded s sent = stopped read wire.Coded s (ends.Refused wire.Coded) sent (tt, comes_to read wire.Coded s sent)
 
+  module _ {D : Type 0} (laws : TellsEnd) (allows : D → Message → ℕ → Reply → D → Type 0) (tells : D → Type 0) (start old new : D) (a b c : Told)
+      (kept left : List ℕ) (turns : List Turn) (before : Served body_limit (Telling allows tells) start old a b kept turns no_ending)
+      (replies : AreWritten 0 turns) (none : NoneCloses (exchanges_of turns)) (room : length turns < REQUEST_LIMIT) where
+    all_told : (end : LinkEnd) → AllTold end → Serves body_limit (Telling allows tells) start new a c end
+        → ServesTold body_limit allows tells start new a c end
+    all_told = ServesTold-of allows tells start new a c
+
+    -- the last reply was held back
+    unkept : Held body_limit allows old new b c kept left (length turns) → ServesTold body_limit allows tells start new a c ends.Unkept
+    unkept h =
+        let s = h.step in record {
+          serves =
+              Serves-of laws allows start new a c (turns ++ s.turn ∷ []) left no_ending ends.Unkept
+              (omega (arith, length-append turns (s.turn ∷ []), room))
+              (Served-step body_limit allows start old new a b c kept left (length turns) (Err h.in_place) turns
+              (Served-allowed body_limit allows tells start old a b kept turns no_ending before) s)
+              (record {
+                lacks = record {
+                  front = turns;
+                  last = s.turn;
+                  turns_are = refl;
+                  going_on = going_on laws (Telling allows tells) start old new a b c kept left turns before replies none room;
+                  replies = replies;
+                  missing = s.sends.0;
+                  whole = s.sends.1;
+                  nothing_else = refl;
+                };
+                unsent = h.unsent;
+              });
+          told = (exchanges_of turns, s.turn.exchange, old, exchanges_of-push turns s.turn, before.answered, s.allowed);
+        }
+
     -- the link ends with this turn
-    pub over : (end : LinkEnd) → TakesTurn body_limit allows old new b c kept left (length turns) (next.Over end)
-        → Serves body_limit allows start new a c end
+    pub over : (end : LinkEnd) → TakesTurn body_limit allows tells old new b c kept left (length turns) (next.Over end)
+        → ServesTold body_limit allows tells start new a c end
     over end (inl (Ok done, s, e, rose)) =
         let known = over_from_ok s.turn.exchange.message.close end e in
-        rw known.0 (closed s known.1)
+        rw known.0
+        (all_told ends.Closed tt
+        (closed laws (Telling allows tells) start old new a b c kept left turns before replies none room s known.1))
     over end (inl (Err fault, s, e, rose)) =
         let same : end ≡ ends.WriteFault = cc in
-        rw same (cut_reply fault s (rose refl))
-    over end (inr (read, why, other, s, inl x, e)) =
+        rw same
+        (all_told ends.WriteFault tt
+        (cut_reply laws (Telling allows tells) start old new a b c kept left turns before replies none room fault s (rose refl)))
+    over end (inr (inl (read, why, other, s, inl x, e))) =
         let same : end ≡ end_of why = cc in
-        rw same (ended read why s x.1)
-    over end (inr (read, why, other, s, inr x, e)) =
+        rw same
+        (all_told (end_of why) (all_told_at_stop why)
+        (ended laws (Telling allows tells) start old new a b c kept left turns before replies none room read why s x.1))
+    over end (inr (inl (read, why, other, s, inr x, e))) =
         let same : end ≡ ends.WriteFault = cc in
-        rw same (cut_refusal read why s x.1 x.2)
+        rw same
+        (all_told ends.WriteFault tt
+        (cut_refusal laws (Telling allows tells) start old new a b c kept left turns before replies none room read why s x.1 x.2))
+    over end (inr (inr (h, e))) =
+        let same : end ≡ ends.Unkept = cc in
+        rw same (unkept h)
 
     -- the link goes on after this turn
-    pub answered : TakesTurn body_limit allows old new b c kept left (length turns) next.GoesOn
-        → (all : List Turn) × Served body_limit allows start new a c left all no_ending × AreWritten 0 all
+    pub answered : TakesTurn body_limit allows tells old new b c kept left (length turns) next.GoesOn
+        → (all : List Turn) × Served body_limit (Telling allows tells) start new a c left all no_ending × AreWritten 0 all
         × (length all ≡ length turns + 1) × NoneCloses (exchanges_of all)
-    answered (inl (Ok done, s, e, rose)) = goes_on s (goes_on_from s.turn.exchange.message.close (Ok done) s.turn.exchange.message refl e).1
+    answered (inl (Ok done, s, e, rose)) =
+        goes_on laws (Telling allows tells) start old new a b c kept left turns before replies none room s
+        (goes_on_from s.turn.exchange.message.close (Ok done) s.turn.exchange.message refl e).1
     answered (inl (Err fault, s, e, rose)) = absurd cc
-    answered (inr (read, why, other, s, x, e)) = absurd cc
+    answered (inr (inl (read, why, other, s, x, e))) = absurd cc
+    answered (inr (inr (h, e))) = absurd cc
 
   all_fixed : (a : Option ℕ) → IfSome a (λ at. AllByRecursion (λ (e : Exchange). e.moment ≡ at) [])
   all_fixed None = tt
@@ -215,16 +309,18 @@ module _ (body_limit : ℕ) where
     write_faults = omega arith;
   }
 
-  pub unserved : {D : Type 0} (tells : TellsEnd) (allows : D → Message → ℕ → Reply → D → Type 0) (start : D) (a : Told)
-      → Serves body_limit allows start start a a ends.Memory
-  unserved tells allows start a =
-      Serves-of tells allows start start a a [] [] no_ending ends.Memory (omega arith) (no_turn allows start a)
-      (inl (record { untouched = refl; no_turn = refl; nothing_else = refl }))
+  pub unserved : {D : Type 0} (laws : TellsEnd) (allows : D → Message → ℕ → Reply → D → Type 0) (tells : D → Type 0) (start : D) (a : Told)
+      → ServesTold body_limit allows tells start start a a ends.Memory
+  unserved laws allows tells start a =
+      ServesTold-of allows tells start start a a ends.Memory tt
+      (Serves-of laws (Telling allows tells) start start a a [] [] no_ending ends.Memory (omega arith) (no_turn (Telling allows tells) start a)
+      (inl (record { untouched = refl; no_turn = refl; nothing_else = refl })))
 
   -- as many requests were answered as may be
-  pub no_more : {D : Type 0} (tells : TellsEnd) (allows : D → Message → ℕ → Reply → D → Type 0) (start now : D) (a b : Told) (left : List ℕ)
-      (turns : List Turn) → Served body_limit allows start now a b left turns no_ending → AreWritten 0 turns
-      → length turns ≡ REQUEST_LIMIT → NoneCloses (exchanges_of turns) → Serves body_limit allows start now a b ends.Budget
-  no_more tells allows start now a b left turns served replies full none =
-      Serves-of tells allows start now a b turns left no_ending ends.Budget (omega (arith, full)) served
-      (record { none = none; full = full; replies = replies; nothing_else = refl })
+  pub no_more : {D : Type 0} (laws : TellsEnd) (allows : D → Message → ℕ → Reply → D → Type 0) (tells : D → Type 0) (start now : D) (a b : Told)
+      (left : List ℕ) (turns : List Turn) → Served body_limit (Telling allows tells) start now a b left turns no_ending → AreWritten 0 turns
+      → length turns ≡ REQUEST_LIMIT → NoneCloses (exchanges_of turns) → ServesTold body_limit allows tells start now a b ends.Budget
+  no_more laws allows tells start now a b left turns served replies full none =
+      ServesTold-of allows tells start now a b ends.Budget tt
+      (Serves-of laws (Telling allows tells) start now a b turns left no_ending ends.Budget (omega (arith, full)) served
+      (record { none = none; full = full; replies = replies; nothing_else = refl }))

@@ -11,7 +11,7 @@ use Rattle.http_wire.specs.Wire.{Reads}
 use Rattle.http_link.specs.declared.desk.Reply.{Reply}
 use Rattle.http_link.specs.Exchange.{closes}
 use Rattle.http_link.specs.Turns.{ReadsEnd}
-use Rattle.http_link.specs.Turn.{Sends, Replies, Step}
+use Rattle.http_link.specs.Turn.{Sends, Replies, Holds, Step, Held}
 
 pub record Sent (b c : Told) (text : List ℕ) (result : Result (Unit {0}) Failed) : Type 0 where
   pub pieces : List (List ℕ)
@@ -89,6 +89,40 @@ module _ (body_limit : ℕ) where
         sends = s.sends;
         read_faults = omega (arith, quiet.read_faults, s.read_faults);
         write_faults = omega (arith, quiet.write_faults, s.write_faults);
+      }
+
+  -- a message was read, and then its reply was held back
+  pub Held-from_parts : {D : Type 0} (allows : D → Message → ℕ → Reply → D → Type 0) (old new : D) (a b c : Told)
+      (kept left : List ℕ) (count : ℕ) (message : Message) (in_place : Failed) → Reads body_limit a b kept (Ok message) left
+      → Holds allows old new b c message → Held body_limit allows old new a c kept left count
+  Held-from_parts allows old new a b c kept left count message in_place r h =
+      let quiet = r.taken.others in
+      let trace : c.trace ≡ b.trace ++ (Answered h.moment ∷ []) = ap (λ (t : Told). t.trace) h.told in
+      let still : c.fixed ≡ b.fixed = ap (λ (t : Told). t.fixed) h.told in
+      let input : c.left ≡ b.left = ap (λ (t : Told). t.left) h.told in
+      let reads : c.read_faults ≡ b.read_faults = ap (λ (t : Told). t.read_faults) h.told in
+      let writes : c.write_faults ≡ b.write_faults = ap (λ (t : Told). t.write_faults) h.told in
+      record {
+        in_place = in_place;
+        step = record {
+          turn = record {
+            reads = r.pieces;
+            exchange = record { message = message; moment = h.moment; answer = h.answer };
+            writes = [];
+          };
+          reads = record { needed = r.needed; some = r.stops; begins = r.gives; limit = r.limit };
+          trace =
+              trace ∙ ap (λ l. l ++ (Answered h.moment ∷ [])) r.taken.trace
+              ∙ append_assoc a.trace (map Gave r.pieces) (Answered h.moment ∷ []);
+          input = rw input r.taken.input;
+          allowed = h.allowed;
+          fixed = rw quiet.fixed at h.fixed;
+          stays = still ∙ quiet.fixed;
+          sends = (reply h.answer.status h.answer.body (closes count message), refl);
+          read_faults = omega (arith, quiet.read_faults, reads);
+          write_faults = omega (arith, quiet.write_faults, writes);
+        };
+        unsent = refl;
       }
 
   abbrev pub ReadsEnd-from : (a b : Told) (kept after : List ℕ) (why : WireEnd) (r : Reads body_limit a b kept (Err why) after)

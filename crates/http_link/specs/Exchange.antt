@@ -25,6 +25,10 @@ Chain allows old [] new = new ≡ old
 Chain {D} allows old (e ∷ exchanges) new =
     (mid : D) × allows old e.message e.moment e.answer mid × Chain allows mid exchanges new
 
+-- what is allowed, where the desk lets the reply be sent
+abbrev pub Telling : {D : Type 0} → (D → Message → ℕ → Reply → D → Type 0) → (D → Type 0) → D → Message → ℕ → Reply → D → Type 0
+Telling allows tells old message moment answer new = allows old message moment answer new × tells new
+
 -- whether the reply to a message ends the link, before which so many requests were answered
 abbrev pub closes : ℕ → Message → Bool
 closes count message = message.close || (count + 1 == REQUEST_LIMIT)

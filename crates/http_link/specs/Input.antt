@@ -6,7 +6,7 @@ use Rattle.http_wire.specs.declared.end.WireEnd.{WireEnd}
 use Rattle.http_wire.specs.Message.{AreMessages}
 use Rattle.http_wire.specs.End.{IsTold}
 use Rattle.http_link.specs.declared.end.LinkEnd.{LinkEnd}
-use Rattle.http_link.specs.declared.end.LinkEnd.TheVariants.{Closed, Budget, ReadFault, WriteFault, Memory}
+use Rattle.http_link.specs.declared.end.LinkEnd.TheVariants.{Closed, Budget, ReadFault, WriteFault, Unkept, Memory}
 use Rattle.http_link.specs.Exchange.{Exchange, closes, messages_of}
 use Rattle.http_link.specs.Refusal.{end_of}
 
@@ -25,12 +25,13 @@ end_from count (m ∷ messages) why =
 abbrev pub IsByInput : LinkEnd → Type 0
 IsByInput ReadFault = ⊥
 IsByInput WriteFault = ⊥
+IsByInput Unkept = ⊥
 IsByInput Memory = ⊥
 IsByInput other = ⊤
 
 -- `body_limit` is the most bytes that a body may have.
 module _ (body_limit : ℕ) where
-  -- These are the messages in an input and its end. Unless reading, writing or memory failed, the link answered all that it was to
+  -- These are the messages in an input and its end. Unless reading, writing or memory failed, or the desk held a reply back, the link answered all that it was to
   -- answer of them, and ended as it was to end.
   abbrev pub EndsByInput : List ℕ → List Exchange → LinkEnd → Type 0
   EndsByInput input exchanges end =

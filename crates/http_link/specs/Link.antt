@@ -12,8 +12,8 @@ use Rattle.http_wire.specs.Received.{HaveBytes}
 use Rattle.http_wire.specs.Wire.{end_limit}
 use Rattle.http_link.specs.declared.desk.Reply.{Reply}
 use Rattle.http_link.specs.declared.end.LinkEnd.{LinkEnd}
-use Rattle.http_link.specs.declared.end.LinkEnd.TheVariants.{Ended, Closed, Budget, Refused, ReadFault, WriteFault, Memory}
-use Rattle.http_link.specs.Exchange.{Exchange, Chain, messages_of, text_of}
+use Rattle.http_link.specs.declared.end.LinkEnd.TheVariants.{Ended, Closed, Budget, Refused, ReadFault, WriteFault, Unkept, Memory}
+use Rattle.http_link.specs.Exchange.{Exchange, Chain, Telling, messages_of, text_of}
 use Rattle.http_link.specs.Input.{EndsByInput}
 use Rattle.http_link.specs.Refusal.{refusal, IsRefusal}
 use Rattle.http_link.specs.Turns.{Turn, Ending, no_ending, events_of, exchanges_of, bytes_of, AreRead, AreWritten, ReadsEnd}
@@ -36,6 +36,19 @@ pub record LacksReply (turns : List Turn) (ending : Ending) : Type 0 where
   pub missing : List ℕ
   pub whole : text_of (length front) last.exchange ≡ concat last.writes ++ missing
   pub nothing_else : ending ≡ no_ending
+
+-- The last reply was held back: nothing of it was written, and nothing was read or written behind it.
+pub record IsUnkept (turns : List Turn) (ending : Ending) : Type 0 where
+  pub lacks : LacksReply turns ending
+  pub unsent : lacks.last.writes ≡ []
+
+-- From start the desk came to now by these exchanges, and before each reply was sent, the desk let it. Where the link ended as
+-- unkept, the last one was allowed and not sent.
+abbrev pub AreTold : {D : Type 0} → (D → Message → ℕ → Reply → D → Type 0) → (D → Type 0) → D → List Exchange → D → LinkEnd → Type 0
+AreTold {D} allows tells start exchanges now Unkept =
+    (front : List Exchange) × (last : Exchange) × (mid : D) × (exchanges ≡ front ++ last ∷ [])
+    × Chain (Telling allows tells) start front mid × allows mid last.message last.moment last.answer now
+AreTold allows tells start exchanges now other = Chain (Telling allows tells) start exchanges now
 
 -- The last request said close, and nothing was read or written behind its reply.
 pub record IsClosed (turns : List Turn) (ending : Ending) : Type 0 where
@@ -104,6 +117,7 @@ module _ (body_limit : ℕ) where
       ComesTo after turns left ending wire.ReadFault × Rose before.read_faults after.read_faults
   LinkEnds before after turns left ending WriteFault =
       (LacksReply turns ending ⊎ LacksRefusal after turns left ending) × Rose before.write_faults after.write_faults
+  LinkEnds before after turns left ending Unkept = IsUnkept turns ending
   LinkEnds before after turns left ending Memory =
       IsUnserved before after turns ending ⊎ ComesTo after turns left ending wire.Memory
 
@@ -116,6 +130,7 @@ module _ (body_limit : ℕ) where
   rest_limit (Refused why) = end_limit body_limit why
   rest_limit ReadFault = end_limit body_limit wire.ReadFault
   rest_limit WriteFault = end_limit body_limit wire.Memory
+  rest_limit Unkept = HEAD_LIMIT
   rest_limit Memory = end_limit body_limit wire.Memory
 
   -- What the bytes that were read tell: the answered messages, the rest behind them, and that the link ended as they say.
@@ -138,3 +153,9 @@ module _ (body_limit : ℕ) where
     pub served : Served allows start now before after left turns ending
     pub ends : LinkEnds before after turns left ending end
     pub agrees : AgreesWithBytes before (bytes_of turns ending) (left ++ concat ending.reads) (exchanges_of turns) end
+
+  -- The same, and the desk let each reply be sent before it was.
+  pub record ServesTold {D : Type 0} (allows : D → Message → ℕ → Reply → D → Type 0) (tells : D → Type 0)
+      (start now : D) (before after : Told) (end : LinkEnd) : Type 0 where
+    pub serves : Serves allows start now before after end
+    pub told : AreTold allows tells start (exchanges_of serves.turns) now end

@@ -1,5 +1,5 @@
 -- What one turn of a link does: a message and its reply, or an end.
-use Rattle.std.specs.Prelude.{◌≡◌, ℕ, ◌≤◌, ◌⊎◌, List, ◌∷◌, ◌++◌, map, Result, Ok, Err, IsErr, IfSome, if◌then◌else◌}
+use Rattle.std.specs.Prelude.{◌≡◌, ℕ, ◌≤◌, ◌⊎◌, List, ◌∷◌, ◌++◌, [], map, Option, Some, None, Result, Ok, Err, IsErr, IfSome, if◌then◌else◌}
 use Rattle.std.specs.List.{concat}
 use Rattle.std.specs.Io.KnownBytes.{Consumes}
 use Rattle.osm_outside.specs.Event.{Answered, Took}
@@ -16,7 +16,7 @@ use Rattle.http_link.specs.declared.end.LinkEnd.TheVariants as ends
 use Rattle.http_link.specs.declared.turn.Next.{Next}
 use Rattle.http_link.specs.declared.turn.Next.TheVariants.{GoesOn, Over}
 use Rattle.http_link.specs.declared.desk.Reply.{Reply}
-use Rattle.http_link.specs.Exchange.{closes, text_of}
+use Rattle.http_link.specs.Exchange.{Telling, closes, text_of}
 use Rattle.http_link.specs.Refusal.{refusal, end_of}
 use Rattle.http_link.specs.Turns.{Turn, events_of_turn, ReadsTurn, ReadsEnd}
 
@@ -40,6 +40,22 @@ pub record Replies {D : Type 0} (allows : D → Message → ℕ → Reply → D 
   pub input : after.left ≡ before.left
   pub read_faults : after.read_faults ≡ before.read_faults
   pub write_faults : before.write_faults ≤ after.write_faults
+
+-- The clock answered a moment, the desk gave the message a reply, and nothing else happened.
+pub record Holds {D : Type 0} (allows : D → Message → ℕ → Reply → D → Type 0) (old new : D) (before after : Told) (message : Message)
+    : Type 0 where
+  pub moment : ℕ
+  pub answer : Reply
+  pub allowed : allows old message moment answer new
+  pub told : after ≡ record before { trace = before.trace ++ (Answered moment ∷ []) }
+  pub fixed : IfSome before.fixed (λ at. moment ≡ at)
+
+-- The desk let the reply be sent, which it was; or it didn't, and nothing was sent.
+abbrev pub RepliesOrHolds : {D : Type 0} → (D → Message → ℕ → Reply → D → Type 0) → (D → Type 0) → D → D → Told → Told → ℕ → Message
+    → Option (Result (Unit {0}) Failed) → Type 0
+RepliesOrHolds allows tells old new before after count message (Some result) =
+    Replies (Telling allows tells) old new before after count message result
+RepliesOrHolds allows tells old new before after count message None = Holds allows old new before after message
 
 -- The reply to an end was written, or a fault came.
 abbrev pub Refuses : Told → Told → WireEnd → LinkEnd → Type 0
@@ -69,6 +85,13 @@ module _ (body_limit : ℕ) where
     pub read_faults : before.read_faults ≤ after.read_faults
     pub write_faults : before.write_faults ≤ after.write_faults
 
+  -- A message was read and answered, and nothing of its reply was sent.
+  pub record Held {D : Type 0} (allows : D → Message → ℕ → Reply → D → Type 0)
+      (old new : D) (before after : Told) (kept left : List ℕ) (count : ℕ) : Type 0 where
+    pub in_place : Failed
+    pub step : Step allows old new before after kept left count (Err in_place)
+    pub unsent : step.turn.writes ≡ []
+
   -- What came in the place of a message was an end, and the desk wasn't asked.
   pub record Stop {D : Type 0} (old new : D) (before read : Told) (kept : List ℕ) (why : WireEnd) : Type 0 where
     pub pieces : List (List ℕ)
@@ -77,10 +100,11 @@ module _ (body_limit : ℕ) where
     pub fault : why ≡ ReadFault → Rose before.read_faults read.read_faults
     pub unasked : new ≡ old
 
-  -- What one turn does.
-  abbrev pub TakesTurn : {D : Type 0} → (D → Message → ℕ → Reply → D → Type 0) → D → D → Told → Told → List ℕ → List ℕ → ℕ → Next → Type 0
-  TakesTurn allows old new before after kept left count next =
-      ((result : Result (Unit {0}) Failed) × (s : Step allows old new before after kept left count result)
+  -- What one turn does: a reply is sent only where the desk lets it.
+  abbrev pub TakesTurn : {D : Type 0} → (D → Message → ℕ → Reply → D → Type 0) → (D → Type 0) → D → D → Told → Told → List ℕ → List ℕ → ℕ → Next → Type 0
+  TakesTurn allows tells old new before after kept left count next =
+      ((result : Result (Unit {0}) Failed) × (s : Step (Telling allows tells) old new before after kept left count result)
       × (next ≡ next_after s.turn.exchange.message result) × (IsErr result → Rose before.write_faults after.write_faults))
       ⊎ ((read : Told) × (why : WireEnd) × (end : LinkEnd) × Stop old new before read kept why
       × Refuses read after why end × (next ≡ Over end))
+      ⊎ (Held allows old new before after kept left count × (next ≡ Over ends.Unkept))

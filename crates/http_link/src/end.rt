@@ -15,6 +15,8 @@ pub enum LinkEnd {
     Refused(WireEnd),
     ReadFault,
     WriteFault,
+    /// The desk didn't let its last reply be sent, and nothing of it was.
+    Unkept,
     /// There was no memory for the wire, or to read a message. The latter was answered.
     Memory,
 }

@@ -2,7 +2,7 @@
 //!
 //! The 1,000th request that says close ends the link as closed, any other as spent. Both replies
 //! say close.
-ghost use Rattle.http_link.specs.Link.{Serves};
+ghost use Rattle.http_link.specs.Link.{Serves, ServesTold};
 
 use crate::desk::Desk;
 use crate::end::LinkEnd;
@@ -21,7 +21,8 @@ pub fn serve_desk<D: Desk, L: Link>(
     link: &mut L,
     body_limit: usize,
 ) -> LinkEnd
-    ensures { Serves body_limit D.allows desk.old desk.new (L.told link.old) (L.told link.new) result }
+    ensures serves { Serves body_limit D.allows desk.old desk.new (L.told link.old) (L.told link.new) result }
+    ensures told { ServesTold body_limit D.allows D.tells desk.old desk.new (L.told link.old) (L.told link.new) result }
 {
     // What the turns tell of the bytes is the same for every end.
     bytes_tell_the_end();

@@ -27,8 +27,14 @@ impl Desk for LengthDesk {
 
     ghost allows = { λ _ _ _ _ _. ⊤ };
 
+    ghost tells = { λ _. ⊤ };
+
     fn answer(&mut self, alloc: Global, message: Message, _moment: u64) -> Result<Reply, Memory> {
         digit(alloc, message.body.as_slice().len() as u64)
+    }
+
+    fn may_tell(&mut self) -> bool {
+        true
     }
 }
 
@@ -41,7 +47,13 @@ impl Desk for MomentDesk {
 
     ghost allows = { λ _ _ _ _ _. ⊤ };
 
+    ghost tells = { λ _. ⊤ };
+
     fn answer(&mut self, alloc: Global, _message: Message, moment: u64) -> Result<Reply, Memory> {
         digit(alloc, moment)
+    }
+
+    fn may_tell(&mut self) -> bool {
+        true
     }
 }

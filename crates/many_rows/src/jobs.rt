@@ -7,7 +7,7 @@ use http_link::Desk;
 use osm_base::{Bytes, SESSION_LIMIT};
 use route_table::Routes;
 use row_lines::{RowFault, number};
-use session_desk::SessionDesk;
+use session_desk::HasSession;
 use shared_front::HubName;
 use std::alloc::Global;
 use std::sync::Wait;

@@ -50,9 +50,12 @@ impl<'a> MirrorDesk<'a> {
 }
 
 impl<'a> Desk for MirrorDesk<'a> {
+    ghost use Rattle.std.specs.Prelude.{⊤};
     ghost use Rattle.mirror_desk.specs.Desk.{Allows};
 
     ghost allows = { λ old message moment reply new. Allows old message moment reply new };
+
+    ghost tells = { λ _. ⊤ };
 
     fn answer(&mut self, alloc: Global, message: Message, moment: u64) -> Result<Reply, Memory> {
         answer_mirrored(
@@ -63,5 +66,9 @@ impl<'a> Desk for MirrorDesk<'a> {
             &message,
             moment,
         )
+    }
+
+    fn may_tell(&mut self) -> bool {
+        true
     }
 }

@@ -8,7 +8,7 @@ use notes_core::NoteEntry;
 use notes_desk::{NotesDesk, NotesHub, NotesSession};
 use osm_base::Memory;
 use osm_outside::NoGate;
-use session_desk::SessionDesk;
+use session_desk::HasSession;
 use shared_front::HubName;
 use snapshot_hub::{End, Seats};
 use std::alloc::Global;

@@ -16,11 +16,11 @@ use crate::requests::{NoteRequest, notes_request_of};
 use desk_parts::{RequestFault, refusal_reply, reply_from};
 use http_link::{Desk, Reply};
 use http_wire::Message;
-use notes_core::NotesMachine;
+use notes_core::{NoteEntry, NotesMachine};
 use osm_base::{Bytes, Memory, Steps};
 use osm_outside::{Gate, Point};
-use session_desk::{SessionDesk, command_bytes, freshen, query_bytes};
-use shared_front::HubName;
+use session_desk::{HasSession, SessionDesk, behind, command_bytes, freshen, query_bytes};
+use shared_front::{Front, HubName};
 use snapshot_hub::{Hub, Session, Shown};
 use std::alloc::Global;
 use std::marker::{Brand, Model};
@@ -156,12 +156,19 @@ impl<'a, N: HubName, G: Gate + Drop, R: Wait + Drop, W: Wait> NotesDesk<'a, N, G
 }
 
 impl<'a, N: HubName, G: Gate + Drop, R: Wait + Drop, W: Wait> Desk for NotesDesk<'a, N, G, R, W> {
+    ghost use Rattle.std.specs.Prelude.{⊤};
     ghost use Rattle.notes_desk.specs.Desk.{AllowsNotes};
 
     ghost allows = { λ old message moment reply new. AllowsNotes old message moment reply new };
 
+    ghost tells = { λ _. ⊤ };
+
     fn answer(&mut self, alloc: Global, message: Message, moment: u64) -> Result<Reply, Memory> {
         self.answer_on::<Brand>(alloc, &message, moment, Blank::new(1))
+    }
+
+    fn may_tell(&mut self) -> bool {
+        true
     }
 }
 
@@ -184,10 +191,24 @@ impl<'a, N: HubName, G: Gate + Drop, R: Wait + Drop, W: Wait> SessionDesk<
         freshen(self.rt, self.hub, &mut self.session)
     }
 
+    fn front(&self) -> &Front<N, NoteEntry> {
+        self.session.front()
+    }
+
+    fn behind(&mut self, front: &Front<N, NoteEntry>) -> Result<Vec<NoteEntry>, Memory> {
+        behind(self.rt, self.hub, &mut self.session, front)
+    }
+
     fn law(&self) {
         self.session.law();
     }
+}
 
+impl<'a, N: HubName, G: Gate + Drop, R: Wait + Drop, W: Wait> HasSession<
+    N,
+    NotesMachine,
+    Shown<N, NotesMachine>,
+> for NotesDesk<'a, N, G, R, W> {
     fn into_session(self) -> NotesSession<N> {
         self.session
     }

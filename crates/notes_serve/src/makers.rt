@@ -9,7 +9,7 @@ use notes_core::{NoteEntry, NotesMachine};
 use notes_desk::{NotesDesk, NotesHub, NotesSession};
 use osm_base::Memory;
 use osm_outside::{Link, NoGate, Outside};
-use session_desk::SessionDesk;
+use session_desk::HasSession;
 use shared_front::HubName;
 use snapshot_hub::Shown;
 use std::alloc::Global;

@@ -16,8 +16,8 @@ use Rattle.http_link.specs.declared.end.LinkEnd.TheVariants.{Memory}
 use Rattle.http_link.specs.Input.{IsByInput, EndsByInput}
 use Rattle.http_link.specs.Exchange.{Exchange, moments_of}
 use Rattle.http_link.specs.Turns.{Turn, Ending, no_ending, events_of, events_of_turn, exchanges_of, bytes_of}
-use Rattle.http_link.specs.Link.{Serves}
-use Rattle.server_frame.specs.OnLink.{AnswersLinkWithin, OnLinkWithin}
+use Rattle.http_link.specs.Link.{Serves, ServesTold}
+use Rattle.server_frame.specs.OnLink.{AnswersLinkWithin, AnswersLinkToldWithin, OnLinkWithin}
 
 -- ---- what the events of turns give and tell
 
@@ -117,6 +117,17 @@ module _ (body_limit : ℕ) where
     exchanges = exchanges_of s.turns;
     link = on_link allows old new before after end s;
     answered = s.served.answered;
+  }
+
+  pub answers_told : {D : Type 0} (allows : D → Message → ℕ → Reply → D → Type 0) (tells : D → Type 0) (old new : D) (before after : Told) (end : LinkEnd)
+      → ServesTold body_limit allows tells old new before after end → AnswersLinkToldWithin body_limit allows tells old new before after end
+  answers_told allows tells old new before after end s = record {
+    answers = record {
+      exchanges = exchanges_of s.serves.turns;
+      link = on_link allows old new before after end s.serves;
+      answered = s.serves.served.answered;
+    };
+    told = s.told;
   }
 
   -- ---- a link that was left alone

@@ -12,7 +12,7 @@ use Rattle.http_link.specs.declared.end.LinkEnd.{LinkEnd}
 use Rattle.http_link.specs.Exchange.{Exchange, Chain, messages_of, moments_of}
 use Rattle.http_link.specs.Input.{EndsByInput}
 use Rattle.http_link.specs.Turns.{Turn, Ending, AreRead, events_of, exchanges_of}
-use Rattle.http_link.specs.Link.{LinkEnds, rest_limit}
+use Rattle.http_link.specs.Link.{LinkEnds, AreTold, rest_limit}
 
 -- `body_limit` is the most bytes that a body may have.
 module _ (body_limit : ℕ) where
@@ -60,9 +60,18 @@ module _ (body_limit : ℕ) where
     pub link : OnLinkWithin before after exchanges end
     pub answered : Chain allows old exchanges new
 
+  -- The same, and the desk let each reply be sent before it was.
+  pub record AnswersLinkToldWithin {D : Type 0} (allows : D → Message → ℕ → Reply → D → Type 0) (tells : D → Type 0)
+      (old new : D) (before after : Told) (end : LinkEnd) : Type 0 where
+    pub answers : AnswersLinkWithin allows old new before after end
+    pub told : AreTold allows tells old answers.exchanges new end
+
 -- The same, where a body has no more bytes than a server reads.
 abbrev pub OnLink : Told → Told → List Exchange → LinkEnd → Type 0
 OnLink = OnLinkWithin BODY_LIMIT
 
 abbrev pub AnswersLink : {D : Type 0} → (D → Message → ℕ → Reply → D → Type 0) → D → D → Told → Told → LinkEnd → Type 0
 AnswersLink = AnswersLinkWithin BODY_LIMIT
+
+abbrev pub AnswersLinkTold : {D : Type 0} → (D → Message → ℕ → Reply → D → Type 0) → (D → Type 0) → D → D → Told → Told → LinkEnd → Type 0
+AnswersLinkTold = AnswersLinkToldWithin BODY_LIMIT

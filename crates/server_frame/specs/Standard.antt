@@ -3,7 +3,7 @@ use Rattle.std.specs.Prelude.{◌≡◌, ℕ, ◌⊎◌, List, Option, Some, Non
 use Rattle.osm_outside.specs.Told.{Told, Rose}
 use Rattle.osm_outside.specs.Host.{HostTold, OnlyAsked}
 use Rattle.http_link.specs.declared.end.LinkEnd.{LinkEnd}
-use Rattle.http_link.specs.declared.end.LinkEnd.TheVariants.{Ended, Closed, Budget, Refused, ReadFault, WriteFault, Memory}
+use Rattle.http_link.specs.declared.end.LinkEnd.TheVariants.{Ended, Closed, Budget, Refused, ReadFault, WriteFault, Unkept, Memory}
 use Rattle.user_table.specs.Users.{Users, table_of}
 use Rattle.server_frame.specs.Users.{IsTextOf, IsRefused}
 
@@ -15,6 +15,7 @@ status_of Budget = 0
 status_of ReadFault = 3
 status_of WriteFault = 4
 status_of Memory = 5
+status_of Unkept = 9
 status_of (Refused why) = 7
 
 -- The clock is fixed where a moment is given, and nothing else is changed.

@@ -2,7 +2,7 @@
 ghost use Rattle.std.specs.Prelude.{[], ℕ};
 ghost use Rattle.osm_outside.specs.Told.{Told};
 ghost use Rattle.http_link.specs.declared.end.LinkEnd.TheVariants.{Memory};
-ghost use Rattle.server_frame.specs.OnLink.{AnswersLink, AnswersLinkWithin, OnLink, OnLinkWithin};
+ghost use Rattle.server_frame.specs.OnLink.{AnswersLink, AnswersLinkWithin, AnswersLinkTold, AnswersLinkToldWithin, OnLink, OnLinkWithin};
 
 use http_link::{Desk, LinkEnd, serve_desk};
 use http_wire::some_reading;
@@ -17,14 +17,16 @@ pub fn answer_link_within<D: Desk, L: Link>(
     link: &mut L,
     body_limit: usize,
 ) -> LinkEnd
-    ensures { AnswersLinkWithin body_limit D.allows desk.old desk.new (L.told link.old) (L.told link.new) result }
+    ensures answers { AnswersLinkWithin body_limit D.allows desk.old desk.new (L.told link.old) (L.told link.new) result }
+    ensures told { AnswersLinkToldWithin body_limit D.allows D.tells desk.old desk.new (L.told link.old) (L.told link.new) result }
 {
     serve_desk(alloc, desk, link, body_limit)
 }
 
 /// The same by a server's limit on bodies.
 pub fn answer_link<D: Desk, L: Link>(alloc: Global, desk: &mut D, link: &mut L) -> LinkEnd
-    ensures { AnswersLink D.allows desk.old desk.new (L.told link.old) (L.told link.new) result }
+    ensures answers { AnswersLink D.allows desk.old desk.new (L.told link.old) (L.told link.new) result }
+    ensures told { AnswersLinkTold D.allows D.tells desk.old desk.new (L.told link.old) (L.told link.new) result }
 {
     answer_link_within(alloc, desk, link, BODY_LIMIT)
 }

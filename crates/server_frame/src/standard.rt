@@ -25,7 +25,8 @@ pub trait LinkServer {
 }
 
 /// The status that an end of the standard link is: 0 where it was served to its end, 3 for a read
-/// fault, 4 for a write fault, 5 for want of memory, 7 where what came was refused.
+/// fault, 4 for a write fault, 5 for want of memory, 7 where what came was refused, 9
+/// where a reply was held back.
 fn status_of(end: LinkEnd) -> u8
     ensures { result ≡ status_of end }
 {
@@ -34,6 +35,7 @@ fn status_of(end: LinkEnd) -> u8
         LinkEnd::ReadFault => 3,
         LinkEnd::WriteFault => 4,
         LinkEnd::Memory => 5,
+        LinkEnd::Unkept => 9,
         LinkEnd::Refused(_) => 7,
     }
 }

@@ -1,5 +1,5 @@
 -- What a session of a hub is answered, message by message, whatever machine the hub has.
-use Rattle.std.specs.Prelude.{◌≡◌, ℕ, ◌≤◌, false, List, [], ◌∷◌, length}
+use Rattle.std.specs.Prelude.{◌≡◌, ℕ, ◌≤◌, ◌⊎◌, false, List, [], ◌∷◌, length}
 use mathlib.Core.List.{IsPrefix}
 use Rattle.http_wire.specs.declared.message.Message.{Message}
 use Rattle.http_link.specs.declared.desk.Reply.{Reply}
@@ -21,6 +21,11 @@ pub record IsFresh {S C Q P E K : Type 0} (rules : Rules S C Q P E K) (old new :
   pub begins : IsPrefix old.front new.front
   pub comes_to : new ≡ caught_up old new.front old.calls
   pub calls : old.calls ≡ calls_of rules.tag_of old.number new.front
+
+-- No request was answered: the session is what it was, or it was freshened.
+pub record StaysOrFreshens {S C Q P E K : Type 0} (rules : Rules S C Q P E K) (old new : AtDesk E) : Type 0 where
+  pub users : new.users ≡ old.users
+  pub known : (new.known ≡ old.known) ⊎ IsFresh rules old.known new.known
 
 -- what one message may be answered by a session of that number, against a list of entries, from a place of the session to the next
 abbrev pub RowOf : Type 0 → Type 1

@@ -1,12 +1,12 @@
 //! A desk of one session of a hub.
-ghost use Rattle.std.specs.Prelude.{◌≡◌, true, OnOk, OnErr};
+ghost use Rattle.std.specs.Prelude.{◌≡◌, ◌++◌, true, OnOk, OnErr, IfOk};
 ghost use Rattle.machine_law.specs.Rules.{is_legal};
-ghost use Rattle.session_desk.specs.Answered.{AtDesk, IsFresh, RowOf};
+ghost use Rattle.session_desk.specs.Answered.{AtDesk, IsFresh, RowOf, StaysOrFreshens};
 
 use http_link::Desk;
 use machine_law::Machine;
 use osm_base::Memory;
-use shared_front::HubName;
+use shared_front::{Front, HubName};
 use snapshot_hub::{Session, Snapshot};
 
 /// A desk that answers the messages of one session of a hub, which it keeps.
@@ -28,13 +28,18 @@ pub trait SessionDesk<N: HubName, M: Machine, S: Snapshot<N, M>>: Desk {
         ensures ok { OnOk result (IsFresh M.rules (keeps self.old).known (keeps self.new).known) }
         ensures err { OnErr result (keeps self.new ≡ keeps self.old) };
 
+    /// The beginning of the journal that its session has seen.
+    fn front(&self) -> &Front<N, M::Entry>
+        ensures { result.now ≡ (keeps self.now).known.front };
+
+    /// Freshens the session, and copies the entries of its front behind this beginning of the journal.
+    fn behind(&mut self, front: &Front<N, M::Entry>) -> Result<Vec<M::Entry>, Memory>
+        ensures part { IfOk result (λ part. (keeps self.new).known.front ≡ front.now ++ part.items) }
+        ensures session { StaysOrFreshens M.rules (keeps self.old) (keeps self.new) };
+
     /// A law: the front of its session is legal.
     fn law(&self)
         ensures { is_legal M.rules (keeps self.now).known.front ≡ true };
-
-    /// The session, when the desk is done. It takes no memory.
-    fn into_session(self) -> Session<N, M, S>
-        ensures { result ≡ (keeps self).known };
 
     // What it answers is a row on the front that its session has then.
     ghost allowed: { (old new : Self) (message : Message) (moment : ℕ) (reply : Reply) → Self.allows old message moment reply new
@@ -42,4 +47,11 @@ pub trait SessionDesk<N: HubName, M: Machine, S: Snapshot<N, M>>: Desk {
 
     // What is answered against entries is so against more.
     ghost rows_stay: { RowsStay answers };
+}
+
+/// A desk that gives its session back.
+pub trait HasSession<N: HubName, M: Machine, S: Snapshot<N, M>>: SessionDesk<N, M, S> {
+    /// The session, when the desk is done. It takes no memory.
+    fn into_session(self) -> Session<N, M, S>
+        ensures { result ≡ (Self.keeps self).known };
 }

@@ -13,6 +13,6 @@ mod laws;
 mod sessions;
 
 pub use calls::{answer_command, answer_query};
-pub use desk::SessionDesk;
+pub use desk::{HasSession, SessionDesk};
 pub use laws::{exchanges_chain, links_chain, served_stay};
-pub use sessions::{command_bytes, freshen, query_bytes};
+pub use sessions::{behind, command_bytes, freshen, query_bytes};

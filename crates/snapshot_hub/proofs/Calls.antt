@@ -1,8 +1,9 @@
 -- The calls of a session in a list, and in a longer one.
-use Rattle.std.proofs.Common.{◌≡◌, ℕ, ◌+◌, ◌<◌, ◌≤◌, ◌==◌, Bool, true, false, cond, take, drop, List, [], ◌∷◌, ◌++◌, Option, Some, None, ap, sym, ◌∙◌, arith}
+use Rattle.std.proofs.Common.{◌≡◌, ℕ, ◌+◌, ◌<◌, ◌≤◌, ◌==◌, Bool, true, false, cond, take, drop, List, [], ◌∷◌, ◌++◌, Option, Some, None, refl, ap, sym, ◌∙◌, arith}
 use Rattle.std.proofs.lemmas.List.{take-append-drop, append-nil}
 use Rattle.std.proofs.lemmas.List.Sums.{sum_by-append}
 use Rattle.std.proofs.lemmas.Bool.{eq-eqb, ne_eqb}
+use Rattle.std.proofs.Math.Nat.{lt_of_not-le}
 use mathlib.Core.List.{IsPrefix}
 use Rattle.machine_law.specs.declared.tags.Tag.{Tag}
 use Rattle.hub_core.specs.Journal.{calls_of}
@@ -47,3 +48,13 @@ module _ {E : Type 0} (tag_of : E → Tag) where
       let own : (tag_of h.0).session ≡ tag.session = ap (λ (t : Tag). t.session) h.2 in
       let other : ((tag_of h.0).session == session) ≡ false = ne_eqb (tag_of h.0).session session (λ same. omega (arith, same, own, lt, le)) in
       omega (arith, ap (calls_of tag_of session) h.1, calls_append session before (h.0 ∷ []), calls_one session h.0 false other, seated session le)
+
+  -- each entry of a list is of a session that has a seat
+  pub seated_next : (sessions : ℕ) (xs : List E) (e : E) (ys : List E) → AreSeated tag_of sessions (xs ++ e ∷ ys) → (tag_of e).session < sessions
+  seated_next sessions xs e ys seated =
+      let session = (tag_of e).session in
+      let own : (session == session) ≡ true = eq-eqb session session refl in
+      let parts = calls_append session xs (e ∷ ys) in
+      let rest = calls_append session (e ∷ []) ys in
+      let one = calls_one session e true own in
+      lt_of_not-le (λ le. omega (arith, seated session le, parts, rest, one))

@@ -1,16 +1,16 @@
 //! What lies under the hub's lock, and the steps that are made there.
-ghost use Rattle.std.specs.Prelude.{◌≡◌, ℕ, ◌⊎◌, ◌+◌, ◌≤◌, ◌<◌, ◌^◌, true, false, [], length, IfOk, OnOk, OnErr, IfSome, MatchResult, List, Option, IsTrue, ◌↔◌, slice_get, take, drop};
+ghost use Rattle.std.specs.Prelude.{◌≡◌, ℕ, ◌⊎◌, ◌+◌, ◌≤◌, ◌<◌, ◌^◌, true, false, [], length, IfOk, OnOk, OnErr, IfSome, MatchResult, List, Option, IsTrue, ◌↔◌, slice_get, take, drop, get_or, Some};
 ghost use mathlib.Core.List.{IsPrefix};
 ghost use Rattle.machine_law.specs.Rules.{replay};
 ghost use Rattle.hub_core.specs.Core.{tagged};
 ghost use Rattle.hub_core.specs.Journal.{calls_of, IsJournal, IsMadeBefore};
 ghost use Rattle.hub_core.specs.Paths.{MatchPath, IsPath, IsDone};
 ghost use Rattle.snapshot_hub.specs.Editions.{edition};
-ghost use Rattle.snapshot_hub.specs.Known.{newcomer, caught_up, owing};
+ghost use Rattle.snapshot_hub.specs.Known.{returner, caught_up, owing};
 ghost use Rattle.snapshot_hub.specs.Closings.{AreSeated, IsFront};
 ghost use Rattle.snapshot_hub.specs.Commits.{count_of, IsEntered, IsCommitted};
 
-use crate::press::Press;
+use crate::press::{Press, Publisher};
 use crate::seats::Seats;
 use crate::session::Session;
 use crate::snapshot::Snapshot;
@@ -22,6 +22,11 @@ use std::alloc::Global;
 use std::marker::Model;
 use std::sync::Wait;
 use std::sync::ledger::Ledger;
+
+// So many entries of the journal that a hub begins with are handed over before they are published.
+// Their copies are held until then, and until the second copy of the world takes them: few, since an
+// entry may be as large as an upload.
+const UNPUBLISHED: usize = 16;
 
 /// The journal, and the press that publishes it. Contracts see it as the journal and the part of it that is published.
 ///
@@ -53,44 +58,91 @@ impl<N: HubName, M: Machine, S: Snapshot<N, M>, R: Wait + Drop> Model for Held<N
     ghost invariant = { λ h. (h.entries ≡ h.press.journal) × AreSeated M.rules.tag_of N.sessions h.press.journal };
 }
 
-/// The held value of an empty journal, under the name of these seats, and its sessions in the order of their numbers.
-pub fn start<N: HubName, M: Machine, S: Snapshot<N, M>, R: Wait + Drop>(
+/// The held value of this journal, all of it published, under the name of these seats, and its
+/// sessions in the order of their numbers. Each takes up the calls that the journal has of it.
+pub fn begin<N: HubName, M: Machine, S: Snapshot<N, M>, R: Wait + Drop>(
     alloc: Global,
     rt: R,
     seats: Seats<M::Entry>,
+    journal: CountedJournal<M>,
 ) -> Result<(Held<N, M, S, R>, Vec<Session<N, M, S>>), Memory>
     requires named { seats.opened ≡ N.book }
     requires seated { seats.sessions ≡ N.sessions }
-    ensures held { IfOk result (λ r. r.0 ≡ edition [] []) }
+    requires own { AreSeated M.rules.tag_of N.sessions journal }
+    ensures held { IfOk result (λ r. r.0 ≡ edition journal journal) }
     ensures count { IfOk result (λ r. length r.1.items ≡ seats.sessions) }
-    ensures fresh { IfOk result (λ r. (number : ℕ) → IfSome (slice_get r.1.items number) (λ s. s ≡ newcomer number)) }
+    ensures back { IfOk result (λ r. (number : ℕ) → IfSome (slice_get r.1.items number)
+        (λ s. s ≡ returner number journal (calls_of M.rules.tag_of number journal))) }
 {
     let Seats { opened, sessions } = seats;
     let (tail, front) = opened.named::<N>();
-    let press = Press::new(alloc, rt, tail, front, sessions as usize)?;
-    let sessions = sessions_of(alloc, &press, sessions)?;
+    let mut press = Press::new(alloc, rt, tail, front, sessions as usize)?;
+    let entries = journal.journal();
+    print_all(alloc, &mut press, entries)?;
+    let sessions = returning(alloc, &press, &journal, sessions)?;
     let held = Held {
-        entries: CountedJournal::new(alloc),
+        entries: journal,
         press,
     };
     Ok((held, sessions))
 }
 
-// Sessions of a press that has no entry yet, in the order of their numbers.
-fn sessions_of<N: HubName, M: Machine, S: Snapshot<N, M>, R: Wait + Drop>(
+// Has an empty press take these entries, and publishes them.
+fn print_all<N: HubName, M: Machine, S: Snapshot<N, M>, R: Wait + Drop>(
+    alloc: Global,
+    press: &mut Press<N, M, S, R>,
+    entries: &[M::Entry],
+) -> Result<(), Memory>
+    requires empty { press.old.journal ≡ [] }
+    requires kept { IsFront M.rules N.sessions entries.now }
+    ensures { OnOk result (press.new ≡ edition entries.now entries.now) }
+{
+    offer_all::<M, Press<N, M, S, R>>(alloc, press, entries)?;
+    press.publish()?;
+    Ok(())
+}
+
+// Offers these entries to an outlet that holds none yet, each by a copy of its own. The outlet is any
+// publisher: of a loop over the press itself a check can't tell.
+fn offer_all<M: Machine, O: Publisher<M::Entry>>(
+    alloc: Global,
+    outlet: &mut O,
+    entries: &[M::Entry],
+) -> Result<(), Memory>
+    requires none { O.holds outlet.old ≡ Some [] }
+    requires welcome { (at : O) (place : ℕ) (other : M.Entry) → place < length entries.now → O.holds at ≡ Some (take place entries.now)
+        → O.welcomes at (get_or entries.now place other) }
+    ensures { OnOk result (O.holds outlet.new ≡ Some entries.now) }
+{
+    for (place, entry) in entries.iter().enumerate() {
+        if place % UNPUBLISHED == 0 {
+            outlet.publish_held()?;
+        }
+        let copy = M::copy(alloc, entry)?;
+        outlet.offer(copy)?;
+    }
+    Ok(())
+}
+
+// Sessions that take up the calls of a journal that the press has, in the order of their numbers.
+fn returning<N: HubName, M: Machine, S: Snapshot<N, M>, R: Wait + Drop>(
     alloc: Global,
     press: &Press<N, M, S, R>,
+    journal: &CountedJournal<M>,
     count: u32,
 ) -> Result<Vec<Session<N, M, S>>, Memory>
-    requires empty { press.now.journal ≡ [] }
+    requires same { press.now.journal ≡ journal.now }
     requires seated { count ≤ N.sessions }
     ensures count { IfOk result (λ all. length all.items ≡ count) }
-    ensures fresh { IfOk result (λ all. (number : ℕ) → IfSome (slice_get all.items number) (λ s. s ≡ newcomer number)) }
+    ensures back { IfOk result (λ all. (number : ℕ) → IfSome (slice_get all.items number)
+        (λ s. s ≡ returner number journal.now (calls_of M.rules.tag_of number journal.now))) }
 {
     let mut all = Vec::new(alloc);
     for number in 0..count {
         let reader = press.reader()?;
-        all.push(Session::new(alloc, number, reader, press.front().again()))?;
+        let front = press.front().again();
+        let calls = journal.calls(number);
+        all.push(Session::at(alloc, number, reader, front, calls))?;
     }
     Ok(all)
 }
@@ -157,7 +209,7 @@ impl<N: HubName, M: Machine, S: Snapshot<N, M>, R: Wait + Drop> Held<N, M, S, R>
     {
         let judged = self
             .entries
-            .judge(self.press.shown().world(), &plan, moment, tag, steps)?;
+            .judge(self.press.shown().world(), plan, moment, tag, steps)?;
         let Judged { settled, path } = judged;
         let Settled { answer, entry } = settled;
         let place = self.entries.enter(entry, tag, &mut self.press)?;

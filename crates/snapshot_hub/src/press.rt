@@ -18,6 +18,13 @@ use std::sync::Wait;
 /// The most entries that a journal takes.
 const MOST: u64 = 1 << 62;
 
+/// An outlet that publishes what it holds when it is told to.
+pub(crate) trait Publisher<E: Drop>: Outlet<E> {
+    /// Publishes what it holds. `Memory` leaves that too.
+    fn publish_held(&mut self) -> Result<(), Memory>
+        ensures { Self.holds self.new ≡ Self.holds self.old };
+}
+
 /// The end of the journal, and the writer of the copies. Contracts see it as the journal and the part
 /// of it that is published.
 #[derive(Drop)]
@@ -138,6 +145,13 @@ impl<N: HubName, M: Machine, S: Snapshot<N, M>, R: Wait + Drop> Outlet<M::Entry>
     ghost holds_on = { λ before after left. ap (λ press. Some press.journal) left };
 
     ghost keeps_itself = { λ press. refl };
+}
+
+impl<N: HubName, M: Machine, S: Snapshot<N, M>, R: Wait + Drop> Publisher<M::Entry>
+    for Press<N, M, S, R> {
+    fn publish_held(&mut self) -> Result<(), Memory> {
+        self.publish()
+    }
 }
 
 // Lets the writer have the step that waits. With `Memory` it waits on.

@@ -6,7 +6,8 @@
 ghost use Rattle.std.specs.Prelude.{◌≡◌, ◌<◌, ◌+◌, ◌≤◌, [], false, length, IfOk, IsTrue, ◌↔◌, List};
 ghost use mathlib.Core.List.{IsPrefix};
 ghost use Rattle.machine_law.specs.Rules.{replay};
-ghost use Rattle.snapshot_hub.specs.Known.{newcomer, seeing, IsKnown};
+ghost use Rattle.hub_core.specs.Journal.{calls_of};
+ghost use Rattle.snapshot_hub.specs.Known.{returner, seeing, IsKnown};
 ghost use Rattle.snapshot_hub.specs.Closings.{IsFront};
 
 use crate::snapshot::Snapshot;
@@ -52,21 +53,23 @@ impl<N: HubName, M: Machine, S: Snapshot<N, M>> Model for Session<N, M, S> {
 }
 
 impl<N: HubName, M: Machine, S: Snapshot<N, M>> Session<N, M, S> {
-    // The session of that number, which has seen nothing.
-    pub(crate) fn new(
+    // The session of that number, which takes up the calls that this front has of it.
+    pub(crate) fn at(
         alloc: Global,
         number: u32,
         reader: ReadHandle<S>,
         front: Front<N, M::Entry>,
+        calls: u64,
     ) -> Session<N, M, S>
         requires seat { number < N.sessions }
-        requires empty { front ≡ [] }
-        ensures { result ≡ newcomer number }
+        requires kept { IsFront M.rules N.sessions front }
+        requires calls { calls ≡ calls_of M.rules.tag_of number front }
+        ensures { result ≡ returner number front calls }
     {
         Session {
             alloc,
             reader,
-            standing: Standing::new(number, front),
+            standing: Standing::at(number, front, calls),
         }
     }
 

@@ -5,7 +5,7 @@
 ghost use Rattle.std.specs.Prelude.{◌≡◌, ◌⊎◌, ◌+◌, ◌<◌, ◌^◌, [], true, false, length};
 ghost use mathlib.Core.List.{IsPrefix};
 ghost use Rattle.hub_core.specs.Journal.{calls_of};
-ghost use Rattle.snapshot_hub.specs.Known.{newcomer, seeing, caught_up, owing, IsKnown};
+ghost use Rattle.snapshot_hub.specs.Known.{returner, seeing, caught_up, owing, IsKnown};
 ghost use Rattle.snapshot_hub.specs.Closings.{IsFront};
 
 use machine_law::Machine;
@@ -37,19 +37,20 @@ impl<N: HubName, M: Machine> Model for Standing<N, M> {
 }
 
 impl<N: HubName, M: Machine> Standing<N, M> {
-    /// The standing of a session that has seen nothing.
-    pub fn new(number: u32, front: Front<N, M::Entry>) -> Standing<N, M>
+    /// The standing of a session that takes up the calls that this front has of its number.
+    pub fn at(number: u32, front: Front<N, M::Entry>, calls: u64) -> Standing<N, M>
         requires seat { number < N.sessions }
-        requires empty { front ≡ [] }
-        ensures { result ≡ newcomer number }
+        requires kept { IsFront M.rules N.sessions front }
+        requires calls { calls ≡ calls_of M.rules.tag_of number front }
+        ensures { result ≡ returner number front calls }
     {
         Standing {
             number,
+            anchor: front.len(),
             front,
-            calls: 0,
+            calls,
             owes: false,
             debts: 0,
-            anchor: 0,
         }
     }
 

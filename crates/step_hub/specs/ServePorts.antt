@@ -13,7 +13,7 @@ use Rattle.link_workers.specs.Port.{Visit, ServesPort}
 use Rattle.link_workers.specs.Joined.{all_of}
 use Rattle.step_hub.specs.Steps.{at_front, Allows}
 use Rattle.link_workers.specs.declared.outcome.Outcome.{Outcome}
-use Rattle.link_workers.specs.declared.outcome.Outcome.TheVariants.{Served, Failed, LacksMemory}
+use Rattle.link_workers.specs.declared.outcome.Outcome.TheVariants.{Served, Failed, Unkept, Unmatched, LacksMemory}
 
 -- The message was answered on a beginning of the list that is no shorter than this, and left that beginning, or one with the next entry.
 pub record IsStepOf {E : Type 0} (steps : List E → Message → ℕ → Reply → List E → Type 0)
@@ -70,9 +70,11 @@ pub record ServesAll {C E : Type 0} (steps : C → List E → Message → ℕ �
   pub back : map (λ work. work.after) works ≡ after
   pub some_failed : failed ≡ list_any (λ work. work.failed) works
 
--- what serving ports comes to: want of memory leaves them as they were
+-- what serving ports comes to: no reply is held back, and want of memory leaves them as they were
 abbrev pub ServesPorts : {C E : Type 0} → (C → List E → Message → ℕ → Reply → List E → Type 0) → (List E → Type 0)
     → C → List PortTold → List PortTold → Outcome → Type 0
 ServesPorts steps legal setting before after Served = ServesAll steps legal setting before after false
 ServesPorts steps legal setting before after Failed = ServesAll steps legal setting before after true
+ServesPorts steps legal setting before after Unkept = ⊥
+ServesPorts steps legal setting before after Unmatched = ⊥
 ServesPorts steps legal setting before after LacksMemory = after ≡ before

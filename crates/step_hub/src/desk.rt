@@ -61,12 +61,19 @@ impl<'a, N: HubName, S: Stepped + Drop, R: Wait> StepDesk<'a, N, S, R> {
 }
 
 impl<'a, N: HubName, S: Stepped + Drop, R: Wait> Desk for StepDesk<'a, N, S, R> {
+    ghost use Rattle.std.specs.Prelude.{⊤};
     ghost use Rattle.step_hub.specs.Steps.{Allows};
 
     ghost allows = { λ old message moment reply new. Allows S.steps old message moment reply new };
 
+    ghost tells = { λ _. ⊤ };
+
     fn answer(&mut self, alloc: Global, message: Message, moment: u64) -> Result<Reply, Memory> {
         let mut held = self.hub.held.lock(self.rt);
         held.answer(alloc, self.setting, &mut self.front, &message, moment)
+    }
+
+    fn may_tell(&mut self) -> bool {
+        true
     }
 }

@@ -1,4 +1,5 @@
 use Rattle.http_link.specs.Desk.{counted_reply}
+use Rattle.http_link.specs.Exchange.{Telling}
 use Rattle.http_link.proofs.TurnLemmas.{Replies-from_parts}
 use Rattle.http_link.proofs.turn.answer_message.Goals as goal
 
@@ -6,5 +7,7 @@ pub returns-clause-replies : goal.returns-clause-replies
 returns-clause-replies g c =
     let now = c.now-moment.ensures in
     let writes = rw c.closes-close.ensures at c.send.ensures.writes in
-    Replies-from_parts g.D.Desk.allows _ _ _ _ _ c.args.count c.args.message c.now-moment.result
-    (counted_reply c.answer-answer.result) c.send.result now.trace now.fixed c.answer-answer.ensures.allowed writes
+    let answer = c.answer-answer in
+    let allowed = c.may_tell.ensures.allowed _ _ _ _ answer.ensures.allowed in
+    Replies-from_parts (Telling g.D.Desk.allows g.D.Desk.tells) _ _ _ _ _ c.args.count c.args.message c.now-moment.result
+    (counted_reply answer.result) c.send.result now.trace now.fixed (allowed, c.may_tell.ensures.tells c.if-not-may_tell.false) writes

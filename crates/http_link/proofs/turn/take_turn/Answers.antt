@@ -1,48 +1,53 @@
 use Rattle.std.proofs.Common.{Err, inl, inr, refl, ap, arith}
-use Rattle.http_link.proofs.TurnLemmas.{Step-from_parts, ReadsEnd-from}
+use Rattle.http_link.specs.Exchange.{Telling}
+use Rattle.http_link.proofs.TurnLemmas.{Step-from_parts, Held-from_parts, ReadsEnd-from}
 use Rattle.http_link.proofs.turn.take_turn.Goals as goal
 
-pub returns-in-Err-answer_message-clause-turn : goal.returns-in-Err-answer_message-clause-turn
-returns-in-Err-answer_message-clause-turn g c =
+pub returns-in-None-clause-turn : goal.returns-in-None-clause-turn
+returns-in-None-clause-turn g c =
+    let replies = rw c.in-None.is at c.answer_message.ensures.replies in
+    inr (inr (
+      Held-from_parts c.args.wire.now.body_limit g.D.Desk.allows _ _ _ _ _ _ _ c.args.count c.in-Ok.message (record {}) c.in-Ok.ensures.reads replies,
+      refl,
+    ))
+
+pub returns-in-Some-Err-clause-turn : goal.returns-in-Some-Err-clause-turn
+returns-in-Some-Err-clause-turn g c =
     let reads = c.in-Ok.ensures.reads in
     inl (
-      c.answer_message.result,
-      Step-from_parts c.args.wire.now.body_limit g.D.Desk.allows _ _ _ _ _ _ _ c.args.count c.in-Ok.message c.answer_message.result reads
-          c.answer_message.ensures.replies,
-      rw c.in-Err-answer_message.is refl,
-      λ fails. omega (arith, c.answer_message.ensures.failed fails, reads.taken.others.write_faults),
+      c.in-Some-Err.field-0,
+      Step-from_parts c.args.wire.now.body_limit (Telling g.D.Desk.allows g.D.Desk.tells) _ _ _ _ _ _ _ c.args.count c.in-Ok.message c.in-Some-Err.field-0 reads
+          (rw c.in-Some-Err.is at c.answer_message.ensures.replies),
+      rw c.in-Some-Err.field-0-is refl,
+      λ fails. omega (arith, (rw c.in-Some-Err.is at c.answer_message.ensures.failed) fails, reads.taken.others.write_faults),
     )
 
-pub returns-in-Ok-2-clause-turn : goal.returns-in-Ok-2-clause-turn
-returns-in-Ok-2-clause-turn g c =
+pub returns-then-close-clause-turn : goal.returns-then-close-clause-turn
+returns-then-close-clause-turn g c =
     let reads = c.in-Ok.ensures.reads in
-    let close = c.if-close.false in
-    let same = c.in-Ok-2.is in
     inl (
-      c.answer_message.result,
-      Step-from_parts c.args.wire.now.body_limit g.D.Desk.allows _ _ _ _ _ _ _ c.args.count c.in-Ok.message c.answer_message.result reads
-          c.answer_message.ensures.replies,
-      rw (same, close) refl,
-      λ fails. omega (arith, c.answer_message.ensures.failed fails, reads.taken.others.write_faults),
+      c.in-Some-Ok.field-0,
+      Step-from_parts c.args.wire.now.body_limit (Telling g.D.Desk.allows g.D.Desk.tells) _ _ _ _ _ _ _ c.args.count c.in-Ok.message c.in-Some-Ok.field-0 reads
+          (rw c.in-Some-Ok.is at c.answer_message.ensures.replies),
+      rw (c.in-Some-Ok.field-0-is, c.if-close.true) refl,
+      λ fails. omega (arith, (rw c.in-Some-Ok.is at c.answer_message.ensures.failed) fails, reads.taken.others.write_faults),
     )
 
-pub returns-in-Ok-answer_message-clause-turn : goal.returns-in-Ok-answer_message-clause-turn
-returns-in-Ok-answer_message-clause-turn g c =
+pub returns-else-close-clause-turn : goal.returns-else-close-clause-turn
+returns-else-close-clause-turn g c =
     let reads = c.in-Ok.ensures.reads in
-    let close = c.if-close.true in
-    let same = c.in-Ok-answer_message.is in
     inl (
-      c.answer_message.result,
-      Step-from_parts c.args.wire.now.body_limit g.D.Desk.allows _ _ _ _ _ _ _ c.args.count c.in-Ok.message c.answer_message.result reads
-          c.answer_message.ensures.replies,
-      rw (same, close) refl,
-      λ fails. omega (arith, c.answer_message.ensures.failed fails, reads.taken.others.write_faults),
+      c.in-Some-Ok.field-0,
+      Step-from_parts c.args.wire.now.body_limit (Telling g.D.Desk.allows g.D.Desk.tells) _ _ _ _ _ _ _ c.args.count c.in-Ok.message c.in-Some-Ok.field-0 reads
+          (rw c.in-Some-Ok.is at c.answer_message.ensures.replies),
+      rw (c.in-Some-Ok.field-0-is, c.if-close.false) refl,
+      λ fails. omega (arith, (rw c.in-Some-Ok.is at c.answer_message.ensures.failed) fails, reads.taken.others.write_faults),
     )
 
 pub returns-in-Err-clause-turn : goal.returns-in-Err-clause-turn
 returns-in-Err-clause-turn g c =
     let reads = c.in-Err.ensures.reads in
-    inr (
+    inr (inl (
       g.L.Outside.told c.read_message.new.source,
       c.in-Err.why,
       c.refuse.result,
@@ -55,4 +60,4 @@ returns-in-Err-clause-turn g c =
       },
       c.refuse.ensures,
       refl,
-    )
+    ))
