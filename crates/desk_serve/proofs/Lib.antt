@@ -3,3 +3,6 @@ pub mod Serving
 pub mod Joined
 pub mod Closing
 pub mod Working
+pub mod Keeping
+pub mod KeptJoined
+pub mod KeptWorking

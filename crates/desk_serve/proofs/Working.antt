@@ -25,12 +25,12 @@ use Rattle.desk_serve.proofs.Joined.{LinksChain, ServedStay, Joins, joined, seen
 use Rattle.desk_serve.proofs.Closing.{list_of, within_at_last, calls_at_last}
 use Rattle.desk_serve.proofs.Sound.{PointsConsistent}
 
-cons_same : {A : Type 0} (x y : A) (xs ys : List A) → x ∷ xs ≡ y ∷ ys → (x ≡ y) × (xs ≡ ys)
+pub cons_same : {A : Type 0} (x y : A) (xs ys : List A) → x ∷ xs ≡ y ∷ ys → (x ≡ y) × (xs ≡ ys)
 cons_same x y xs ys same =
     let first : x ≡ y = cc in
     let rest : xs ≡ ys = cc in (first, rest)
 
-nil_other : {A : Type 0} (x : A) (xs : List A) → x ∷ xs ≡ [] → ⊥
+pub nil_other : {A : Type 0} (x : A) (xs : List A) → x ∷ xs ≡ [] → ⊥
 nil_other x xs same = cc
 
 -- ---- lists that were empty, and then took what workers had

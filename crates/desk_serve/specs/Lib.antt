@@ -1,3 +1,5 @@
 pub mod Link
 pub mod Desks
 pub mod Ports
+pub mod Kept
+pub mod KeptPorts

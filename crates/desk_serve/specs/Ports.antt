@@ -16,7 +16,7 @@ use Rattle.desk_serve.specs.Desks.{at_desk}
 use Rattle.server_frame.specs.OnLink.{OnLink}
 use Rattle.desk_serve.specs.Link.{IsListOf, HasItsCalls, ServesLink}
 use Rattle.link_workers.specs.declared.outcome.Outcome.{Outcome}
-use Rattle.link_workers.specs.declared.outcome.Outcome.TheVariants.{Served, Failed, LacksMemory}
+use Rattle.link_workers.specs.declared.outcome.Outcome.TheVariants.{Served, Failed, Unkept, Unmatched, LacksMemory}
 
 -- What a worker was given, and what it gave back: the number of its new session and what that knew behind its last link, its port as
 -- it was handed out and as it came back, and whether accepting failed.
@@ -73,10 +73,12 @@ module _ {S C Q P E K : Type 0} (rules : Rules S C Q P E K) (row : RowOf E) wher
     pub back : map (λ shift. shift.after) (shifts_of works) ≡ after
     pub some_failed : failed ≡ list_any (λ shift. shift.failed) (shifts_of works)
 
-  -- what serving ports comes to: want of memory leaves them as they were
+  -- what serving ports comes to: no reply is held back, and want of memory leaves them as they were
   abbrev pub ServesPorts : Users → List PortTold → List PortTold → Outcome → Type 0
   ServesPorts users before after Served = ServesAll users before after false
   ServesPorts users before after Failed = ServesAll users before after true
+  ServesPorts users before after Unkept = ⊥
+  ServesPorts users before after Unmatched = ⊥
   ServesPorts users before after LacksMemory = after ≡ before
 
   -- ---- for private clauses

@@ -1,11 +1,25 @@
 //! Laws on what a machine keeps, and on a hub that had no memory.
-ghost use Rattle.std.specs.Prelude.{◌≡◌, ℕ, true, List, take};
+ghost use Rattle.std.specs.Prelude.{◌≡◌, ◌≤◌, ◌++◌, ◌∷◌, [], ℕ, Bool, true, List, length, map, take};
+ghost use Rattle.std.specs.List.{AllByRecursion, range_with_len};
+ghost use mathlib.Core.List.{IsPrefix};
 ghost use Rattle.machine_law.specs.Rules.{replay, is_legal};
 ghost use Rattle.osm_outside.specs.Told.{Told};
+ghost use Rattle.osm_outside.specs.Port.{PortTold};
 ghost use Rattle.http_link.specs.declared.end.LinkEnd.TheVariants.{Memory};
 ghost use Rattle.user_table.specs.Users.{Users};
+ghost use Rattle.link_workers.specs.Port.{Visit, ServesEach};
+ghost use Rattle.snapshot_hub.specs.Known.{Known};
+ghost use Rattle.snapshot_hub.specs.Closed.{HasClosed};
+ghost use Rattle.kept_entries.specs.Receipts.{AreKept};
+ghost use Rattle.kept_entries.specs.declared.receipts.Receipt.{Receipt};
+ghost use Rattle.kept_desk.specs.Kept.{AtKept};
 ghost use Rattle.desk_serve.specs.Link.{ServesPipe};
+ghost use Rattle.desk_serve.specs.Kept.{KeepsLink};
+ghost use Rattle.desk_serve.specs.KeptPorts.{KeptJoins, HaveKept, ServesKept};
 
+use journal_file::Device;
+use kept_desk::{kept_links_chain, kept_stay};
+use kept_entries::Lines;
 use machine_law::Machine;
 use server_frame::link_left_alone;
 use session_desk::SessionDesk;
@@ -22,4 +36,37 @@ pub fn pipe_left_alone<N: HubName, M: Machine, S: Snapshot<N, M>, D: SessionDesk
     ensures { (users : Users) (before after : Told) → after ≡ before → ServesPipe M.rules D.answers users before after Memory }
 {
     link_left_alone();
+}
+
+/// A law: what the links of one session tell that keeps before it tells, one after another, is told
+/// together, from any point of the front that it had before the first.
+pub fn kept_links_join<N: HubName, M: Machine, S: Snapshot<N, M>, D: SessionDesk<N, M, S>>()
+    ensures { (old new : AtKept M.Entry) (visits : List Visit) (point : ℕ) → point ≤ length old.desk.known.front
+        → ServesEach (KeepsLink M.rules D.answers) old visits new → KeptJoins M.rules D.answers old new visits point }
+{
+    kept_links_chain::<N, M, S, D>();
+}
+
+/// A law: what it comes to that workers served ports by the first sessions of a hub that began with
+/// the journal J, once that hub is closed. It may have further sessions, which served none. Of the
+/// hub's one list all receipts must be kept, in which those of each session come first.
+pub fn kept_ports_served<
+    N: HubName,
+    M: Machine,
+    S: Snapshot<N, M>,
+    T: Lines<M::Entry>,
+    V: Device,
+    D: SessionDesk<N, M, S>,
+>()
+    ensures { (users : Users) (seats : ℕ) (J : List M.Entry) (before after : List PortTold) (stopped : List (AtKept M.Entry)) (others : List (Known M.Entry))
+        (failed : Bool) (device : V) (receipts : List Receipt) → length before ≤ seats
+        → HaveKept M.rules D.answers users J (range_with_len 0 (length before)) stopped before after failed
+        → (closed : HasClosed M.rules seats (map (λ it. it.desk.known) stopped ++ others)) → IsPrefix J closed.one
+        → AreKept T.text V.moment V.left_since device closed.one receipts → AllByRecursion (λ it. IsPrefix it.receipts receipts) stopped
+        → (r : Receipt) × IsPrefix (r ∷ []) receipts × (r.count ≡ length J)
+        → ServesKept M.rules D.answers T.text V.moment V.left_since users seats J before after failed device }
+{
+    kept_links_chain::<N, M, S, D>();
+    kept_stay::<N, M, S, D>();
+    points_are_consistent::<M>();
 }

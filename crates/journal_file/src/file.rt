@@ -109,6 +109,18 @@ impl<D: Device> JournalFile<D> {
         &self.device
     }
 
+    /// Its device alone.
+    pub fn into_device(self) -> D
+        ensures { result ≡ self.device }
+    {
+        let JournalFile {
+            device,
+            gate: _,
+            broken: _,
+        } = self;
+        device
+    }
+
     /// How many bytes its text has.
     pub fn len(&self) -> usize
         ensures { self.now.broken ≡ false → result ≡ length self.now.text }

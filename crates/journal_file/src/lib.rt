@@ -13,11 +13,7 @@ mod device;
 mod disk;
 mod faults;
 mod file;
-#[cfg(test)]
-mod file_tests;
 mod memory;
-#[cfg(test)]
-mod tests;
 mod text;
 mod write;
 

@@ -1,17 +1,22 @@
 -- The line of an entry is plain.
-use Rattle.std.proofs.Common.{◌^◌, ◌<◌, ℕ, List, [], ◌∷◌, codes, Option, Some, None, refl, arith}
+use Rattle.std.proofs.Common.{◌≡◌, ◌^◌, ◌<◌, ℕ, false, List, [], ◌∷◌, codes, Option, Some, None, refl, arith}
 use Rattle.serde_json.specs.Data.{boolean, string}
+use Rattle.serde_json.specs.Written.{members_text}
 use Rattle.osm_base.specs.declared.people.User.{User}
 use Rattle.osm_element.specs.Tags.{Tag, KeysRise}
 use Rattle.osm_change.specs.declared.operations.Op.{Op}
 use Rattle.osm_json.specs.Again.{IsPlainData}
 use Rattle.osm_json.specs.Rows.{tags as tags_data}
-use Rattle.osm_json.specs.Shown.{field, field_if, natural, record_of}
+use Rattle.osm_json.specs.Shown.{field, field_if, members_of, natural, record_of}
 use Rattle.osm_json.specs.Uploads.{IsChange, change}
 use Rattle.osm_model.specs.declared.commands.Command.{Command}
 use Rattle.osm_model.specs.declared.commands.Command.TheVariants.{CreateChangeset, Retag, CloseChangeset, Upload, Single, MakeRedaction, Redact, Unredact}
 use Rattle.osm_model.specs.declared.commands.Entry.{Entry}
-use Rattle.journal_text.specs.Line.{command, user, line_data, FitsIfSome, IsCommand, IsEntry}
+use Rattle.journal_text.specs.Line.{command, user, line, line_data, entry_fields, FitsIfSome, IsCommand, IsEntry}
+
+pub begins : (e : Entry) → (rest : List ℕ) × (line e ≡ 123 ∷ rest)
+unfolding line_data record_of
+begins e = (members_text false (members_of (entry_fields e)), refl)
 
 module _ (tags_plain : (tags : List Tag) → KeysRise tags → IsPlainData (tags_data tags)) (change_plain : (ops : List Op) → IsChange ops → IsPlainData (change ops)) where
   command_plain : (c : Command) → IsCommand c → IsPlainData (command c)

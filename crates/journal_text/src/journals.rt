@@ -22,7 +22,7 @@ use plain_model::Journal;
 use std::alloc::Global;
 
 /// The lines of the entries, each ended by byte 10, behind what is there already.
-fn lines_behind(bytes: Vec<u8>, entries: &[Entry]) -> Result<Vec<u8>, Memory>
+pub fn lines_behind(bytes: Vec<u8>, entries: &[Entry]) -> Result<Vec<u8>, Memory>
     ensures lines { IfOk result (λ longer. longer.items ≡ bytes.items ++ lines entries.now) }
     ensures typed { OnOk result (All IsEntry entries.now) }
 {

@@ -1,6 +1,7 @@
 //! Laws on texts that are read line by line.
 ghost use Rattle.std.specs.Prelude.{◌≡◌, ◌+◌, ℕ, true, List, [], ◌∷◌, ◌++◌, length, All, None, Some};
 ghost use Rattle.osm_base.specs.Parts.{parted};
+ghost use Rattle.osm_json.specs.Again.{is_one_line};
 ghost use Rattle.osm_model.specs.Journal.{IsLegal};
 ghost use Rattle.osm_model.specs.declared.commands.Entry.{Entry};
 ghost use Rattle.journal_text.specs.Faults.{BeginsWithLine};
@@ -32,6 +33,15 @@ pub fn lines_tell_entries()
     parts_are_read_again();
     values_are_read_again();
     changes_are_read_again();
+}
+
+/// The line of an entry begins with `{`, and no byte 10 stands in it.
+pub fn lines_are_plain()
+    ensures begins { (entry : Entry) → (rest : List ℕ) × (line entry ≡ 123 ∷ rest) }
+    ensures one { (entry : Entry) → IsEntry entry → is_one_line (line entry) ≡ true }
+{
+    texts_are_read_again();
+    parts_are_read_again();
 }
 
 /// Lines that are cut from a text and read one after another are the lines of that text: what is

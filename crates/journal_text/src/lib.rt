@@ -19,9 +19,9 @@ mod write;
 
 pub use entries::read_entry;
 pub use faults::{JournalFault, LineFault};
-pub use journals::{journal_text, read_journal, read_line, read_lines};
+pub use journals::{journal_text, lines_behind, read_journal, read_line, read_lines};
 pub use keepers::Keeper;
-pub use law::{legal_journals_grow, lines_are_read_in_turn, lines_tell_entries};
+pub use law::{legal_journals_grow, lines_are_plain, lines_are_read_in_turn, lines_tell_entries};
 pub use limits::TEXT_LIMIT;
 pub use line::entry_line;
 pub use versions::{HEADER, Version, split_header};

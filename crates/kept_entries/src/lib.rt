@@ -6,8 +6,6 @@ mod keeping;
 mod moment;
 mod receipts;
 mod shelf;
-#[cfg(test)]
-mod tests;
 mod told;
 mod writing;
 

@@ -107,6 +107,20 @@ impl<N: HubName, K: HubName, E, T: Lines<E>, D: Device> Shelf<N, K, E, T, D> {
         self.file.device()
     }
 
+    /// The device of its file alone.
+    pub fn into_device(self) -> D
+        ensures { result ≡ self.device }
+    {
+        let Shelf {
+            file,
+            front: _,
+            tail: _,
+            receipts: _,
+            of: _,
+        } = self;
+        file.into_device()
+    }
+
     /// Whether a call of the device has failed: then nothing more is kept.
     pub fn is_broken(&self) -> bool
         ensures { result ≡ self.now.broken }
@@ -124,6 +138,7 @@ impl<N: HubName, K: HubName, E, T: Lines<E>, D: Device> Shelf<N, K, E, T, D> {
     ) -> Result<(), KeepFault>
         requires { longer ≡ self.old.entries ++ entries.now }
         ensures ok { OnOk result ((self.new.entries ≡ longer) × (last_count self.new.receipts ≡ length longer)) }
+        ensures given { OnOk result ((r : Receipt) × (r.count ≡ length longer) × (self.new.receipts ≡ self.old.receipts ++ r ∷ [])) }
         ensures receipts { IsPrefix self.old.receipts self.new.receipts }
         ensures entries { IsPrefix self.old.entries self.new.entries }
         ensures memory { IsErrOf result KeepFault.Memory → self.new ≡ self.old }

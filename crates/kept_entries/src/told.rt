@@ -68,9 +68,16 @@ impl<K: HubName> Told<K> {
 pub trait Behind<N: HubName, E> {
     ghost use Rattle.std.specs.Prelude.{◌≡◌, ◌++◌, IfOk};
 
+    // What a source may have become, once it was asked or wasn't.
+    ghost becomes: { Self → Self → Type 0 };
+
+    // It may be what it was.
+    ghost stays: { (source : Self) → becomes source source };
+
     /// The entries behind this beginning of the list, and the longer one that they make of it.
     fn behind(&mut self, front: &Front<N, E>) -> Result<(Vec<E>, Front<N, E>), Memory>
-        ensures { IfOk result (λ r. r.1 ≡ front.now ++ r.0.items) };
+        ensures entries { IfOk result (λ r. r.1 ≡ front.now ++ r.0.items) }
+        ensures becomes { becomes self.old self.new };
 }
 
 /// Receipts of which the last is for so many entries at least: those that were given already, or else
@@ -93,7 +100,8 @@ pub fn receipts_for<
     source: &mut B,
     count: u64,
 ) -> Result<Front<K, Receipt>, KeepFault>
-    ensures { IfOk result (λ receipts. count ≤ last_count receipts) }
+    ensures enough { IfOk result (λ receipts. count ≤ last_count receipts) }
+    ensures source { B.becomes source.old source.new }
 {
     if let Some(receipts) = given(rt, told, count) {
         return Ok(receipts);

@@ -8,7 +8,7 @@ returns-in-Ok g c =
     let keeps = g.D.SessionDesk.keeps in
     serves_link rules g.D.SessionDesk.answers g.D.Desk.allows keeps c.args.desk.now c.freshen.new.self c.answer_link-end.new.desk
     (g.L.Outside.told c.args.link.now) (g.L.Outside.told c.answer_link-end.new.link) c.answer_link-end.result
-    c.exchanges_chain.ensures c.in-Ok.ensures.users c.in-Ok.ensures.ok c.answer_link-end.ensures
+    c.exchanges_chain.ensures c.in-Ok.ensures.users c.in-Ok.ensures.ok c.answer_link-end.ensures.answers
     (sound_of rules c.points_are_consistent.ensures (keeps c.answer_link-end.new.desk).known.front c.law.ensures)
 
 pub returns-in-Err : goal.returns-in-Err

@@ -1,0 +1,4 @@
+use Rattle.journal_host.proofs.trace.JournalTrace.beside.Given as goal
+
+abbrev pub ghost-of : goal.ghost-of
+ghost-of g a = g.told

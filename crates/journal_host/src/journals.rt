@@ -1,0 +1,36 @@
+//! What gives the files of journals.
+ghost use Rattle.std.specs.Prelude.{◌≡◌, IfOk, MatchResult};
+ghost use Rattle.journal_file.specs.Device.{Only};
+ghost use Rattle.journal_host.specs.Told.{JournalsTold, asked_at, lent_at, taken_back};
+
+use journal_file::{Device, DiskFault};
+use std::alloc::Global;
+
+/// What gives the files of journals, to be taken up and added to, and takes them back.
+pub trait Journals {
+    ghost use Rattle.journal_host.specs.Told.{JournalsTold};
+
+    type File: Device + Drop + Send;
+
+    // What it was asked for, what it gave and what came back.
+    ghost told: { Self → JournalsTold Self.File };
+
+    /// The file at that path, opened for this caller alone, and the bytes that it has, which are on
+    /// the disk then. Where there is none, one is made with this header and a closed gate.
+    fn lend(
+        &mut self,
+        alloc: Global,
+        path: &str,
+        header: &[u8],
+    ) -> Result<(Self::File, Vec<u8>), DiskFault>
+        ensures read { IfOk result (λ r. r.1.items ≡ Self.File.seen r.0) }
+        ensures durable { IfOk result (λ r. Only (Self.File.seen r.0) (Self.File.may_leave r.0)) }
+        ensures fine { IfOk result (λ r. Self.File.faults r.0 ≡ 0) }
+        ensures told { MatchResult result
+            (λ r. told self.new ≡ lent_at (told self.old) path.now r.1.items)
+            (λ why. told self.new ≡ asked_at (told self.old) path.now) };
+
+    /// Takes back a file that it gave. It takes no memory.
+    fn back(&mut self, file: Self::File)
+        ensures { told self.new ≡ taken_back (told self.old) file };
+}

@@ -1,0 +1,10 @@
+use Rattle.journal_text.specs.Line.{line_data}
+use Rattle.journal_text.proofs.PlainLine.{begins, line_plain}
+use Rattle.journal_text.proofs.law.lines_are_plain.Goals as goal
+
+pub returns-clause-begins : goal.returns-clause-begins
+returns-clause-begins c = begins
+
+pub returns-clause-one : goal.returns-clause-one
+returns-clause-one c =
+    λ e is. c.texts_are_read_again.ensures.line (line_data e) (line_plain c.parts_are_read_again.ensures.tags c.parts_are_read_again.ensures.change e is)

@@ -1,0 +1,109 @@
+//! A crash at each call of a script, in drawn outcomes, recovery, and recovery that crashes.
+use crate::drawn::left_by;
+use crate::texts::{FIRST, HEADER, SECOND, THIRD, joined};
+use journal_file::{AppendFault, Device, JournalFile, MemFile, OpenFault, kept_text};
+use osm_base::Memory;
+use row_tally::Tally;
+use std::alloc::Global;
+
+/// How many outcomes are drawn for each crash.
+const SEEDS: u64 = 40;
+
+/// Whether opening what a crash left finds this text, where so many calls are done and then it crashes
+/// itself.
+fn recovers_after(
+    alloc: Global,
+    file: &[u8],
+    whole: &[u8],
+    left: u64,
+    seed: u64,
+) -> Result<bool, Memory> {
+    let device = MemFile::new(alloc, file.to_vec(alloc)?, left);
+    match JournalFile::open(device, file, HEADER) {
+        Ok(open) => {
+            let again = left_by(alloc, file, open.device().deeds(), seed)?;
+            Ok(
+                kept_text(open.device().bytes()) == whole
+                    && open.len() == whole.len()
+                    && kept_text(&again) == whole,
+            )
+        }
+        Err((why, device)) => {
+            let again = left_by(alloc, file, device.deeds(), seed)?;
+            Ok(why == OpenFault::Failed && kept_text(&again) == whole)
+        }
+    }
+}
+
+/// Whether opening what a crash left finds its text, also where it crashes itself after each of its calls.
+fn recovers(alloc: Global, file: &[u8], seed: u64) -> Result<bool, Memory> {
+    let whole = kept_text(file).to_vec(alloc)?;
+    for left in 0..6_u64 {
+        if !recovers_after(alloc, file, &whole, left, seed)? {
+            return Ok(false);
+        }
+    }
+    Ok(true)
+}
+
+/// A file without lines, which fails after so many calls.
+fn fresh(alloc: Global, first: &[u8], left: u64) -> Result<Option<JournalFile<MemFile>>, Memory> {
+    let device = MemFile::new(alloc, first.to_vec(alloc)?, left);
+    Ok(JournalFile::open(device, first, HEADER).ok())
+}
+
+/// Whether a file that failed takes no lines any more.
+fn is_done_with<D: Device>(file: &mut JournalFile<D>) -> bool {
+    file.is_broken() && file.append(FIRST) == Err(AppendFault::Failed)
+}
+
+/// The lines of the script are added to a file in memory that fails from a call on: what a crash may
+/// leave then has the lines that were acknowledged, and of the next ones all or none.
+fn script_crashes(alloc: Global, left: u64, seed: u64) -> Result<bool, Memory> {
+    let first = joined(alloc, &[HEADER, b"#"])?;
+    let Some(mut file) = fresh(alloc, &first, left)? else {
+        return Ok(false);
+    };
+    let mut before = HEADER.to_vec(alloc)?;
+    let mut after = HEADER.to_vec(alloc)?;
+    for lines in [FIRST, SECOND, THIRD] {
+        after.extend_from_slice(lines)?;
+        if file.append(lines).is_err() {
+            if !is_done_with(&mut file) {
+                return Ok(false);
+            }
+            break;
+        }
+        before = after.to_vec(alloc)?;
+    }
+    let crashed = left_by(alloc, &first, file.device().deeds(), seed)?;
+    let found = kept_text(&crashed);
+    let stands = found == before.as_slice() || found == after.as_slice();
+    Ok(stands && recovers(alloc, &crashed, seed.wrapping_add(1))?)
+}
+
+/// A crash behind so many calls of the script, in each outcome that is drawn.
+fn crashes_after(alloc: Global, left: u64) -> Result<bool, Memory> {
+    for seed in 0..SEEDS {
+        if !script_crashes(alloc, left, seed.wrapping_mul(1_000_003))? {
+            return Ok(false);
+        }
+    }
+    Ok(true)
+}
+
+/// Notes the row of a crash behind so many calls.
+fn note_crash<R: Print>(rt: &R, alloc: Global, tally: &mut Tally, left: u64) -> Result<(), Memory> {
+    let name = format!(in alloc; "a crash behind {left} calls of the script")?;
+    tally.note(rt, name.as_str(), crashes_after(alloc, left));
+    Ok(())
+}
+
+/// The script has fifteen calls: five for each of its three appends.
+pub fn play<R: Print>(rt: &R, alloc: Global, tally: &mut Tally) {
+    for left in 0..16_u64 {
+        if note_crash(rt, alloc, tally, left).is_err() {
+            tally.note(rt, "a crash of the script", Err(Memory));
+        }
+    }
+}

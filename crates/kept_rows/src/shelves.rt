@@ -1,0 +1,172 @@
+//! Marks that are kept in a file in memory: by two threads, by one for many, and where it fails.
+ghost use Rattle.std.specs.Prelude.{◌≡◌, []};
+
+use crate::marks::{HEADER, MARKS, MarkShelf, Marks, Source, text_of};
+use journal_file::{Deed, JournalFile, MemFile, kept_text};
+use kept_entries::{KeepFault, Receipt, Shelf, Told, receipts_for};
+use osm_base::Memory;
+use row_tally::Tally;
+use shared_front::{Front, HubName, Opened, Tail};
+use std::alloc::Global;
+use std::marker::Brand;
+use std::sync::{Mutex, Wait};
+use std::thread::{Threads, join};
+
+/// A shelf with no mark, whose file has so many calls done and then fails.
+fn empty<N: HubName, K: HubName>(
+    alloc: Global,
+    left: u64,
+    front: Front<N, bool>,
+    tail: Tail<K, Receipt>,
+    receipts: Front<K, Receipt>,
+) -> Result<MarkShelf<N, K>, KeepFault>
+    requires marks { front ≡ [] }
+    requires receipts { receipts ≡ [] }
+{
+    let bytes = b"m\n#".to_vec(alloc).map_err(Memory::from)?;
+    let device = MemFile::new(alloc, bytes.to_vec(alloc).map_err(Memory::from)?, left);
+    match JournalFile::open(device, &bytes, &HEADER) {
+        Ok(file) => Ok(Shelf::new(file, front, tail, receipts)),
+        Err(_) => Err(KeepFault::File),
+    }
+}
+
+/// Adds marks, each of which is kept before the next is added: whether all receipts for them stand.
+fn mark<N: HubName, K: HubName, R: Wait>(
+    rt: &R,
+    alloc: Global,
+    shelf: &Mutex<MarkShelf<N, K>>,
+    told: &Mutex<Told<K>>,
+    marks: &Mutex<Marks<N>>,
+    mark: bool,
+) -> Result<bool, KeepFault> {
+    let mut source = Source { rt, alloc, marks };
+    let mut right = true;
+    for _ in 0..MARKS {
+        let count = marks.lock(rt).add(mark)?;
+        let receipts = receipts_for(rt, alloc, shelf, told, &mut source, count)?;
+        right &= shelf.lock(rt).gave(&receipts);
+    }
+    Ok(right)
+}
+
+/// How many syncs there were.
+fn syncs(deeds: &[Deed]) -> u64 {
+    let mut count = 0_u64;
+    for deed in deeds {
+        if matches!(deed, Deed::Synced) {
+            count = count.saturating_add(1);
+        }
+    }
+    count
+}
+
+/// Two threads keep marks in one file. It holds all of both in the end, in the order of the list, and
+/// each receipt took two syncs.
+fn by_two<N: HubName + Send + Sync, K: HubName + Send + Sync, R: Threads + Wait + Sync>(
+    rt: &R,
+    alloc: Global,
+    list: Opened<bool>,
+    receipts: Opened<Receipt>,
+) -> Result<bool, KeepFault>
+    requires list { list ≡ N.book }
+    requires receipts { receipts ≡ K.book }
+{
+    let (tail, front) = list.named::<N>();
+    let (ends, none) = receipts.named::<K>();
+    let shelf = Mutex::new(empty(alloc, u64::MAX, front.again(), ends, none.again())?);
+    let told = Mutex::new(Told::new(none));
+    let marks = Mutex::new(Marks {
+        tail,
+        front,
+        marks: Vec::new(alloc),
+    });
+    let (one, other) = join(
+        rt,
+        || mark(rt, alloc, &shelf, &told, &marks, true),
+        || mark(rt, alloc, &shelf, &told, &marks, false),
+    );
+    let marks = marks.lock(rt);
+    let shelf = shelf.lock(rt);
+    let file = shelf.device();
+    let all = marks.marks.as_slice();
+    let whole = kept_text(file.bytes()) == text_of(alloc, all)?.as_slice();
+    let yes = all.iter().filter(|mark| **mark).count();
+    let given = shelf.receipts().len();
+    let told = told.lock(rt).count();
+    let counted = all.len() == 2 * MARKS && yes == MARKS && told == all.len() as u64;
+    let right = one? && other?;
+    Ok(right && whole && counted && syncs(file.deeds()) == given.saturating_mul(2))
+}
+
+fn two_threads<R: Threads + Wait + Sync>(rt: &R, alloc: Global) -> Result<bool, KeepFault> {
+    by_two::<Brand, Brand, R>(rt, alloc, Opened::new(), Opened::new())
+}
+
+/// One append keeps all marks that there are. Behind a fault nothing is kept and nothing more is asked
+/// of the file, what was told before stands, and a shorter front still has its receipts.
+fn till_it_fails<N: HubName, K: HubName, R: Wait>(
+    rt: &R,
+    alloc: Global,
+    list: Opened<bool>,
+    receipts: Opened<Receipt>,
+) -> Result<bool, KeepFault>
+    requires list { list ≡ N.book }
+    requires receipts { receipts ≡ K.book }
+{
+    let (tail, front) = list.named::<N>();
+    let (ends, none) = receipts.named::<K>();
+    let shelf = Mutex::new(empty(alloc, 7, front.again(), ends, none.again())?);
+    let told = Mutex::new(Told::new(none));
+    let marks = Mutex::new(Marks {
+        tail,
+        front,
+        marks: Vec::new(alloc),
+    });
+    let mut source = Source {
+        rt,
+        alloc,
+        marks: &marks,
+    };
+    for mark in [true, false, true] {
+        marks.lock(rt).add(mark)?;
+    }
+    let first = receipts_for(rt, alloc, &shelf, &told, &mut source, 1)?;
+    let again = receipts_for(rt, alloc, &shelf, &told, &mut source, 3)?;
+    let one = first.len() == 1 && again.len() == 1;
+    let fourth = marks.lock(rt).add(false)?;
+    let failed = receipts_for(rt, alloc, &shelf, &told, &mut source, fourth);
+    let broken = shelf.lock(rt).is_broken();
+    let tried = receipts_for(rt, alloc, &shelf, &told, &mut source, fourth);
+    let third = receipts_for(rt, alloc, &shelf, &told, &mut source, 3)?;
+    let shelf = shelf.lock(rt);
+    let stands = shelf.gave(&third) && third.len() == 1 && shelf.device().deeds().len() == 7;
+    let refused = matches!(failed, Err(KeepFault::File)) && matches!(tried, Err(KeepFault::File));
+    Ok(one && broken && refused && stands)
+}
+
+fn a_fault<R: Wait>(rt: &R, alloc: Global) -> Result<bool, KeepFault> {
+    till_it_fails::<Brand, Brand, R>(rt, alloc, Opened::new(), Opened::new())
+}
+
+/// A fault of the file is a wrong row.
+fn is_right(outcome: Result<bool, KeepFault>) -> Result<bool, Memory> {
+    match outcome {
+        Ok(is_right) => Ok(is_right),
+        Err(KeepFault::Memory) => Err(Memory),
+        Err(KeepFault::File) => Ok(false),
+    }
+}
+
+pub fn play<R: Threads + Wait + Sync + Print>(rt: &R, alloc: Global, tally: &mut Tally) {
+    tally.note(
+        rt,
+        "two threads keep marks",
+        is_right(two_threads(rt, alloc)),
+    );
+    tally.note(
+        rt,
+        "one keeps for many, until a fault",
+        is_right(a_fault(rt, alloc)),
+    );
+}

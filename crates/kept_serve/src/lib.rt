@@ -1,0 +1,13 @@
+//! Serving the links of many ports by the sessions of a hub that began with a journal, by desks that
+//! keep before they tell, for any machine and its desk.
+#![tactic(auto)]
+
+mod makers;
+mod matching;
+mod shelving;
+mod workers;
+
+pub use makers::KeptMaker;
+pub use matching::outcome_of;
+pub use shelving::shelve;
+pub use workers::{KeptBack, serve_kept_by};
