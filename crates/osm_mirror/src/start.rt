@@ -1,15 +1,16 @@
 //! The program over what the system gave.
-ghost use Rattle.std.specs.Prelude.{MatchResult, map, string_bytes};
+ghost use Rattle.std.specs.Prelude.{◌≡◌, true, IfOk, IsTrue, MatchResult, map, string_bytes};
 ghost use Rattle.std.specs.IoError.{error_kind};
 ghost use Rattle.std.specs.Process.{exit_status};
 ghost use Rattle.std.specs.Vec.Iter.{into_iter_items};
-ghost use Rattle.osm_words.specs.Words.{mirror_reading_of};
+ghost use Rattle.osm_words.specs.Words.{mirror_reading_of, until_input_ends};
 ghost use Rattle.server_frame.specs.Standard.{IsUnserved};
 ghost use Rattle.server_frame.specs.Words.{lacking_status};
 ghost use Rattle.mirror_serve.specs.Run.{Runs};
 
 use mirror_serve::mirror;
 use osm_outside::{Host, Link};
+use osm_words::until_input_ends;
 use server_frame::{lacking_status, words_of};
 use std::alloc::Global;
 use std::env::Args;
@@ -55,4 +56,18 @@ pub fn program<H: Host, R: Threads + Wait + Sync, L: Link>(
         Err(why) => lacking_status(&why),
     };
     ExitCode::from(status)
+}
+
+/// Whether `--until-input-ends` stands among the words that the system gave. Where there is no memory for their list the
+/// program ends anyhow.
+pub fn is_until_input_ends(alloc: Global, args: io::Result<Args>) -> bool
+    ensures { IsTrue result → IfOk args (λ words. until_input_ends (map string_bytes (into_iter_items words)) ≡ true) }
+{
+    let Ok(args) = args else {
+        return false;
+    };
+    match words_of(alloc, args) {
+        Ok(words) => until_input_ends(words.as_slice()),
+        Err(_) => false,
+    }
 }

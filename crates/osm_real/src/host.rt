@@ -5,41 +5,46 @@ ghost use Rattle.std.specs.Prelude.{◌≡◌, ◌+◌, take, vec_len, IfOk, IfS
 ghost use Rattle.osm_base.specs.declared.limits.TheConstants.{USERS_LIMIT};
 
 use crate::listen::ListenPort;
+use crate::stop::{LOOK_EACH, Stop};
 use osm_base::{Bytes, USERS_LIMIT};
 use osm_outside::{Host, HostFault, HostTrace, Port};
 use std::alloc::Global;
-use std::fs;
 use std::io::{ErrorKind, Read};
-use std::net::{Net, OpenListener, TcpListener};
+use std::net::{Net, OpenListener, TcpListener, TcpStream};
+use std::os::fd::AsFd;
 use std::rt::{Clock, Files};
+use std::time::Duration;
+use std::{fs, io};
 
-/// A host whose users text is a file, and whose ports share one listener.
+/// A host whose users text is a file, and whose ports share one listener, and have no link to come once the stop was asked for.
 #[derive(Drop)]
-pub struct FileHost<F> {
+pub struct FileHost<'a, F> {
     system: F,
+    stop: &'a Stop,
     faults: u64,
     trace: HostTrace,
 }
 
-impl<F> FileHost<F> {
+impl<'a, F> FileHost<'a, F> {
     /// A host over this system that has had no fault yet.
-    pub fn new(system: F) -> FileHost<F> {
+    pub fn new(system: F, stop: &'a Stop) -> FileHost<'a, F> {
         FileHost {
             system,
+            stop,
             faults: 0,
             trace: HostTrace::new(),
         }
     }
 }
 
-impl<F: Files + Net + Clock + Copy + Send> Host for FileHost<F>
+impl<'a, F: Files + Net + Clock + Copy + Send> Host for FileHost<'a, F>
 where
-    F::Listener: Send,
+    F::Listener: AsFd + Send,
     F::Stream: Send,
 {
     ghost use Rattle.std.specs.Prelude.{None};
 
-    type Port = ListenPort<F::Listener, F>;
+    type Port = ListenPort<'a, F::Listener, F>;
 
     ghost told = { λ h. record {
       users = None;
@@ -67,9 +72,9 @@ where
         alloc: Global,
         address: &str,
         workers: u32,
-    ) -> Result<Vec<ListenPort<F::Listener, F>>, HostFault> {
+    ) -> Result<Vec<ListenPort<'a, F::Listener, F>>, HostFault> {
         self.trace = self.trace.listened_at(address);
-        match ports_at(alloc, &self.system, address, workers) {
+        match ports_at(alloc, &self.system, self.stop, address, workers) {
             Ok(ports) => {
                 self.trace = self.trace.handed(ports.as_slice());
                 Ok(ports)
@@ -82,30 +87,41 @@ where
     }
 
     /// Closes the port's copy of the listener.
-    fn back(&mut self, port: ListenPort<F::Listener, F>) {
+    fn back(&mut self, port: ListenPort<'a, F::Listener, F>) {
         self.trace = self.trace.back(&port);
         drop(port);
     }
 }
 
+/// Has accepting give up now and then, for a look at the stop. Each copy of the listener does so.
+fn look_up<L: AsFd>(listener: &L) -> io::Result<()> {
+    let copy = TcpStream::from(listener.as_fd().try_clone_to_owned()?);
+    copy.set_read_timeout(Some(Duration::from_millis(LOOK_EACH)))
+}
+
 /// So many ports that share one listener at that address.
-fn ports_at<F: Net + Copy>(
+fn ports_at<'a, F: Net + Copy>(
     alloc: Global,
     system: &F,
+    stop: &'a Stop,
     address: &str,
     workers: u32,
-) -> Result<Vec<ListenPort<F::Listener, F>>, HostFault>
+) -> Result<Vec<ListenPort<'a, F::Listener, F>>, HostFault>
+where
+    F::Listener: AsFd,
     ensures { IfOk result (λ ports. vec_len ports ≡ workers) }
 {
     let Ok(listener) = TcpListener::bind(system, address) else {
         return Err(HostFault::Failed);
     };
+    // One that refuses is served all the same, and stops behind the next link that comes.
+    let _ = look_up(&listener);
     let mut ports = Vec::new(alloc);
     'workers: for _ in 0..workers {
         let Ok(copy) = listener.try_clone() else {
             return Err(HostFault::Failed);
         };
-        if ports.push(ListenPort::new(copy, *system)).is_err() {
+        if ports.push(ListenPort::new(copy, *system, stop)).is_err() {
             return Err(HostFault::Memory);
         }
     }

@@ -5,10 +5,18 @@ ghost use Rattle.std.specs.Io.KnownBytes.{ReadConsumes, WriteAppends};
 ghost use Rattle.osm_real.specs.Stream.{HasPassed, patient_over};
 
 use crate::duplex::Duplex;
+use crate::stop::{LOOK_EACH, Stop};
 use std::io;
 use std::io::{ErrorKind, Read, Write};
 use std::rt::Clock;
 use std::time::Duration;
+
+/// How long a read waits for the peer's bytes, and a write for its room, in seconds. Then it fails, which ends the link. An
+/// editor on a slow line may be silent for so long.
+const PEER_WAIT: u64 = 60;
+
+/// How many looks at the stop that takes.
+const LOOKS: u64 = PEER_WAIT * 1_000 / LOOK_EACH;
 
 /// How long reading may go on until something is written, and writing until something is read, in seconds: so long may a peer
 /// take for a whole request, or to take a whole reply. The greatest body of 32 MiB passes at 112 kB a second.
@@ -22,25 +30,28 @@ enum Way {
 }
 
 /// A stream whose calls fail once those of one way have gone on for too long. A peer that sends or takes a little now and then
-/// can't keep it for ever.
+/// can't keep it for ever. Once the stop was asked for its reads fail, and its writes a while later. The calls of the stream that
+/// it is over are to give up every `LOOK_EACH` milliseconds; they are tried again for `PEER_WAIT` seconds.
 #[derive(Drop)]
-pub struct PatientStream<S, C> {
+pub struct PatientStream<'a, S, C> {
     stream: S,
     clock: C,
+    stop: &'a Stop,
     way: Way,
     /// When the calls of this way began, where the clock could be read.
     since: Option<Duration>,
 }
 
-impl<S, C: Clock> PatientStream<S, C> {
+impl<'a, S, C: Clock> PatientStream<'a, S, C> {
     /// A stream whose reads begin now.
-    pub fn new(stream: S, clock: C) -> PatientStream<S, C>
+    pub fn new(stream: S, clock: C, stop: &'a Stop) -> PatientStream<'a, S, C>
         ensures { patient_over result ≡ stream }
     {
         PatientStream {
             since: clock.monotonic().ok(),
             stream,
             clock,
+            stop,
             way: Way::Reads,
         }
     }
@@ -49,18 +60,27 @@ impl<S, C: Clock> PatientStream<S, C> {
     pub fn into_inner(self) -> S
     where
         C: Drop,
-        ensures { result ≡ patient_over self }
+        ensures { result ≡ patient_over self.entry }
     {
         let PatientStream {
             stream,
             clock: _,
+            stop: _,
             way: _,
             since: _,
         } = self;
         stream
     }
 
-    /// Goes on in this way, or fails where that has taken too long.
+    /// Whether the stop ends the calls of this way.
+    fn is_stopped(&self, way: Way) -> bool {
+        match way {
+            Way::Reads => self.stop.is_asked(),
+            Way::Writes => self.stop.is_late(&self.clock),
+        }
+    }
+
+    /// Goes on in this way, or fails where that has taken too long or is stopped.
     fn go_on(&mut self, way: Way) -> io::Result<()>
         ensures { patient_over self.new ≡ patient_over self.old }
     {
@@ -69,7 +89,7 @@ impl<S, C: Clock> PatientStream<S, C> {
             self.way = way;
             self.since = now;
         }
-        if has_passed(self.since, now, TURN_LIMIT) {
+        if has_passed(self.since, now, TURN_LIMIT) || self.is_stopped(way) {
             return Err(io::Error::from(ErrorKind::TimedOut));
         }
         Ok(())
@@ -86,7 +106,7 @@ pub fn has_passed(since: Option<Duration>, now: Option<Duration>, seconds: u64) 
     }
 }
 
-impl<S: Read + Write, C: Clock> Duplex for PatientStream<S, C> {
+impl<'a, S: Read + Write, C: Clock> Duplex for PatientStream<'a, S, C> {
     ghost use Rattle.std.specs.Prelude.{None};
 
     // What a write does to the bytes that the same value will read isn't known, so none are told.
@@ -94,19 +114,35 @@ impl<S: Read + Write, C: Clock> Duplex for PatientStream<S, C> {
 
     ghost held = { λ _. None };
 
+    #[tactic(auto, using(crate::proofs::KeptBytes::keeps_itself, crate::proofs::KeptBytes::keeps_behind, crate::proofs::KeptBytes::reads_behind, crate::proofs::KeptBytes::reads_untold))]
     fn receive(&mut self, into: &mut [u8]) -> io::Result<usize>
         ensures bound { ReadsAtMost result into.new }
         ensures bytes { ReadConsumes (S.remaining (patient_over self.old)) (S.remaining (patient_over self.new)) result into.new }
+        ensures left { ReadConsumes None None result into.new }
     {
-        self.go_on(Way::Reads)?;
-        self.stream.read(into)
+        'looks: for _ in 0..LOOKS {
+            self.go_on(Way::Reads)?;
+            match self.stream.read(into) {
+                Err(why) if why.kind() == ErrorKind::WouldBlock => {}
+                outcome => return outcome,
+            }
+        }
+        Err(io::Error::from(ErrorKind::TimedOut))
     }
 
+    #[tactic(auto, using(crate::proofs::KeptBytes::keeps_itself, crate::proofs::KeptBytes::keeps_behind, crate::proofs::KeptBytes::writes_behind, crate::proofs::KeptBytes::writes_untold))]
     fn send(&mut self, piece: &[u8]) -> io::Result<usize>
         ensures bound { WritesAtMost result piece.now }
         ensures bytes { WriteAppends (S.contents (patient_over self.old)) (S.contents (patient_over self.new)) result piece.now }
+        ensures held { WriteAppends None None result piece.now }
     {
-        self.go_on(Way::Writes)?;
-        self.stream.write(piece)
+        'looks: for _ in 0..LOOKS {
+            self.go_on(Way::Writes)?;
+            match self.stream.write(piece) {
+                Err(why) if why.kind() == ErrorKind::WouldBlock => {}
+                outcome => return outcome,
+            }
+        }
+        Err(io::Error::from(ErrorKind::TimedOut))
     }
 }

@@ -20,7 +20,7 @@ use osm_model::Entry;
 use osm_outside::{Link, NoGate, Outside};
 use route_table::Routes;
 use server_frame::link_left_alone;
-use session_desk::SessionDesk;
+use session_desk::HasSession;
 use shared_front::HubName;
 use snapshot_hub::Seats;
 use std::alloc::Global;

@@ -26,7 +26,7 @@ use osm_base::Memory;
 use osm_model::Entry;
 use osm_outside::{Gate, Link, NoGate, Outside, Port, PortOutside};
 use route_table::Routes;
-use session_desk::SessionDesk;
+use session_desk::HasSession;
 use shared_front::HubName;
 use snapshot_hub::Seats;
 use std::alloc::Global;

@@ -81,6 +81,28 @@ workers_untold : reading_of (codes "osm" ∷ codes "serve" ∷ codes "--users=u"
 unfolding clap_on_literals
 workers_untold = refl
 
+served_until_the_input_ends : reading_of (codes "osm" ∷ codes "serve" ∷ codes "--users=u" ∷ codes "--until-input-ends" ∷ codes "--listen=l" ∷ codes "--workers=1" ∷ [])
+    ≡ Some (serve (codes "u") (codes "l") 1)
+unfolding clap_on_literals
+served_until_the_input_ends = refl
+
+until_with_a_value : reading_of (codes "osm" ∷ codes "serve" ∷ codes "--users=u" ∷ codes "--listen=l" ∷ codes "--workers=1" ∷ codes "--until-input-ends=true" ∷ []) ≡ None
+unfolding clap_on_literals
+until_with_a_value = refl
+
+until_twice : reading_of (codes "osm" ∷ codes "serve" ∷ codes "--users=u" ∷ codes "--listen=l" ∷ codes "--workers=1" ∷ codes "--until-input-ends" ∷ codes "--until-input-ends" ∷ [])
+    ≡ None
+unfolding clap_on_literals
+until_twice = refl
+
+no_path_of_that_name : reading_of (codes "osm" ∷ codes "serve" ∷ codes "--users" ∷ codes "--until-input-ends" ∷ codes "--listen=l" ∷ codes "--workers=1" ∷ []) ≡ None
+unfolding clap_on_literals
+no_path_of_that_name = refl
+
+not_of_pipe : reading_of (codes "osm" ∷ codes "pipe" ∷ codes "--users=u" ∷ codes "--until-input-ends" ∷ []) ≡ None
+unfolding clap_on_literals
+not_of_pipe = refl
+
 signed_address : reading_of (codes "osm" ∷ codes "serve" ∷ codes "--users=u" ∷ codes "--listen=-l" ∷ codes "--workers=1" ∷ []) ≡ None
 unfolding clap_on_literals
 signed_address = refl
@@ -156,6 +178,15 @@ mirror_of_too_many_workers : mirror_reading_of (codes "osm_mirror" ∷ codes "--
 unfolding clap_on_literals
 mirror_of_too_many_workers = refl
 
+mirrored_until_the_input_ends : mirror_reading_of (codes "osm_mirror" ∷ codes "--until-input-ends" ∷ codes "--users=u" ∷ codes "--listen=l" ∷ codes "--workers=1" ∷ [])
+    ≡ Some (listens (codes "u") (codes "l") 1)
+unfolding clap_on_literals
+mirrored_until_the_input_ends = refl
+
+mirror_that_ends_anyhow : mirror_reading_of (codes "osm_mirror" ∷ codes "--users=u" ∷ codes "--until-input-ends" ∷ []) ≡ None
+unfolding clap_on_literals
+mirror_that_ends_anyhow = refl
+
 mirror_with_a_command : mirror_reading_of (codes "osm_mirror" ∷ codes "pipe" ∷ codes "--users=u" ∷ []) ≡ None
 unfolding clap_on_literals
 mirror_with_a_command = refl
@@ -175,3 +206,8 @@ of_notes_by_the_clock = refl
 of_notes_at_an_address : reading_of (codes "osm" ∷ codes "serve-notes" ∷ codes "--users=u" ∷ codes "--listen=a" ∷ codes "--workers=2" ∷ []) ≡ Some (serve_notes (codes "u") (codes "a") 2)
 unfolding clap_on_literals
 of_notes_at_an_address = refl
+
+of_notes_until_the_input_ends : reading_of (codes "osm" ∷ codes "serve-notes" ∷ codes "--users=u" ∷ codes "--listen=a" ∷ codes "--workers=2" ∷ codes "--until-input-ends" ∷ [])
+    ≡ Some (serve_notes (codes "u") (codes "a") 2)
+unfolding clap_on_literals
+of_notes_until_the_input_ends = refl

@@ -1,5 +1,5 @@
 -- How the words of the command line are read.
-use Rattle.std.specs.Prelude.{◌≡◌, ◌<◌, ◌≤◌, ⊤, ℕ, Bool, List, ◌∷◌, codes, Option, Some, None, Result, Ok, Err, if◌then◌else◌}
+use Rattle.std.specs.Prelude.{◌≡◌, ◌<◌, ◌≤◌, ⊤, ℕ, Bool, true, false, List, ◌∷◌, codes, Option, Some, None, Result, Ok, Err, if◌then◌else◌}
 use Rattle.std.specs.Option.{option_map, option_and_then}
 use Rattle.std.specs.List.{list_any}
 use Rattle.std.specs.Str.{bytes_eq}
@@ -13,7 +13,7 @@ use Rattle.osm_words.specs.declared.words.MirrorWords.{MirrorWords}
 use Rattle.osm_words.specs.declared.words.MirrorWords.TheVariants.{Standard, Listen}
 use Rattle.osm_words.specs.declared.words.WordsFault.{WordsFault}
 use Rattle.osm_words.specs.declared.words.WordsFault.TheVariants.{NoReading, Memory}
-use Rattle.osm_words.specs.Values.{text_of, number_in, fitting}
+use Rattle.osm_words.specs.Values.{is_set, text_of, number_in, fitting}
 use Rattle.osm_base.specs.Number.{whole_of}
 use Rattle.osm_words.specs.Commands.{pipe_app, serve_app, load_app, mirror_app, plain, found}
 
@@ -108,6 +108,11 @@ named_reading _ = None
 abbrev pub has_end_mark : List Text → Bool
 has_end_mark words = list_any (λ word. bytes_eq word (codes "--")) words
 
+-- `--until-input-ends` stands among the words. Where they have a reading it is the flag: no value begins with a hyphen. It changes
+-- no reading, but what the program serves: ports that end with the standard input.
+abbrev pub until_input_ends : List Text → Bool
+until_input_ends words = list_any (λ word. bytes_eq word (codes "--until-input-ends")) words
+
 -- the reading of the words, the program's name first
 abbrev pub reading_of : List Text → Option Reading
 reading_of words = if has_end_mark words then None else named_reading words
@@ -135,9 +140,16 @@ mirror_by users None (Some address) (Some count) =
     option_and_then (λ listen. option_map (λ workers. listens users listen workers) (number_in 1 SESSION_LIMIT count)) (text_of address)
 mirror_by users _ _ _ = None
 
+-- What doesn't listen isn't told to end with its input: it does so anyhow.
+abbrev pub mirror_until : Bool → Text → Option Text → Option Text → Option Text → Option MirrorReading
+mirror_until true users at None workers = None
+mirror_until true users at (Some address) workers = mirror_by users at (Some address) workers
+mirror_until false users at listen workers = mirror_by users at listen workers
+
 abbrev pub mirror_of : List Row → Option MirrorReading
 mirror_of rows =
-    option_and_then (λ users. mirror_by users (first_of (codes "at") rows) (first_of (codes "listen") rows) (first_of (codes "workers") rows))
+    option_and_then (λ users. mirror_until (is_set (first_of (codes "until-input-ends") rows)) users (first_of (codes "at") rows) (first_of (codes "listen") rows)
+    (first_of (codes "workers") rows))
     (option_and_then text_of (first_of (codes "users") rows))
 
 -- the reading of a mirror's words, the program's name first, whatever it is

@@ -1,12 +1,12 @@
 //! What `clap` is told of each command, and what it finds in words.
 ghost use Rattle.std.specs.Prelude.{◌≡◌, IfOk, map, string_bytes, true, false};
 ghost use Rattle.clap.specs.Words.{app_of, rule_of, with_rule, is_simple_and_free, kind_of};
-ghost use Rattle.osm_words.specs.Commands.{option, plain, pipe_app, serve_app, load_app, mirror_app, found};
+ghost use Rattle.osm_words.specs.Commands.{option, flag, plain, pipe_app, serve_app, load_app, mirror_app, found};
 ghost use Rattle.osm_words.specs.Found.{Finds, Tells};
 
 use crate::words::WordsFault;
 use clap::error::ErrorKind;
-use clap::{Arg, ArgMatches, Command, Error};
+use clap::{Arg, ArgAction, ArgMatches, Command, Error};
 use std::alloc::{AllocError, Global};
 
 /// An option with one value, which may be given once.
@@ -15,6 +15,14 @@ fn option<'a>(alloc: Global, name: &'a str, is_needed: bool) -> Arg<'a>
     ensures local { result.global ≡ false }
 {
     Arg::new(alloc, name).long(name).required(is_needed)
+}
+
+/// An option without a value, which may be given once.
+fn flag<'a>(alloc: Global, name: &'a str) -> Arg<'a>
+    ensures rule { rule_of result ≡ flag name.entry.now }
+    ensures local { result.global ≡ false }
+{
+    Arg::new(alloc, name).long(name).action(ArgAction::SetTrue)
 }
 
 /// A command without options. The flags for help and version that `clap` would add have no reading.
@@ -38,6 +46,17 @@ fn with_option<'a>(
     command.arg(option(alloc, name, is_needed))
 }
 
+/// The command with one more flag.
+fn with_flag<'a>(
+    alloc: Global,
+    command: Command<'a>,
+    name: &'a str,
+) -> Result<Command<'a>, AllocError>
+    ensures { IfOk result (λ made. app_of made ≡ with_rule (app_of command.entry) (flag name.entry.now)) }
+{
+    command.arg(flag(alloc, name))
+}
+
 /// `NAME --users FILE [--at SECONDS]`.
 pub fn pipe<'a>(alloc: Global, name: &'a str) -> Result<Command<'a>, AllocError>
     ensures { IfOk result (λ command. app_of command ≡ pipe_app name.entry.now) }
@@ -46,13 +65,14 @@ pub fn pipe<'a>(alloc: Global, name: &'a str) -> Result<Command<'a>, AllocError>
     with_option(alloc, needed, "at", false)
 }
 
-/// `NAME --users FILE --listen ADDRESS --workers N`.
+/// `NAME --users FILE --listen ADDRESS --workers N [--until-input-ends]`.
 pub fn serve<'a>(alloc: Global, name: &'a str) -> Result<Command<'a>, AllocError>
     ensures { IfOk result (λ command. app_of command ≡ serve_app name.entry.now) }
 {
     let named = with_option(alloc, plain(alloc, name), "users", true)?;
     let placed = with_option(alloc, named, "listen", true)?;
-    with_option(alloc, placed, "workers", true)
+    let manned = with_option(alloc, placed, "workers", true)?;
+    with_flag(alloc, manned, "until-input-ends")
 }
 
 /// `NAME --seed N --sessions N --uploads N`.
@@ -65,14 +85,15 @@ pub fn load<'a>(alloc: Global, name: &'a str) -> Result<Command<'a>, AllocError>
 }
 
 /// `osm_mirror --users FILE`, and what a mirror may be told besides: `--at SECONDS`, or
-/// `--listen ADDRESS --workers N`.
+/// `--listen ADDRESS --workers N [--until-input-ends]`.
 pub fn mirror<'a>(alloc: Global) -> Result<Command<'a>, AllocError>
     ensures { IfOk result (λ command. app_of command ≡ mirror_app) }
 {
     let needed = with_option(alloc, plain(alloc, "osm_mirror"), "users", true)?;
     let timed = with_option(alloc, needed, "at", false)?;
     let placed = with_option(alloc, timed, "listen", false)?;
-    with_option(alloc, placed, "workers", false)
+    let manned = with_option(alloc, placed, "workers", false)?;
+    with_flag(alloc, manned, "until-input-ends")
 }
 
 /// Words that are refused have no reading, but for want of memory.

@@ -8,5 +8,5 @@ mod reading;
 mod values;
 mod words;
 
-pub use reading::{read_mirror_words, read_words};
+pub use reading::{read_mirror_words, read_words, until_input_ends};
 pub use words::{LoadOptions, MirrorWords, UPLOAD_LIMIT, UPLOADS_A_SESSION, Words, WordsFault};

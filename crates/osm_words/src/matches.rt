@@ -1,11 +1,12 @@
 //! The options in what `clap` found.
 //!
 //! A mirror's words have no command, and the address and the workers tell that it listens: both or
-//! none, and with them no moment, as the server's `serve` has none. `clap` is told all four
+//! none, and with them no moment, as the server's `serve` has none; only what listens may be told to
+//! end with its input. `clap` is told all five
 //! options of one simple command, and which of them stand together is looked at behind it.
 ghost use Rattle.std.specs.Prelude.{◌≡◌, ◌≤◌, IfSome, Some, None, option_map, option_and_then};
 ghost use Rattle.clap.specs.Words.{first_of, found_of, rows_of};
-ghost use Rattle.osm_words.specs.Values.{text_of, number_in};
+ghost use Rattle.osm_words.specs.Values.{is_set, text_of, number_in};
 ghost use Rattle.osm_base.specs.Number.{whole_of};
 ghost use Rattle.osm_words.specs.Words.{HasSessions, HaveSessions, HaveWorkers, shown, shown_mirror, pipe_of, serve_of, load_of, mirror_by, mirror_of};
 
@@ -32,6 +33,16 @@ fn number_in(matches: &ArgMatches<'_>, name: &str, least: u32, most: u32) -> Opt
     ensures most { IfSome result (λ made. made ≤ most) }
 {
     checked(number_at(matches, name)?, least, most)
+}
+
+/// Whether the flag was given.
+fn is_set(matches: &ArgMatches<'_>, name: &str) -> bool
+    ensures { result ≡ is_set (first_of name.now (rows_of (found_of matches.now))) }
+{
+    match value_of(matches, name) {
+        Some(text) => text == "true",
+        None => false,
+    }
 }
 
 fn text_at<'a>(matches: &ArgMatches<'a>, name: &str) -> Option<&'a str>
@@ -113,6 +124,9 @@ pub fn mirror_of<'a>(matches: &ArgMatches<'a>) -> Option<MirrorWords<'a>>
     let at = value_of(matches, "at");
     let listen = value_of(matches, "listen");
     let workers = value_of(matches, "workers");
+    if listen.is_none() && is_set(matches, "until-input-ends") {
+        return None;
+    }
     match (at, listen, workers) {
         (None, None, None) => Some(MirrorWords::Standard { users, at: None }),
         (Some(at), None, None) => standard_at(users, at),

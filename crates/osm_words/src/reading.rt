@@ -5,7 +5,7 @@
 //! `--` is tested before, since clap would take it. Values are checked by the program: numbers are
 //! digits alone, and what an address is the host says, not the words.
 ghost use Rattle.std.specs.Prelude.{◌≡◌, IfOk, map, string_bytes};
-ghost use Rattle.osm_words.specs.Words.{Gives, GivesLoad, GivesMirror, HasSessions, HaveSessions, HaveWorkers, reading_of, mirror_reading_of, command_reading, of_notes, shown, pipe_reading, serve_reading, load_reading, replay_reading, has_end_mark};
+ghost use Rattle.osm_words.specs.Words.{Gives, GivesLoad, GivesMirror, HasSessions, HaveSessions, HaveWorkers, reading_of, mirror_reading_of, until_input_ends, command_reading, of_notes, shown, pipe_reading, serve_reading, load_reading, replay_reading, has_end_mark};
 
 use crate::commands::{find, load, mirror, pipe, plain, serve};
 use crate::matches::{load_of, mirror_of, pipe_of, serve_of};
@@ -103,11 +103,21 @@ fn has_end_mark(words: &[String]) -> bool
     words.iter().any(|word| word.as_str() == "--")
 }
 
+/// Whether the server is to end with its standard input: whether `--until-input-ends` stands among the words.
+/// Where they have a reading it is the flag, since no value begins with `-`.
+pub fn until_input_ends(words: &[String]) -> bool
+    ensures { result ≡ until_input_ends (map string_bytes words.now) }
+{
+    words
+        .iter()
+        .any(|word| word.as_str() == "--until-input-ends")
+}
+
 /// Reads the words of the command line: the program's name, a command's name, and the command's
 /// options as `--name VALUE` or `--name=VALUE`, in any order and each at most once.
 ///
 /// `pipe` needs `users`, a path, and may have `at`. `serve` needs `users`, `listen`, an address, and
-/// `workers`, from 1 to 64. `measure` and `export` need `seed`, `sessions` from 1 to 64, and
+/// `workers`, from 1 to 64, and may have the flag `until-input-ends`, which has no value. `measure` and `export` need `seed`, `sessions` from 1 to 64, and
 /// `uploads`, at most 909 for each session. `replay` has no options. `notes` and `serve-notes` are
 /// `pipe` and `serve` of the server of notes. A path or an address is any
 /// text that isn't empty and doesn't begin with `-`. Numbers are digits alone, below 2^64. All other
@@ -129,7 +139,8 @@ pub fn read_words<'a>(alloc: Global, words: &'a [String]) -> Result<Words<'a>, W
 /// those of `read_words`.
 ///
 /// `users` is needed, a path. With `listen`, an address, and `workers`, from 1 to 64, it listens;
-/// without both it serves the standard link, and there may be `at`. All other words have no reading.
+/// without both it serves the standard link, and there may be `at`. Where it listens there may be the flag
+/// `until-input-ends`. All other words have no reading.
 pub fn read_mirror_words<'a>(
     alloc: Global,
     words: &'a [String],

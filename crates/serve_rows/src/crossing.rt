@@ -17,7 +17,7 @@ use osm_outside::{Link, MemPort, Outside};
 use osm_serve::serve_link;
 use route_table::Routes;
 use row_tally::Tally;
-use session_desk::SessionDesk;
+use session_desk::HasSession;
 use shared_front::HubName;
 use snapshot_hub::Seats;
 use std::alloc::Global;

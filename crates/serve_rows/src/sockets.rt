@@ -3,7 +3,7 @@ use crate::replies::{reply, reply_of};
 use crate::texts::{CREATION, NO_NOTE, NOTE_READ, UPLOAD, UPLOADED, USERS};
 use notes_serve::notes_all;
 use osm_base::{Memory, SESSION_LIMIT};
-use osm_real::ListenPort;
+use osm_real::{ListenPort, Stop};
 use osm_serve::serve_ports;
 use row_tally::Tally;
 use server_frame::Outcome;
@@ -24,7 +24,7 @@ const WORKERS: u32 = 2;
 /// How long a link waits for its reply, in seconds.
 const REPLY_WAIT: u64 = 20;
 
-type TcpPort = ListenPort<TcpListener, HostRuntime>;
+type TcpPort<'a> = ListenPort<'a, TcpListener, HostRuntime>;
 
 /// Sends a request, and answers whether that reply comes.
 fn ask<S: Read + Write>(
@@ -130,10 +130,14 @@ fn talk_and_end<R: Net>(
     is_right
 }
 
-fn ports_on(rt: HostRuntime, listener: &TcpListener) -> io::Result<Vec<TcpPort>> {
+fn ports_on<'a>(
+    rt: HostRuntime,
+    listener: &TcpListener,
+    stop: &'a Stop,
+) -> io::Result<Vec<TcpPort<'a>>> {
     let mut ports = Vec::new(rt.alloc());
     for _ in 0..WORKERS {
-        ports.push(ListenPort::new(listener.try_clone()?, rt))?;
+        ports.push(ListenPort::new(listener.try_clone()?, rt, stop))?;
     }
     Ok(ports)
 }
@@ -146,12 +150,12 @@ enum Served {
 }
 
 /// Serves the ports to their end.
-fn serve<R: Threads + Wait + Sync>(
+fn serve<'a, R: Threads + Wait + Sync>(
     rt: &R,
     alloc: Global,
     served: Served,
     users: &UserTable,
-    mut ports: Vec<TcpPort>,
+    mut ports: Vec<TcpPort<'a>>,
 ) -> Option<Outcome> {
     if ports.is_empty() || ports.len() > SESSION_LIMIT as usize {
         return None;
@@ -159,10 +163,10 @@ fn serve<R: Threads + Wait + Sync>(
     let count = ports.len() as u32;
     let outcome = match served {
         Served::Map => {
-            serve_ports::<Brand, R, TcpPort>(rt, alloc, Seats::new(count), users, &mut ports)
+            serve_ports::<Brand, R, TcpPort<'a>>(rt, alloc, Seats::new(count), users, &mut ports)
         }
         Served::Notes => {
-            notes_all::<Brand, R, TcpPort>(rt, alloc, Seats::new(count), users, &mut ports)
+            notes_all::<Brand, R, TcpPort<'a>>(rt, alloc, Seats::new(count), users, &mut ports)
         }
     };
     Some(outcome)
@@ -178,7 +182,8 @@ fn serves<R: Threads + Wait + Sync>(
 ) -> io::Result<bool> {
     let listener = TcpListener::bind(&rt, "127.0.0.1:0")?;
     let address = listener.local_addr()?;
-    let ports = ports_on(rt, &listener)?;
+    let stop = Stop::new();
+    let ports = ports_on(rt, &listener, &stop)?;
     let (is_right, outcome) = join(
         handle,
         || talk_and_end(&rt, rt.alloc(), address, talk, listener),

@@ -8,6 +8,7 @@ mod meeting;
 mod patience;
 mod seated;
 mod sockets;
+mod stopping;
 
 use row_tally::Tally;
 use std::io;
@@ -21,6 +22,7 @@ fn main(rt: HostRuntime) -> io::Result<ExitCode> {
     flaky::play(rt, &mut tally);
     patience::play(&rt, &mut tally);
     sockets::play(&rt, rt, &mut tally);
+    stopping::play(&rt, rt, &mut tally);
     tally.tell(&rt)?;
     if tally.is_right() {
         Ok(ExitCode::SUCCESS)

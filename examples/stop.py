@@ -1,0 +1,144 @@
+#!/usr/bin/env python3
+"""Whether a server stops in order: examples/stop.py [PROGRAM] [--links 64] [--seconds 2] [--wait 60]
+
+Starts `PROGRAM serve --until-input-ends`, puts links under load for some seconds, each with a request behind the last reply, and closes the
+program's input. Half of the links read and half make changesets; a few more are silent. Then this has to hold:
+
+- each reply that came, came whole, and the link ended behind it;
+- the program ends by itself with status 0 within 10 seconds, and nobody takes links any more.
+
+PROGRAM is crates/osm/out/osm where none is named. Status 0 where all holds, 1 where something doesn't, 2 where it can't be run.
+"""
+
+from __future__ import annotations
+
+import argparse
+import os
+import subprocess
+import sys
+import tempfile
+import threading
+import time
+
+from serving import Lost, Replies, connect, free_port, request
+
+HERE = os.path.dirname(os.path.abspath(__file__))
+PROGRAM = os.path.join(HERE, "..", "crates", "osm", "out", "osm")
+WORKERS = 64
+SILENT = 4  # links that say nothing
+LIMIT = 10  # seconds that a stop may take
+
+
+class Client(threading.Thread):
+    """A link that asks until the server ends it."""
+
+    def __init__(self, port: int, number: int) -> None:
+        super().__init__()
+        self.port, self.stream = port, connect(port, 60)
+        self.message = request("PUT", "changeset/create", "token1", {"tags": {}}) if number % 2 else request("GET", "changesets")
+        self.answered, self.wrong = 0, ""
+
+    def run(self) -> None:
+        replies = Replies(self.stream)
+        try:
+            while True:
+                self.stream.sendall(self.message)
+                reply = replies.next()
+                if reply.status != 200:
+                    self.wrong = f"status {reply.status}"
+                    return
+                self.answered += 1
+                if reply.closes:
+                    self.stream.close()
+                    self.stream = connect(self.port, 60)
+                    replies = Replies(self.stream)
+        except (Lost, OSError):
+            if replies.held:
+                self.wrong = f"a reply was cut off: {replies.held[:60]!r}"
+        finally:
+            self.stream.close()
+
+
+class Program:
+    """The program, which ends with its input."""
+
+    def __init__(self, words: list[str], folder: str, wait: float) -> None:
+        self.port = free_port()
+        users = os.path.join(folder, "users.txt")
+        with open(users, "w") as file:
+            file.write("1 token1 user user1\n")
+        words = [*words, "serve", "--until-input-ends", "--users", users, "--listen", f"127.0.0.1:{self.port}"]
+        self.process = subprocess.Popen([*words, "--workers", str(WORKERS)], stdin=subprocess.PIPE)
+        until = time.monotonic() + wait
+        while not self.listens():
+            if self.process.poll() is not None or time.monotonic() > until:
+                self.process.kill()
+                raise SystemExit(f"{words[0]} takes no links, and has the status {self.process.wait()}")
+            time.sleep(0.05)
+
+    def listens(self) -> bool:
+        try:
+            connect(self.port).close()
+        except OSError:
+            return False
+        return True
+
+    def close_input(self) -> None:
+        assert self.process.stdin
+        self.process.stdin.close()
+
+    def status(self, limit: float) -> tuple[int | None, float]:
+        """The status with which it ends by itself within so many seconds, or none; and how long that took."""
+        begun = time.monotonic()
+        try:
+            status: int | None = self.process.wait(limit)
+        except subprocess.TimeoutExpired:
+            self.process.kill()
+            self.process.wait()
+            status = None
+        return status, time.monotonic() - begun
+
+
+def try_stop(words: list[str], links: int, seconds: float, wait: float) -> list[str]:
+    with tempfile.TemporaryDirectory() as folder:
+        program = Program(words, folder, wait)
+        silent = [connect(program.port) for _ in range(SILENT)]
+        clients = [Client(program.port, number) for number in range(links)]
+        for client in clients:
+            client.start()
+        time.sleep(seconds)
+        wrong = [] if program.process.poll() is None else ["the program ended before its input did"]
+        program.close_input()
+        status, taken = program.status(LIMIT)
+        for client in clients:
+            client.join()
+        for stream in silent:
+            stream.close()
+        wrong += [client.wrong for client in clients if client.wrong]
+        if status != 0:
+            wrong.append(f"the status is {status}, not 0, after {taken:.1f} seconds")
+        if program.listens():
+            wrong.append("links are still taken")
+        print(f"{sum(it.answered for it in clients)} replies on {links} links; it stopped in {taken:.2f} seconds")
+    return wrong
+
+
+def main() -> int:
+    parser = argparse.ArgumentParser(usage=(__doc__ or "").split("\n\n")[0].partition(": ")[2])
+    parser.add_argument("program", nargs="?", default=PROGRAM)
+    parser.add_argument("--links", type=int, default=WORKERS - SILENT)
+    parser.add_argument("--seconds", type=float, default=2)
+    parser.add_argument("--wait", type=float, default=60)
+    it = parser.parse_args()
+    if not os.access(it.program, os.X_OK):
+        print(f"there is no program {it.program}: ./osm builds it", file=sys.stderr)
+        return 2
+    wrong = try_stop([it.program], it.links, it.seconds, it.wait)
+    for fault in wrong[:20]:
+        print("wrong:", fault)
+    print(f"{len(wrong)} wrong")
+    return 1 if wrong else 0
+
+
+if __name__ == "__main__":
+    sys.exit(main())
