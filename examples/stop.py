@@ -1,5 +1,5 @@
 #!/usr/bin/env python3
-"""Whether a server stops in order: examples/stop.py [PROGRAM] [--links 64] [--seconds 2] [--wait 60]
+"""Whether a server stops in order: examples/stop.py [PROGRAM] [--links 60] [--seconds 2] [--wait 60]
 
 Starts `PROGRAM serve --until-input-ends`, puts links under load for some seconds, each with a request behind the last reply, and closes the
 program's input. Half of the links read and half make changesets; a few more are silent. Then this has to hold:
