@@ -1,19 +1,63 @@
 -- Serving a link by a desk that keeps before it tells.
-use Rattle.std.proofs.Common.{◌≡◌, ℕ, ◌≤◌, inl, inr, List, [], length, refl, ap, ◌∙◌, subst, arith}
+use Rattle.std.proofs.Common.{◌≡◌, ℕ, ◌≤◌, inl, inr, List, [], ◌∷◌, length, refl, ap, ◌∙◌, subst, arith}
 use Rattle.osm_outside.specs.Told.{Told}
-use Rattle.http_link.specs.Exchange.{Exchange}
+use Rattle.http_wire.specs.declared.message.Message.{Message}
+use Rattle.http_link.specs.declared.desk.Reply.{Reply}
+use Rattle.http_link.specs.Exchange.{Exchange, Chain, Telling}
 use Rattle.http_link.specs.Link.{AreTold}
 use Rattle.http_link.specs.declared.end.LinkEnd.{LinkEnd}
-use Rattle.http_link.specs.declared.end.LinkEnd.TheVariants.{Memory}
+use Rattle.http_link.specs.declared.end.LinkEnd.TheVariants.{Memory, Unkept}
 use Rattle.machine_law.specs.Rules.{Rules}
 use Rattle.user_table.specs.Users.{Users}
 use Rattle.server_frame.specs.OnLink.{AnswersLinkTold}
-use Rattle.session_desk.specs.Answered.{RowOf, IsFresh, HasServed}
+use Rattle.session_desk.specs.Answered.{AtDesk, RowOf, IsFresh, HasServed}
 use Rattle.kept_desk.specs.Kept.{AtKept, Tells, AllowsKept, Sending, sendings, exchanges_in, HasKeptAndTold}
 use Rattle.kept_desk.proofs.Told.{none_told}
 use Rattle.desk_serve.specs.Link.{IsSound}
 use Rattle.desk_serve.specs.Kept.{KeepsLink}
 use Rattle.desk_serve.proofs.Serving.{LinksLeftAlone, nothing_served}
+
+-- What is allowed is so of what is seen of it.
+module _ {D X : Type 0} (view : D → X) where
+  -- one relation, seen as another
+  abbrev IsSeen : (D → Message → ℕ → Reply → D → Type 0) → (X → Message → ℕ → Reply → X → Type 0) → Type 0
+  IsSeen allows allows_seen = (old new : D) (message : Message) (moment : ℕ) (reply : Reply) → allows old message moment reply new
+      → allows_seen (view old) message moment reply (view new)
+
+  chain_seen : (allows : D → Message → ℕ → Reply → D → Type 0) (allows_seen : X → Message → ℕ → Reply → X → Type 0) → IsSeen allows allows_seen
+      → (old new : D) (exchanges : List Exchange) → Chain allows old exchanges new → Chain allows_seen (view old) exchanges (view new)
+  chain_seen allows allows_seen seen old new [] same = ap view same
+  chain_seen allows allows_seen seen old new (e ∷ exchanges) (mid, is, more) =
+      (view mid, seen old mid e.message e.moment e.answer is, chain_seen allows allows_seen seen mid new exchanges more)
+
+  module _ (allows : D → Message → ℕ → Reply → D → Type 0) (tells : D → Type 0) (allows_seen : X → Message → ℕ → Reply → X → Type 0) (tells_seen : X → Type 0)
+      (seen : IsSeen allows allows_seen) (told : (it : D) → tells it → tells_seen (view it)) where
+    telling_seen : IsSeen (Telling allows tells) (Telling allows_seen tells_seen)
+    telling_seen old new message moment reply h = (seen old new message moment reply h.0, told new h.1)
+
+    told_seen : (old new : D) (exchanges : List Exchange) (end : LinkEnd) → AreTold allows tells old exchanges new end
+        → AreTold allows_seen tells_seen (view old) exchanges (view new) end
+    told_seen old new exchanges Unkept (front, last, mid, are, chain, is) = (
+      front,
+      last,
+      view mid,
+      are,
+      chain_seen (Telling allows tells) (Telling allows_seen tells_seen) telling_seen old mid front chain,
+      seen mid new last.message last.moment last.answer is,
+    )
+    told_seen old new exchanges other h = chain_seen (Telling allows tells) (Telling allows_seen tells_seen) telling_seen old new exchanges h
+
+    -- a link that was answered
+    pub answers_seen : (old new : D) (before after : Told) (end : LinkEnd) → AnswersLinkTold allows tells old new before after end
+        → AnswersLinkTold allows_seen tells_seen (view old) (view new) before after end
+    answers_seen old new before after end h = record {
+      answers = record {
+        exchanges = h.answers.exchanges;
+        link = h.answers.link;
+        answered = chain_seen allows allows_seen seen old new h.answers.exchanges h.answers.answered;
+      };
+      told = told_seen old new h.answers.exchanges end h.told;
+    }
 
 -- the exchanges of a link are the same, however it ended
 abbrev pub SameExchanges : Type 0
@@ -30,6 +74,11 @@ module _ {E : Type 0} (row : RowOf E) where
   abbrev pub ToldIsServed : Type 0
   ToldIsServed = (users : Users) (old new : AtKept E) (point : ℕ) (told : List Sending) → HasKeptAndTold row users old point told new
       → HasServed row users old.desk.known point (exchanges_in told) new.desk.known
+
+-- what is sound of a session's desk is so of the same desk
+pub sound_at : {S C Q P E K : Type 0} (rules : Rules S C Q P E K) (desk other : AtDesk E) → desk ≡ other
+    → IsSound rules desk.known.front → IsSound rules other.known.front
+sound_at {E = E} rules desk other same h = subst (λ (d : AtDesk E). IsSound rules d.known.front) same h
 
 module _ {S C Q P E K : Type 0} (rules : Rules S C Q P E K) (row : RowOf E) where
   pub keeps_link : (old fresh new : AtKept E) (before after : Told) (end : LinkEnd) → ToldChain row → ToldIsServed row → SameExchanges

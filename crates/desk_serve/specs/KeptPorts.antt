@@ -1,6 +1,6 @@
 -- What serving the links of ports does by the sessions of one hub, which began with a journal, and whose replies are sent only once what
 -- they tell of is kept.
-use Rattle.std.specs.Prelude.{◌≡◌, ℕ, ◌≤◌, Bool, false, List, [], ◌∷◌, ◌++◌, length, map}
+use Rattle.std.specs.Prelude.{◌≡◌, ℕ, ◌≤◌, Bool, List, [], ◌∷◌, ◌++◌, length, map}
 use Rattle.std.specs.List.{AllByRecursion, AllZip, list_any, range_with_len}
 use mathlib.Core.List.{IsPrefix}
 use Rattle.osm_outside.specs.Port.{PortTold}

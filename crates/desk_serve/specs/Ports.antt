@@ -1,5 +1,5 @@
 -- What serving the links of ports by the sessions of one hub does, for any machine.
-use Rattle.std.specs.Prelude.{◌≡◌, ℕ, Bool, true, false, List, [], ◌∷◌, map, length}
+use Rattle.std.specs.Prelude.{◌≡◌, ℕ, Bool, true, false, List, map, length}
 use Rattle.std.specs.List.{AllByRecursion, AllZip, list_any, range_with_len}
 use mathlib.Core.List.{IsPrefix}
 use Rattle.osm_outside.specs.Port.{PortTold}

@@ -28,7 +28,7 @@ pub struct JournalFile<D: Device> {
 }
 
 impl<D: Device> Model for JournalFile<D> {
-    ghost use Rattle.std.specs.Prelude.{◌≡◌, false};
+    ghost use Rattle.std.specs.Prelude.{◌≡◌, ◌<◌, true, false};
     ghost use Rattle.journal_file.specs.Whole.{text_of};
     ghost use Rattle.journal_file.specs.Settled.{Kept, kept, IsSettled};
 
@@ -36,7 +36,8 @@ impl<D: Device> Model for JournalFile<D> {
 
     ghost view = { λ f. kept f.device (text_of (D.seen f.device)) f.broken };
 
-    ghost invariant = { λ f. f.broken ≡ false → IsSettled (D.seen f.device) (D.may_leave f.device) f.gate (text_of (D.seen f.device)) × (D.faults f.device ≡ 0) };
+    ghost invariant = { λ f. (f.broken ≡ false → IsSettled (D.seen f.device) (D.may_leave f.device) f.gate (text_of (D.seen f.device)) × (D.faults f.device ≡ 0))
+        × (f.broken ≡ true → 0 < D.faults f.device) };
 }
 
 impl<D: Device> JournalFile<D> {
@@ -135,8 +136,11 @@ impl<D: Device> JournalFile<D> {
         self.broken
     }
 
-    /// A law: while no call of the device has failed, every crash leaves the text.
+    /// A law: while no call of the device has failed, every crash leaves the text. The file is broken
+    /// just where one has.
     pub fn law(&self)
+        ensures fine { self.now.broken ≡ false → D.faults self.now.device ≡ 0 }
+        ensures failed { self.now.broken ≡ true → 0 < D.faults self.now.device }
         ensures stands { self.now.broken ≡ false → (c : List ℕ) → D.may_leave self.now.device c → text_of c ≡ self.now.text }
         ensures text { self.now.broken ≡ false → IsText self.now.text }
     {

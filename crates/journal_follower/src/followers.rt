@@ -44,6 +44,13 @@ impl Follower {
         }
     }
 
+    /// A follower that goes on from what this keeper keeps. It takes no memory.
+    pub fn of(keeper: BookKeeper) -> Follower
+        ensures { result ≡ keeper }
+    {
+        Follower { keeper }
+    }
+
     /// How many entries are kept: the number of the last folded piece, or 0.
     pub fn length(&self) -> u64
         ensures { result ≡ length self.now }

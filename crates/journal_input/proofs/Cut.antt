@@ -1,9 +1,9 @@
 -- A text that is cut at its first such byte, with bytes before it or behind it.
-use Rattle.std.proofs.Common.{◌≡◌, ℕ, ◌+◌, ◌<◌, Bool, true, false, cond, not, List, [], ◌++◌, length, take, drop, Option, Some, None, refl, sym, ap, ◌∙◌, arith, length-append, length-drop, ne_eqb}
+use Rattle.std.proofs.Common.{◌≡◌, ℕ, suc, ◌+◌, ◌<◌, Bool, true, false, cond, not, List, [], ◌∷◌, ◌++◌, length, take, drop, Option, Some, None, refl, sym, ap, ◌∙◌, append-nil, arith, length-append, length-drop, ne_eqb}
 use Rattle.std.specs.Prelude.{nat_lt, unwrap_or, ◌==◌}
 use Rattle.std.specs.List.{position_or_len}
 use Rattle.std.proofs.Math.Seq.{take-append-add, drop-append-add}
-use Rattle.std.proofs.lemmas.Bool.{lt-ltb, le-ltb, ltb-true, ltb-false, eq-eqb}
+use Rattle.std.proofs.lemmas.Bool.{lt-ltb, le-ltb, ltb-true, ltb-false, eq-eqb, eqb-true}
 use Rattle.std.proofs.lemmas.List.{take-append-le, drop-append-le}
 use Rattle.std.proofs.lemmas.List.Folds.{prefix_len-append}
 use Rattle.std.proofs.lemmas.List.Sums.{prefix_len-le-length}
@@ -23,12 +23,12 @@ module _ (c : ℕ) where
   abbrev cut_by : Bool → ℕ → List ℕ → Cut
   cut_by b n text = cond b (Some (take n text, drop (n + 1) text)) None
 
-  record IsCut (text first rest : List ℕ) : Type 0 where
-    within : place text < length text
-    front : take (place text) text ≡ first
-    back : drop (place text + 1) text ≡ rest
+  pub record IsCut (text first rest : List ℕ) : Type 0 where
+    pub within : place text < length text
+    pub front : take (place text) text ≡ first
+    pub back : drop (place text + 1) text ≡ rest
 
-  cut_is : (text first rest : List ℕ) → parted c text ≡ Some (first, rest) → IsCut text first rest
+  pub cut_is : (text first rest : List ℕ) → parted c text ≡ Some (first, rest) → IsCut text first rest
   cut_is text first rest is = by (nat_lt (place text) (length text)) refl is
     where
       by : (b : Bool) → nat_lt (place text) (length text) ≡ b → cut_by b (place text) text ≡ Some (first, rest) → IsCut text first rest
@@ -39,7 +39,7 @@ module _ (c : ℕ) where
       }
       by false e same = absurd (none_some (first, rest) same)
 
-  no_cut : (text : List ℕ) → parted c text ≡ None → place text ≡ length text
+  pub no_cut : (text : List ℕ) → parted c text ≡ None → place text ≡ length text
   no_cut text is = by (nat_lt (place text) (length text)) refl is
     where
       by : (b : Bool) → nat_lt (place text) (length text) ≡ b → cut_by b (place text) text ≡ None → place text ≡ length text
@@ -101,3 +101,37 @@ module _ (c : ℕ) where
   pub uncut_both : (xs ys : List ℕ) → parted c xs ≡ None → parted c ys ≡ None → parted c (xs ++ ys) ≡ None
   uncut_both xs ys none also =
       uncut (xs ++ ys) (place_behind xs ys (no_cut xs none) ∙ ap (λ (n : ℕ). length xs + n) (no_cut ys also) ∙ sym (length-append xs ys))
+
+  -- ---- what was cut
+
+  -- the place of the first such byte, where the first byte is one or is not
+  abbrev place_by : Bool → List ℕ → ℕ
+  place_by b xs = cond (not b) (1 + place xs) 0
+
+  rejoined : (text : List ℕ) → place text < length text → text ≡ take (place text) text ++ c ∷ drop (place text + 1) text
+  rejoined [] h = absurd (omega arith)
+  rejoined (x ∷ xs) h = by (x == c) refl h (λ within. rejoined xs within)
+    where
+      by : (b : Bool) → (x == c) ≡ b → place_by b xs < length (x ∷ xs) → (place xs < length xs → xs ≡ take (place xs) xs ++ c ∷ drop (place xs + 1) xs)
+          → x ∷ xs ≡ take (place_by b xs) (x ∷ xs) ++ c ∷ drop (place_by b xs + 1) (x ∷ xs)
+      by true e h again = ap (λ y. y ∷ xs) (eqb-true x c e)
+      by false e h again =
+          let n = place xs in
+          let step : 1 + n ≡ suc n = omega arith in
+          let later : 1 + n + 1 ≡ suc (n + 1) = omega arith in
+          let within : n < length xs = omega arith in
+          ap (λ ys. x ∷ ys) (again within)
+          ∙ ap (λ ys. ys ++ c ∷ drop (n + 1) xs) (ap (λ m. take m (x ∷ xs)) (sym step))
+          ∙ ap (λ ys. take (1 + n) (x ∷ xs) ++ c ∷ ys) (ap (λ m. drop m (x ∷ xs)) (sym later))
+
+  pub cut_text : (text first rest : List ℕ) → parted c text ≡ Some (first, rest) → text ≡ first ++ c ∷ rest
+  cut_text text first rest is =
+      let cut = cut_is text first rest is in
+      rejoined text cut.within ∙ ap (λ (l : List ℕ). l ++ c ∷ drop (place text + 1) text) cut.front ∙ ap (λ (l : List ℕ). first ++ c ∷ l) cut.back
+
+  at_once : (more : List ℕ) → parted c (c ∷ more) ≡ Some ([], more)
+  at_once more = cut_at (c ∷ more) 0 (ap (λ (b : Bool). place_by b more) (eq-eqb c c refl)) (omega arith)
+
+  -- an uncut text is cut at such a byte behind it
+  pub cut_there : (text more : List ℕ) → position_or_len (is_byte c) text ≡ length text → parted c (text ++ c ∷ more) ≡ Some (text, more)
+  cut_there text more all = cut_behind text (c ∷ more) [] more (uncut text all) (at_once more) ∙ ap (λ (l : List ℕ). Some (l, more)) (append-nil text)

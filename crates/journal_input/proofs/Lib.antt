@@ -1,6 +1,9 @@
 mod Received
 mod SoFarLemmas
 mod Cut
+mod Gates
+mod Places
+mod Texts
 mod LinesLemmas
 mod Ends
 mod Exits

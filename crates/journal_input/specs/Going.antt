@@ -1,9 +1,10 @@
 -- An input whose lines were judged so far.
-use Rattle.std.specs.Prelude.{◌≡◌, ℕ, ◌+◌, ◌<◌, ◌≤◌, List, [], ◌++◌, length, None}
+use Rattle.std.specs.Prelude.{◌≡◌, ℕ, ◌+◌, ◌<◌, ◌≤◌, Bool, true, false, List, [], ◌∷◌, ◌++◌, length, None, Result, Ok, Err}
 use Rattle.std.specs.List.{concat}
 use Rattle.osm_base.specs.Parts.{parted}
 use Rattle.osm_model.specs.declared.commands.Entry.{Entry}
 use Rattle.osm_outside.specs.Told.{Told, Rose}
+use Rattle.osm_outside.specs.declared.outside.Failed.{Failed}
 use Rattle.http_wire.specs.Received.{Taken, HaveBytes}
 use Rattle.journal_text.specs.Faults.{IsFault}
 use Rattle.journal_text.specs.Lines.{Reads, IsLinesFault, IsRefused}
@@ -13,7 +14,9 @@ use Rattle.journal_text.specs.declared.faults.JournalFault.TheVariants as fault
 use Rattle.journal_text.specs.declared.limits.TheConstants.{TEXT_LIMIT}
 use Rattle.journal_text.specs.declared.versions.Version.{Version}
 use Rattle.journal_text.specs.declared.versions.Version.TheVariants.{Two}
+use Rattle.journal_input.specs.Gate.{before_gate}
 use Rattle.journal_input.specs.Input.{IsInput, IsStopped, IsOfNone}
+use Rattle.journal_input.specs.Place.{has_gate_first}
 use Rattle.journal_input.specs.declared.faults.InputFault.{InputFault}
 use Rattle.journal_input.specs.declared.faults.InputFault.TheVariants as why
 use Rattle.journal_input.specs.declared.lines.Lines.{Lines}
@@ -39,19 +42,29 @@ Stops (why.Text other) before after = ⊥
 
 -- ---- lines
 
--- Of all these bytes the lines before the rest were judged, whatever follows: their entries are kept, the begun line has no byte 10, and it has the next number.
+-- Of all these bytes the lines before the rest were judged: their entries are kept, whatever follows. The begun line has no byte 10, is no gate, and has the next number.
 pub record Stands (version : Version) (bytes : List ℕ) (journal : List Entry) (lines : Lines) (rest : List ℕ) : Type 0 where
-  pub reads : (more : List ℕ) → Reads version (bytes ++ more) journal ((lines.begun.items ++ rest) ++ more)
+  pub front : List ℕ
+  pub is : bytes ≡ front ++ rest
+  pub reads : (more : List ℕ) → Reads version (front ++ more) journal (lines.begun.items ++ more)
   pub open_line : parted 10 lines.begun.items ≡ None
+  pub no_gate : has_gate_first lines.begun.items ≡ false
   pub number : lines.number ≡ length journal + 2
 
--- the lines have this fault, whatever follows
-pub record LinesFail (version : Version) (why : JournalFault) (bytes : List ℕ) : Type 0 where
-  pub fails : (more : List ℕ) → IsLinesFault version why (bytes ++ more) × IsRefused version why (bytes ++ more)
+-- Of all these bytes the lines before a gate were judged, and no line is begun there.
+pub record Closes (version : Version) (bytes : List ℕ) (journal : List Entry) : Type 0 where
+  pub front : List ℕ
+  pub behind : List ℕ
+  pub is : bytes ≡ front ++ 35 ∷ behind
+  pub reads : Reads version front journal []
 
--- the text has this fault, whatever follows, where it isn't too long
+-- the lines before the gate have this fault, whatever follows
+pub record LinesFail (version : Version) (why : JournalFault) (bytes : List ℕ) : Type 0 where
+  pub fails : (more : List ℕ) → IsLinesFault version why (before_gate (bytes ++ more)) × IsRefused version why (before_gate (bytes ++ more))
+
+-- the text before the gate has this fault, whatever follows, where it isn't too long
 pub record Fails (why : JournalFault) (text : List ℕ) : Type 0 where
-  pub fails : (more : List ℕ) → length (text ++ more) ≤ TEXT_LIMIT → IsFault why (text ++ more) × IsOfNone why (text ++ more)
+  pub fails : (more : List ℕ) → length (before_gate (text ++ more)) ≤ TEXT_LIMIT → IsFault why (before_gate (text ++ more)) × IsOfNone why (before_gate (text ++ more))
 
 -- ---- the input
 
@@ -61,3 +74,14 @@ pub record Gone (version : Version) (before now : Told) (journal : List Entry) (
   pub so_far : SoFar before now (header version ++ bytes)
   pub size : count ≡ length (header version ++ bytes)
   pub stands : Stands version bytes journal lines []
+
+-- The rest of an input was read, and the answer is whether the text before its gate is too long.
+pub record RestIs (is_long : Bool) (before now : Told) (text : List ℕ) : Type 0 where
+  pub more : List ℕ
+  pub input : IsInput before now (text ++ more)
+  pub long : is_long ≡ true → TEXT_LIMIT < length (before_gate (text ++ more))
+  pub within : is_long ≡ false → length (before_gate (text ++ more)) ≤ TEXT_LIMIT
+
+abbrev pub IsRestRead : Result Bool Failed → Told → Told → List ℕ → Type 0
+IsRestRead (Ok is_long) before now text = RestIs is_long before now text
+IsRestRead (Err why) before now text = IsStopped before now × Rose before.read_faults now.read_faults

@@ -9,6 +9,7 @@ use Rattle.journal_text.specs.Text.{IsTextOf}
 use Rattle.journal_text.specs.declared.faults.JournalFault.{JournalFault}
 use Rattle.journal_text.specs.declared.faults.JournalFault.TheVariants as fault
 use Rattle.journal_text.specs.declared.limits.TheConstants.{TEXT_LIMIT}
+use Rattle.journal_input.specs.Gate.{before_gate}
 use Rattle.journal_input.specs.declared.faults.InputFault.{InputFault}
 use Rattle.journal_input.specs.declared.faults.InputFault.TheVariants.{Failed, Text}
 
@@ -28,24 +29,24 @@ pub record IsStopped (before after : Told) : Type 0 where
 
 -- ---- what it comes to
 
--- The input is the text of this journal, and of no other.
+-- What stands before the gate of the input is the text of this journal, and of no other.
 pub record IsOfJournal (before after : Told) (journal : List Entry) : Type 0 where
   pub text : List ℕ
   pub input : IsInput before after text
-  pub is : IsTextOf text journal
-  pub only : (es : List Entry) → IsTextOf text es → journal ≡ es
+  pub is : IsTextOf (before_gate text) journal
+  pub only : (es : List Entry) → IsTextOf (before_gate text) es → journal ≡ es
 
 -- The text is that of no journal, unless memory ran out.
 abbrev pub IsOfNone : JournalFault → List ℕ → Type 0
 IsOfNone fault.Memory text = ⊤
 IsOfNone other text = (es : List Entry) → IsTextOf text es → ⊥
 
--- The input is a text with this fault.
+-- What stands before the gate of the input is a text with this fault.
 pub record HasFault (before after : Told) (why : JournalFault) : Type 0 where
   pub text : List ℕ
   pub input : IsInput before after text
-  pub fault : IsFault why text
-  pub none : IsOfNone why text
+  pub fault : IsFault why (before_gate text)
+  pub none : IsOfNone why (before_gate text)
 
 -- where each fault comes
 abbrev pub IsInputFault : InputFault → Told → Told → Type 0

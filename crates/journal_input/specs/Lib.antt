@@ -1,2 +1,4 @@
+pub mod Gate
 pub mod Going
 pub mod Input
+pub mod Place

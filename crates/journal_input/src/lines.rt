@@ -1,10 +1,13 @@
 //! The lines of an input, which are judged as soon as they are whole.
-ghost use Rattle.std.specs.Prelude.{◌≡◌, ◌<◌, ◌≤◌, ◌+◌, ◌^◌, None, ◌++◌, [], List, ℕ, length, IfOk, IfErr, OnOk};
-ghost use Rattle.osm_base.specs.Parts.{parted};
+ghost use Rattle.std.specs.Prelude.{◌≡◌, ◌<◌, ◌≤◌, ◌+◌, ◌^◌, ◌&&◌, ◌++◌, ◌==◌, true, false, [], List, ℕ, length, IfOk, IfErr, OnOk};
 ghost use Rattle.journal_text.specs.Lines.{Follows, FollowsAlone, IsLineFault};
-ghost use Rattle.journal_input.specs.Going.{Stands, LinesFail};
+ghost use Rattle.journal_input.specs.Going.{Closes, LinesFail, Stands};
+ghost use Rattle.journal_input.specs.Place.{has_gate_first, place_of};
 
-use journal_text::{JournalFault, Keeper, Version, lines_are_read_in_turn, read_line};
+use crate::gate::{Place, has_gate_first};
+use journal_text::{
+    JournalFault, Keeper, Version, lines_are_plain, lines_are_read_in_turn, read_line,
+};
 use osm_base::split_once;
 use std::alloc::Global;
 
@@ -17,29 +20,57 @@ pub(crate) struct Lines {
     pub number: u64,
 }
 
-/// Judges the lines that a piece ends, and begins the next one with what stands behind them.
+impl Lines {
+    /// What the next byte is.
+    pub(crate) fn place(&self) -> Place
+        ensures { result ≡ place_of self.now.begun.items }
+    {
+        if self.begun.is_empty() {
+            Place::LineStart
+        } else {
+            Place::InLine
+        }
+    }
+}
+
+/// Judges the lines that a piece ends, and begins the next one with what stands behind them. The
+/// answer is whether there is a gate in the piece. Then no line is begun, and what stands behind the
+/// gate isn't looked at.
 pub(crate) fn judge_piece<K: Keeper>(
     alloc: Global,
     version: Version,
     lines: &mut Lines,
     piece: &[u8],
     keeper: &mut K,
-) -> Result<(), JournalFault>
+) -> Result<bool, JournalFault>
     requires { lines.old.number + length piece.now < 2 ^ 63 }
-    ensures judged { OnOk result ((bytes : List ℕ) → Stands version bytes (K.kept keeper.old) lines.old []
+    ensures whole { IfOk result (λ is_closed. is_closed ≡ false → (bytes : List ℕ) → Stands version bytes (K.kept keeper.old) lines.old []
         → Stands version (bytes ++ piece.now) (K.kept keeper.new) lines.new []) }
+    ensures gate { IfOk result (λ is_closed. is_closed ≡ true → (bytes : List ℕ) → Stands version bytes (K.kept keeper.old) lines.old []
+        → Closes version (bytes ++ piece.now) (K.kept keeper.new)) }
     ensures number { OnOk result (lines.new.number ≤ lines.old.number + length piece.now) }
     ensures fault { IfErr result (λ why. (bytes : List ℕ) → Stands version bytes (K.kept keeper.old) lines.old []
         → LinesFail version why (bytes ++ piece.now)) }
 {
+    lines_are_plain();
     lines_are_read_in_turn();
     let mut rest = piece;
-    'ends: while let Some((end, behind)) = split_once(rest, b'\n') {
+    'ends: while !is_at_gate(lines, rest) {
+        let Some((end, behind)) = split_once(rest, b'\n') else {
+            begin(lines, rest)?;
+            return Ok(false);
+        };
         judge_line(alloc, version, lines, end, keeper)?;
         rest = behind;
     }
-    begin(lines, rest)?;
-    Ok(())
+    Ok(true)
+}
+
+/// Whether no line is begun, and these bytes begin with a gate.
+fn is_at_gate(lines: &Lines, bytes: &[u8]) -> bool
+    ensures { result ≡ ((length lines.now.begun.items == 0) && has_gate_first bytes.now) }
+{
+    lines.begun.is_empty() && has_gate_first(bytes)
 }
 
 /// Judges the line that these bytes end.

@@ -24,6 +24,15 @@ pub record AtKept (E : Type 0) : Type 0 where
 abbrev pub at_kept : {E : Type 0} → AtDesk E → ℕ → List Receipt → AtKept E
 at_kept desk tells_of receipts = record { desk = desk; tells_of = tells_of; receipts = receipts }
 
+-- a keeper: how many entries the last reply of its desk may tell of, and the receipts that it has in hand
+pub record InHand : Type 0 where
+  pub tells_of : ℕ
+  pub receipts : List Receipt
+
+-- a desk and its keeper
+abbrev pub kept_by : {E : Type 0} → AtDesk E → InHand → AtKept E
+kept_by desk keeper = at_kept desk keeper.tells_of keeper.receipts
+
 -- Its last receipt in hand is for all that its last reply may tell of.
 abbrev pub Tells : {E : Type 0} → AtKept E → Type 0
 Tells it = it.tells_of ≤ last_count it.receipts

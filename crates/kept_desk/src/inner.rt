@@ -7,22 +7,23 @@ use osm_base::Memory;
 use session_desk::SessionDesk;
 use shared_front::{Front, HubName};
 use snapshot_hub::Snapshot;
-use std::marker::{Model, PhantomData};
+use std::marker::PhantomData;
 
-/// A desk of a session of a hub. Contracts see it as what it keeps.
+/// A desk of a session of a hub, for as long as it is asked.
 #[derive(Drop)]
-pub struct Inner<N: HubName, M: Machine, S: Snapshot<N, M>, D: SessionDesk<N, M, S>> {
-    pub desk: D,
+pub struct Inner<'a, N: HubName, M: Machine, S: Snapshot<N, M>, D: SessionDesk<N, M, S>> {
+    pub desk: &'a mut D,
     pub of: PhantomData<(N, M, S)>,
 }
 
-impl<N: HubName, M: Machine, S: Snapshot<N, M>, D: SessionDesk<N, M, S>> Behind<N, M::Entry>
-    for Inner<N, M, S, D> {
+impl<'a, N: HubName, M: Machine, S: Snapshot<N, M>, D: SessionDesk<N, M, S>> Behind<N, M::Entry>
+    for Inner<'a, N, M, S, D> {
+    ghost use Rattle.std.specs.Prelude.{◌≡◌, refl};
     ghost use Rattle.kept_desk.specs.Kept.{stays};
 
-    ghost becomes = { λ old new. StaysOrFreshens M.rules (D.keeps old.desk) (D.keeps new.desk) };
+    ghost becomes = { λ old new. (new.desk.ghost_name ≡ old.desk.ghost_name) × StaysOrFreshens M.rules (D.keeps old.desk.now) (D.keeps new.desk.now) };
 
-    ghost stays = { λ source. stays M.rules (D.keeps source.desk) };
+    ghost stays = { λ source. (refl, stays M.rules (D.keeps source.desk.now)) };
 
     fn behind(
         &mut self,

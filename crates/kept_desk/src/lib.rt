@@ -2,9 +2,11 @@
 //! sent, and every crash from then on leaves it there.
 #![tactic(auto)]
 
-mod desk;
 mod inner;
+mod keeper;
 mod laws;
+mod session;
 
-pub use desk::KeptDesk;
+pub use keeper::{Keeper, keep, keep_from};
 pub use laws::{kept_is_served, kept_links_chain, kept_stay, told_chain};
+pub use session::KeptSession;

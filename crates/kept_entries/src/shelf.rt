@@ -176,11 +176,14 @@ impl<N: HubName, K: HubName, E, T: Lines<E>, D: Device> Shelf<N, K, E, T, D> {
     }
 
     /// A law: each receipt is kept. From its moment on, which has come, every crash leaves a beginning
-    /// of the list with at least the entries that it is for.
+    /// of the list with at least the entries that it is for. The shelf is broken just where a call of
+    /// the device has failed.
     pub fn law(&self)
-        ensures { AreKept T.text D.moment D.left_since self.now.device self.now.entries self.now.receipts }
+        ensures kept { AreKept T.text D.moment D.left_since self.now.device self.now.entries self.now.receipts }
+        ensures fine { self.now.broken ≡ false → D.faults self.now.device ≡ 0 }
+        ensures failed { self.now.broken ≡ true → 0 < D.faults self.now.device }
     {
-        let _count = self.receipts.len();
+        self.file.law();
     }
 }
 

@@ -1,5 +1,5 @@
 -- What workers did over a hub whose journal is kept in a file, once the hub is closed.
-use Rattle.std.proofs.Common.{◌≡◌, ℕ, ◌+◌, ◌<◌, ◌≤◌, zero, suc, Bool, List, [], ◌∷◌, ◌++◌, length, map, take, get_or, refl, sym, ap, ◌∙◌, subst, arith}
+use Rattle.std.proofs.Common.{◌≡◌, ℕ, ◌+◌, ◌<◌, ◌≤◌, zero, suc, Bool, true, false, List, [], ◌∷◌, ◌++◌, length, map, take, get_or, refl, sym, ap, ◌∙◌, subst, arith}
 use Rattle.std.specs.Prelude.{IfSome, slice_get}
 use Rattle.std.specs.List.{AllByRecursion, range_with_len}
 use Rattle.std.proofs.lemmas.List.{append-nil}
@@ -136,24 +136,30 @@ module _ {S C Q P E K : Type 0} (rules : Rules S C Q P E K) (row : RowOf E) wher
         (first.0, subst (λ (l : List Receipt). IsPrefix l receipts) first.1 (first_given had receipts in_hand some_hands begin matched.given), first.2)
 
     -- the same, by how serving ended
-    pub ports_kept : KeptChain row → KeptStay row → PointsConsistent rules → ReceiptsStay
+    pub ports_kept : (faults : D → ℕ) → KeptChain row → KeptStay row → PointsConsistent rules → ReceiptsStay
         → (users : Users) (seats : ℕ) (J : List E) (before after : List PortTold) (stopped : List (AtKept E)) (sessions : List (Known E)) (in_hand : List (List Receipt))
-        (had receipts : List Receipt) (held : List E) (device : D) (failed : Bool) (outcome : Outcome)
+        (had receipts : List Receipt) (held : List E) (device : D) (failed broken : Bool) (outcome : Outcome)
         → 0 < length before → length before ≤ seats
         → map (λ s. s.desk.known) stopped ≡ sessions → map (λ s. s.receipts) stopped ≡ in_hand
         → HaveKept rules row users J (range_with_len 0 (length before)) stopped before after failed
         → AllByRecursion (λ held. IsPrefix had held) in_hand → (r : Receipt) × (had ≡ r ∷ []) × (r.count ≡ length J)
-        → HasClosed rules seats sessions → AreKept text moment left_since device held receipts → EndsSo (AreMatched in_hand sessions held receipts) failed outcome
-        → ServesKeptPorts rules row text moment left_since users seats J device before after outcome
-    ports_kept chain stay consistent longer users seats J before after stopped sessions in_hand had receipts held device failed Served some enough known_are hands_are served begin first closed kept ends =
-        subst (λ (b : Bool). ServesKept rules row text moment left_since users seats J before after b device) ends.1
-        (served_kept chain stay consistent longer users seats J before after stopped sessions in_hand had receipts held device failed some enough known_are hands_are served begin first closed kept ends.0)
-    ports_kept chain stay consistent longer users seats J before after stopped sessions in_hand had receipts held device failed Failed some enough known_are hands_are served begin first closed kept ends =
-        subst (λ (b : Bool). ServesKept rules row text moment left_since users seats J before after b device) ends.1
-        (served_kept chain stay consistent longer users seats J before after stopped sessions in_hand had receipts held device failed some enough known_are hands_are served begin first closed kept ends.0)
-    ports_kept chain stay consistent longer users seats J before after stopped sessions in_hand had receipts held device failed Unkept some enough known_are hands_are served begin first closed kept ends = (
-      failed,
-      served_kept chain stay consistent longer users seats J before after stopped sessions in_hand had receipts held device failed some enough known_are hands_are served begin first closed kept ends,
+        → HasClosed rules seats sessions → AreKept text moment left_since device held receipts
+        → (broken ≡ false → faults device ≡ 0) → (broken ≡ true → 0 < faults device) → EndsSo (AreMatched in_hand sessions held receipts) failed broken outcome
+        → ServesKeptPorts rules row text moment left_since faults users seats J device before after outcome
+    ports_kept faults chain stay consistent longer users seats J before after stopped sessions in_hand had receipts held device failed broken Served some enough known_are hands_are served begin first closed kept fine broke ends = (
+      subst (λ (b : Bool). ServesKept rules row text moment left_since users seats J before after b device) ends.1
+          (served_kept chain stay consistent longer users seats J before after stopped sessions in_hand had receipts held device failed some enough known_are hands_are served begin first closed kept ends.0),
+      fine ends.2,
     )
-    ports_kept chain stay consistent longer users seats J before after stopped sessions in_hand had receipts held device failed Unmatched some enough known_are hands_are served begin first closed kept ends = tt
-    ports_kept chain stay consistent longer users seats J before after stopped sessions in_hand had receipts held device failed LacksMemory some enough known_are hands_are served begin first closed kept ends = absurd ends
+    ports_kept faults chain stay consistent longer users seats J before after stopped sessions in_hand had receipts held device failed broken Failed some enough known_are hands_are served begin first closed kept fine broke ends = (
+      subst (λ (b : Bool). ServesKept rules row text moment left_since users seats J before after b device) ends.1
+          (served_kept chain stay consistent longer users seats J before after stopped sessions in_hand had receipts held device failed some enough known_are hands_are served begin first closed kept ends.0),
+      fine ends.2,
+    )
+    ports_kept faults chain stay consistent longer users seats J before after stopped sessions in_hand had receipts held device failed broken Unkept some enough known_are hands_are served begin first closed kept fine broke ends = (
+      failed,
+      served_kept chain stay consistent longer users seats J before after stopped sessions in_hand had receipts held device failed some enough known_are hands_are served begin first closed kept ends.0,
+      broke ends.1,
+    )
+    ports_kept faults chain stay consistent longer users seats J before after stopped sessions in_hand had receipts held device failed broken Unmatched some enough known_are hands_are served begin first closed kept fine broke ends = tt
+    ports_kept faults chain stay consistent longer users seats J before after stopped sessions in_hand had receipts held device failed broken LacksMemory some enough known_are hands_are served begin first closed kept fine broke ends = absurd ends

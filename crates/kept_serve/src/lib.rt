@@ -8,6 +8,6 @@ mod shelving;
 mod workers;
 
 pub use makers::KeptMaker;
-pub use matching::outcome_of;
+pub use matching::{are_given, outcome_of};
 pub use shelving::shelve;
 pub use workers::{KeptBack, serve_kept_by};

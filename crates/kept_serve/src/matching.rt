@@ -14,7 +14,7 @@ use snapshot_hub::{Session, Snapshot};
 
 /// Whether all these receipts are the first ones of those that were given. A session holds no others,
 /// which no run has shown otherwise.
-fn are_given<K: HubName>(in_hand: &[Front<K, Receipt>], given: &Front<K, Receipt>) -> bool
+pub fn are_given<K: HubName>(in_hand: &[Front<K, Receipt>], given: &Front<K, Receipt>) -> bool
     ensures { IsTrue result → AllByRecursion (λ receipts. IsPrefix receipts given.now) in_hand.now }
 {
     for receipts in in_hand {
@@ -45,7 +45,7 @@ pub fn outcome_of<
     T: Lines<M::Entry>,
     V: Device,
 >(back: &KeptBack<Session<N, M, S>, K>, shelf: &Shelf<N, K, M::Entry, T, V>) -> Outcome
-    ensures { EndsSo (AreMatched back.now.receipts.items back.now.sessions.items shelf.now.entries shelf.now.receipts) back.now.failed result }
+    ensures { EndsSo (AreMatched back.now.receipts.items back.now.sessions.items shelf.now.entries shelf.now.receipts) back.now.failed shelf.now.broken result }
 {
     let given = shelf.receipts();
     if !are_given(&back.receipts, &given) || !is_seen(&back.sessions, shelf.front()) {

@@ -3,4 +3,4 @@
 
 mod taking_up;
 
-pub use taking_up::{TakenUp, take_up};
+pub use taking_up::{TakenUp, take_up, take_up_into};

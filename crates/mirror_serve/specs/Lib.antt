@@ -1,3 +1,4 @@
 pub mod Mirrors
 pub mod Serve
+pub mod Kept
 pub mod Run

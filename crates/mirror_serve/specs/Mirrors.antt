@@ -1,7 +1,10 @@
 -- What serving the links of ports by a mirror does: the headline for many workers.
-use Rattle.std.specs.Prelude.{List}
+use Rattle.std.specs.Prelude.{ℕ, List}
 use Rattle.osm_outside.specs.Port.{PortTold}
+use Rattle.journal_text.specs.Text.{text_of}
+use Rattle.kept_steps.specs.KeptPorts.{ServesKeptPorts}
 use Rattle.osm_model.specs.Journal.{IsLegal}
+use Rattle.osm_model.specs.declared.commands.Entry.{Entry}
 use Rattle.user_table.specs.Users.{Users}
 use Rattle.mirror_desk.specs.Answers.{MirrorAnswers}
 use Rattle.step_hub.specs.ServePorts.{ServesPorts}
@@ -11,3 +14,9 @@ use Rattle.link_workers.specs.declared.outcome.Outcome.{Outcome}
 -- message is answered by the mirror's rules on a beginning of that list, whoever posted what it has. The beginnings never go back.
 abbrev pub MirrorsPorts : Users → List PortTold → List PortTold → Outcome → Type 0
 MirrorsPorts users before after outcome = ServesPorts MirrorAnswers IsLegal users before after outcome
+
+-- The same on from this journal, where the list goes on in this file, as it was at last: each reply that was sent was sent with a receipt in
+-- hand for the beginning of the list that it was answered on.
+abbrev pub MirrorsKeptPorts : {F : Type 0} → (F → ℕ) → (F → ℕ → List ℕ → Type 0) → (F → ℕ) → Users → List Entry → F → List PortTold → List PortTold → Outcome → Type 0
+MirrorsKeptPorts moment left_since faults users journal file before after outcome =
+    ServesKeptPorts MirrorAnswers IsLegal text_of moment left_since faults users journal file before after outcome

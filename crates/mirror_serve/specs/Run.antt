@@ -1,12 +1,14 @@
 -- What a run of a mirror does, and which status it ends with.
-use Rattle.std.specs.Prelude.{ℕ, ◌⊎◌, List, Option, Some, None}
+use Rattle.std.specs.Prelude.{◌≡◌, ℕ, ◌⊎◌, List, Option, Some, None}
 use Rattle.osm_outside.specs.Told.{Told}
 use Rattle.osm_outside.specs.Host.{HostTold}
+use Rattle.journal_host.specs.Told.{JournalsTold}
 use Rattle.osm_words.specs.Words.{MirrorReading, standard, listens}
 use Rattle.server_frame.specs.Standard.{RunsStandard, IsUnserved}
 use Rattle.server_frame.specs.Listening.{RunsListening}
 use Rattle.mirror_serve.specs.Serve.{ServesMirror}
 use Rattle.mirror_serve.specs.Mirrors.{MirrorsPorts}
+use Rattle.mirror_serve.specs.Kept.{RunsListenKept}
 
 -- what serving the standard link comes to
 abbrev pub RunsLink : List ℕ → Option ℕ → HostTold → HostTold → Told → Told → ℕ → Type 0
@@ -16,13 +18,23 @@ RunsLink = RunsStandard ServesMirror
 abbrev pub RunsListen : List ℕ → List ℕ → ℕ → HostTold → HostTold → Told → Told → ℕ → Type 0
 RunsListen = RunsListening MirrorsPorts
 
--- what words come to: those without a reading are status 1
-abbrev pub ComesTo : Option MirrorReading → HostTold → HostTold → Told → Told → ℕ → Type 0
-ComesTo None = IsUnserved 1
-ComesTo (Some (standard users at)) = RunsLink users at
-ComesTo (Some (listens users address workers)) = RunsListen users address workers
+-- what words come to that name no file of a journal: none was asked for
+pub record LeavesFiles {F : Type 0} (comes_to : HostTold → HostTold → Told → Told → ℕ → Type 0) (journals journals' : JournalsTold F)
+    (host host' : HostTold) (before after : Told) (status : ℕ) : Type 0 where
+  pub files : journals' ≡ journals
+  pub comes : comes_to host host' before after status
 
--- the same, or there was no memory for reading the words
-abbrev pub Runs : Option MirrorReading → HostTold → HostTold → Told → Told → ℕ → Type 0
-Runs reading host host' before after status =
-    ComesTo reading host host' before after status ⊎ IsUnserved 5 host host' before after status
+-- over what a file that a journal is kept in tells: the moments of its device, what a crash since one of them may leave, and how often a
+-- call has failed
+module _ {F : Type 0} (moment : F → ℕ) (left_since : F → ℕ → List ℕ → Type 0) (faults : F → ℕ) where
+  -- what words come to: those without a reading are status 1
+  abbrev pub ComesTo : Option MirrorReading → JournalsTold F → JournalsTold F → HostTold → HostTold → Told → Told → ℕ → Type 0
+  ComesTo None = LeavesFiles (IsUnserved 1)
+  ComesTo (Some (standard users at)) = LeavesFiles (RunsLink users at)
+  ComesTo (Some (listens users address workers None)) = LeavesFiles (RunsListen users address workers)
+  ComesTo (Some (listens users address workers (Some path))) = RunsListenKept moment left_since faults users address workers path
+
+  -- the same, or there was no memory for reading the words
+  abbrev pub Runs : Option MirrorReading → JournalsTold F → JournalsTold F → HostTold → HostTold → Told → Told → ℕ → Type 0
+  Runs reading journals journals' host host' before after status =
+      ComesTo reading journals journals' host host' before after status ⊎ LeavesFiles (IsUnserved 5) journals journals' host host' before after status

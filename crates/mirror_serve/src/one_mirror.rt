@@ -24,11 +24,15 @@ impl Mirror {
     pub fn new(alloc: Global) -> Result<Mirror, Memory>
         ensures { IfOk result (λ mirror. mirror.follower ≡ []) }
     {
+        Mirror::of(alloc, Follower::new(alloc))
+    }
+
+    /// A mirror that goes on from the entries of this follower.
+    pub fn of(alloc: Global, follower: Follower) -> Result<Mirror, Memory>
+        ensures { IfOk result (λ mirror. mirror.follower ≡ follower) }
+    {
         let routes = Routes::new(alloc)?;
-        Ok(Mirror {
-            follower: Follower::new(alloc),
-            routes,
-        })
+        Ok(Mirror { follower, routes })
     }
 }
 

@@ -3,7 +3,9 @@ ghost use Rattle.std.specs.Prelude.{map, string_bytes, Some};
 ghost use Rattle.osm_words.specs.Words.{mirror_reading_of, shown_mirror};
 ghost use Rattle.mirror_serve.specs.Run.{ComesTo, Runs};
 
+use crate::kept_run::run_listen_kept;
 use crate::serve::{MirrorServer, run_listen};
+use journal_host::{Device, Journals};
 use osm_outside::{Host, Link, Outside};
 use osm_words::{MirrorWords, WordsFault, read_mirror_words};
 use server_frame::{Listening, run_standard};
@@ -12,14 +14,15 @@ use std::sync::Wait;
 use std::thread::Threads;
 
 /// Does what was read of the words.
-fn run_words<H: Host, R: Threads + Wait + Sync, L: Link>(
+fn run_words<H: Host, J: Journals, R: Threads + Wait + Sync, L: Link>(
     rt: &R,
     alloc: Global,
     words: MirrorWords<'_>,
     host: &mut H,
+    journals: &mut J,
     standard: &mut L,
 ) -> u8
-    ensures { ComesTo (Some (shown_mirror words.entry)) (H.told host.old) (H.told host.new)
+    ensures { ComesTo J.File.moment J.File.left_since J.File.faults (Some (shown_mirror words.entry)) (J.told journals.old) (J.told journals.new) (H.told host.old) (H.told host.new)
         (L.told standard.old) (L.told standard.new) result }
 {
     match words {
@@ -30,33 +33,41 @@ fn run_words<H: Host, R: Threads + Wait + Sync, L: Link>(
             users,
             listen,
             workers,
+            journal,
         } => {
             let listening = Listening {
                 address: listen,
                 workers,
             };
-            run_listen(rt, alloc, users, listening, host, standard)
+            match journal {
+                None => run_listen(rt, alloc, users, listening, host, standard),
+                Some(path) => run_listen_kept(
+                    rt, alloc, users, listening, path, host, journals, standard,
+                ),
+            }
         }
     }
 }
 
 /// Does what the words ask of a mirror on the host and the standard link, and answers the program's
 /// status: 1 where the words have no reading, 2 where the users text is refused, 3 for a fault of the
-/// host in giving it or in reading, 4 for a fault in writing, 5 for want of memory outside an answer,
-/// 6 for a fault in listening or in accepting, 7 where what came on the link was refused, and 0
-/// otherwise.
-pub fn mirror<H: Host, R: Threads + Wait + Sync, L: Link>(
+/// host in giving it or a journal's file or in reading, 4 for a fault in writing, 5 for want of memory
+/// outside an answer, 6 for a fault in listening or in accepting, 7 where what came on the link was
+/// refused, 8 where a journal's file was, 9 where a reply was held back since that file failed, 10 where
+/// what it keeps can't be told, and 0 otherwise.
+pub fn mirror<H: Host, J: Journals, R: Threads + Wait + Sync, L: Link>(
     rt: &R,
     alloc: Global,
     words: &[String],
     host: &mut H,
+    journals: &mut J,
     standard: &mut L,
 ) -> u8
-    ensures { Runs (mirror_reading_of (map string_bytes words.now)) (H.told host.old) (H.told host.new)
+    ensures { Runs J.File.moment J.File.left_since J.File.faults (mirror_reading_of (map string_bytes words.now)) (J.told journals.old) (J.told journals.new) (H.told host.old) (H.told host.new)
         (L.told standard.old) (L.told standard.new) result }
 {
     match read_mirror_words(alloc, words) {
-        Ok(words) => run_words(rt, alloc, words, host, standard),
+        Ok(words) => run_words(rt, alloc, words, host, journals, standard),
         Err(WordsFault::NoReading) => 1,
         Err(WordsFault::Memory) => 5,
     }

@@ -6,8 +6,9 @@ ghost use Rattle.std.specs.Vec.Iter.{into_iter_items};
 ghost use Rattle.osm_words.specs.Words.{reading_of, until_input_ends};
 ghost use Rattle.server_frame.specs.Standard.{IsUnserved};
 ghost use Rattle.server_frame.specs.Words.{lacking_status};
-ghost use Rattle.osm_serve.specs.Run.{Runs};
+ghost use Rattle.osm_serve.specs.Run.{Runs, LeavesFiles};
 
+use journal_host::{Device, Journals};
 use osm_outside::{Host, Link};
 use osm_serve::run;
 use osm_words::until_input_ends;
@@ -20,39 +21,41 @@ use std::sync::Wait;
 use std::thread::Threads;
 
 /// The status of `run` on the words, or 5 where there is no memory for their list.
-fn status_on<H: Host, R: Threads + Wait + Sync, L: Link>(
+fn status_on<H: Host, J: Journals, R: Threads + Wait + Sync, L: Link>(
     rt: &R,
     alloc: Global,
     args: Args,
     host: &mut H,
+    journals: &mut J,
     standard: &mut L,
 ) -> u8
-    ensures { Runs (reading_of (map string_bytes (into_iter_items args))) (H.told host.old) (H.told host.new)
+    ensures { Runs J.File.moment J.File.left_since J.File.faults (reading_of (map string_bytes (into_iter_items args))) (J.told journals.old) (J.told journals.new) (H.told host.old) (H.told host.new)
         (L.told standard.old) (L.told standard.new) result }
 {
     match words_of(alloc, args) {
-        Ok(words) => run(rt, alloc, words.as_slice(), host, standard),
+        Ok(words) => run(rt, alloc, words.as_slice(), host, journals, standard),
         Err(_) => 5,
     }
 }
 
 /// Does what the words that the system gave ask, and ends with the status of
 /// `run`. Where the system gave no words, nothing is read or written.
-pub fn program<H: Host, R: Threads + Wait + Sync, L: Link>(
+pub fn program<H: Host, J: Journals, R: Threads + Wait + Sync, L: Link>(
     rt: &R,
     alloc: Global,
     args: io::Result<Args>,
     host: &mut H,
+    journals: &mut J,
     standard: &mut L,
 ) -> ExitCode
     ensures { MatchResult args
-        (λ words. Runs (reading_of (map string_bytes (into_iter_items words))) (H.told host.old) (H.told host.new)
+        (λ words. Runs J.File.moment J.File.left_since J.File.faults (reading_of (map string_bytes (into_iter_items words))) (J.told journals.old) (J.told journals.new) (H.told host.old) (H.told host.new)
         (L.told standard.old) (L.told standard.new) (exit_status result))
-        (λ why. IsUnserved (lacking_status (error_kind why)) (H.told host.old) (H.told host.new)
+        (λ why. LeavesFiles (IsUnserved (lacking_status (error_kind why))) (J.told journals.old) (J.told journals.new) (H.told host.old) (H.told host.new)
         (L.told standard.old) (L.told standard.new) (exit_status result)) }
 {
     let status = match args {
-        Ok(args) => status_on(rt, alloc, args, host, standard),
+        Ok(args) => status_on(rt, alloc, args, host, journals, standard),
         Err(why) => lacking_status(&why),
     };
     ExitCode::from(status)

@@ -5,7 +5,7 @@
 
 mod start;
 
-use osm_real::{FileHost, Stop, StreamLink, ask_at_end};
+use osm_real::{FileHost, FileJournals, Stop, StreamLink, ask_at_end};
 use start::{is_until_input_ends, program};
 use std::env;
 use std::process::ExitCode;
@@ -18,6 +18,7 @@ fn run<R: Threads + Wait + Sync>(handle: &R, rt: HostRuntime, stop: &Stop) -> Ex
         rt.alloc(),
         env::args(&rt),
         &mut FileHost::new(rt, stop),
+        &mut FileJournals::new(rt, stop),
         &mut StreamLink::new(rt.stdin(), rt.stdout(), rt),
     );
     stop.tell_end();

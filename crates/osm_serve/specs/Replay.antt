@@ -16,7 +16,7 @@ use Rattle.osm_serve.specs.Tell.{Tells}
 abbrev pub AreReplayLines : List Entry → List ℕ → Type 0
 AreReplayLines journal text = text ≡ replay_summary (figures_of (replay journal).elements (length journal))
 
--- The input was read as the text of a journal, and then the lines of its replay were written.
+-- What stands before the gate of the input was read as the text of a journal, and then the lines of its replay were written.
 pub record TellsReplay (before after : Told) (status : ℕ) : Type 0 where
   pub journal : List Entry
   pub between : Told

@@ -2,6 +2,7 @@
 use Rattle.std.specs.Prelude.{◌≡◌, ℕ, ◌⊎◌, List, Option, Some, None}
 use Rattle.osm_outside.specs.Told.{Told}
 use Rattle.osm_outside.specs.Host.{HostTold}
+use Rattle.journal_host.specs.Told.{JournalsTold}
 use Rattle.server_frame.specs.Standard.{RunsStandard, IsUnserved}
 use Rattle.server_frame.specs.Listening.{RunsListening}
 use Rattle.osm_words.specs.declared.words.LoadOptions.{LoadOptions}
@@ -15,6 +16,7 @@ use Rattle.osm_serve.specs.Measure.{AreLines}
 use Rattle.osm_serve.specs.Export.{IsExport}
 use Rattle.osm_serve.specs.Replay.{Replays}
 use Rattle.osm_serve.specs.Tell.{Tells}
+use Rattle.osm_kept.specs.Run.{RunsServeKept}
 
 -- What serving links of the map comes to is told as for any machine, by the rules of the map and the rows of its desk: a list is sound
 -- where the rules take each of its entries, and where after every entry visible ways and relations refer only to visible elements; each
@@ -44,18 +46,28 @@ pub record RunsReplay (host host' : HostTold) (before after : Told) (status : �
   pub host_stays : host' ≡ host
   pub replays : Replays before after status
 
--- what words come to: those without a reading are status 1
-abbrev pub ComesTo : Option Reading → HostTold → HostTold → Told → Told → ℕ → Type 0
-ComesTo None = IsUnserved 1
-ComesTo (Some (pipe users at)) = RunsPipe users at
-ComesTo (Some (serve users address workers)) = RunsServe users address workers
-ComesTo (Some (measure load)) = RunsMeasure load
-ComesTo (Some (export load)) = RunsExport load
-ComesTo (Some replay) = RunsReplay
-ComesTo (Some (notes users at)) = RunsNotes users at
-ComesTo (Some (serve_notes users address workers)) = RunsServeNotes users address workers
+-- what words come to that name no file of a journal: none was asked for
+pub record LeavesFiles {F : Type 0} (comes_to : HostTold → HostTold → Told → Told → ℕ → Type 0) (journals journals' : JournalsTold F)
+    (host host' : HostTold) (before after : Told) (status : ℕ) : Type 0 where
+  pub files : journals' ≡ journals
+  pub comes : comes_to host host' before after status
 
--- the same, or there was no memory for reading the words
-abbrev pub Runs : Option Reading → HostTold → HostTold → Told → Told → ℕ → Type 0
-Runs reading host host' before after status =
-    ComesTo reading host host' before after status ⊎ IsUnserved 5 host host' before after status
+-- over what a file that a journal is kept in tells: the moments of its device, what a crash since one of them may leave, and how often a
+-- call has failed
+module _ {F : Type 0} (moment : F → ℕ) (left_since : F → ℕ → List ℕ → Type 0) (faults : F → ℕ) where
+  -- what words come to: those without a reading are status 1
+  abbrev pub ComesTo : Option Reading → JournalsTold F → JournalsTold F → HostTold → HostTold → Told → Told → ℕ → Type 0
+  ComesTo None = LeavesFiles (IsUnserved 1)
+  ComesTo (Some (pipe users at)) = LeavesFiles (RunsPipe users at)
+  ComesTo (Some (serve users address workers None)) = LeavesFiles (RunsServe users address workers)
+  ComesTo (Some (serve users address workers (Some path))) = RunsServeKept moment left_since faults users address workers path
+  ComesTo (Some (measure load)) = LeavesFiles (RunsMeasure load)
+  ComesTo (Some (export load)) = LeavesFiles (RunsExport load)
+  ComesTo (Some replay) = LeavesFiles RunsReplay
+  ComesTo (Some (notes users at)) = LeavesFiles (RunsNotes users at)
+  ComesTo (Some (serve_notes users address workers)) = LeavesFiles (RunsServeNotes users address workers)
+
+  -- the same, or there was no memory for reading the words
+  abbrev pub Runs : Option Reading → JournalsTold F → JournalsTold F → HostTold → HostTold → Told → Told → ℕ → Type 0
+  Runs reading journals journals' host host' before after status =
+      ComesTo reading journals journals' host host' before after status ⊎ LeavesFiles (IsUnserved 5) journals journals' host host' before after status

@@ -69,9 +69,10 @@ fn replay_with<L: Link>(alloc: Global, keeper: &mut BookKeeper, link: &mut L) ->
 }
 
 /// Reads the text of a journal from the link, to the input's end or to one byte past the most that a
-/// text may have, and writes the lines that tell of its map. The status is 0 where they were written
-/// whole, 3 for a fault in reading, 4 for one in writing, 5 for want of memory, and 8 where the text
-/// is refused.
+/// text may have, and writes the lines that tell of its map. What stands behind a gate, a byte `#` at a
+/// line's beginning, doesn't count, so the file of a journal is read as its text. The status is 0 where
+/// they were written whole, 3 for a fault in reading, 4 for one in writing, 5 for want of memory, and 8
+/// where the text is refused.
 pub fn replay<L: Link>(alloc: Global, link: &mut L) -> u8
     ensures { Replays (L.told link.old) (L.told link.new) result }
 {

@@ -11,8 +11,10 @@ use crate::measure::measure;
 use crate::replay::replay;
 use crate::serve::{MapServer, run_serve};
 use hub_core::Book;
+use journal_host::{Device, Journals};
 use map_machine::MapMachine;
 use notes_serve::{NotesServer, run_serve_notes};
+use osm_kept::run_serve_kept;
 use osm_outside::{Host, Link, Outside};
 use osm_words::{Words, WordsFault, read_words};
 use server_frame::{Listening, run_standard};
@@ -21,17 +23,18 @@ use std::sync::Wait;
 use std::thread::Threads;
 
 /// Does what was read of the words, over a book that is empty at first for what needs one.
-fn run_words_over<H: Host, R: Threads + Wait + Sync, L: Link>(
+fn run_words_over<H: Host, J: Journals, R: Threads + Wait + Sync, L: Link>(
     rt: &R,
     alloc: Global,
     words: Words<'_>,
     book: &mut Book<MapMachine>,
     host: &mut H,
+    journals: &mut J,
     standard: &mut L,
 ) -> u8
     requires sessions { HaveSessions words }
     requires empty { book.old ≡ [] }
-    ensures { ComesTo (Some (shown words.entry)) (H.told host.old) (H.told host.new)
+    ensures { ComesTo J.File.moment J.File.left_since J.File.faults (Some (shown words.entry)) (J.told journals.old) (J.told journals.new) (H.told host.old) (H.told host.new)
         (L.told standard.old) (L.told standard.new) result }
 {
     match words {
@@ -42,12 +45,18 @@ fn run_words_over<H: Host, R: Threads + Wait + Sync, L: Link>(
             users,
             listen,
             workers,
+            journal,
         } => {
             let listening = Listening {
                 address: listen,
                 workers,
             };
-            run_serve(rt, alloc, users, listening, host, standard)
+            match journal {
+                None => run_serve(rt, alloc, users, listening, host, standard),
+                Some(path) => run_serve_kept(
+                    rt, alloc, users, listening, path, host, journals, standard,
+                ),
+            }
         }
         Words::Measure(load) => measure(alloc, book, load, standard),
         Words::Export(load) => export(alloc, book, load, standard),
@@ -70,38 +79,41 @@ fn run_words_over<H: Host, R: Threads + Wait + Sync, L: Link>(
 }
 
 /// The same with that book.
-fn run_words<H: Host, R: Threads + Wait + Sync, L: Link>(
+fn run_words<H: Host, J: Journals, R: Threads + Wait + Sync, L: Link>(
     rt: &R,
     alloc: Global,
     words: Words<'_>,
     host: &mut H,
+    journals: &mut J,
     standard: &mut L,
 ) -> u8
     requires { HaveSessions words }
-    ensures { ComesTo (Some (shown words.entry)) (H.told host.old) (H.told host.new)
+    ensures { ComesTo J.File.moment J.File.left_since J.File.faults (Some (shown words.entry)) (J.told journals.old) (J.told journals.new) (H.told host.old) (H.told host.new)
         (L.told standard.old) (L.told standard.new) result }
 {
     let mut book = Book::<MapMachine>::new(alloc);
-    run_words_over(rt, alloc, words, &mut book, host, standard)
+    run_words_over(rt, alloc, words, &mut book, host, journals, standard)
 }
 
 /// Does what the words ask on the host and the standard link, and answers the program's status: 1
 /// where the words have no reading, 2 where the users text is refused, 3 for a fault of the host in
 /// giving it or in reading, 4 for a fault in writing, 5 for want of memory outside an answer, 6 for a
 /// fault in listening or in accepting, 7 where what came on the link was refused, 8 where a journal's
-/// text was, and 0 otherwise.
-pub fn run<H: Host, R: Threads + Wait + Sync, L: Link>(
+/// text was, 9 where a reply was held back since the journal's file failed, 10 where what it keeps
+/// can't be told, and 0 otherwise.
+pub fn run<H: Host, J: Journals, R: Threads + Wait + Sync, L: Link>(
     rt: &R,
     alloc: Global,
     words: &[String],
     host: &mut H,
+    journals: &mut J,
     standard: &mut L,
 ) -> u8
-    ensures { Runs (reading_of (map string_bytes words.now)) (H.told host.old) (H.told host.new)
+    ensures { Runs J.File.moment J.File.left_since J.File.faults (reading_of (map string_bytes words.now)) (J.told journals.old) (J.told journals.new) (H.told host.old) (H.told host.new)
         (L.told standard.old) (L.told standard.new) result }
 {
     match read_words(alloc, words) {
-        Ok(words) => run_words(rt, alloc, words, host, standard),
+        Ok(words) => run_words(rt, alloc, words, host, journals, standard),
         Err(WordsFault::NoReading) => 1,
         Err(WordsFault::Memory) => 5,
     }

@@ -1,2 +1,3 @@
 pub mod Finding
+mod Mirrors
 mod Vectors

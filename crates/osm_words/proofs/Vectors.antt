@@ -60,14 +60,27 @@ unfolding clap_on_literals
 end_mark = refl
 
 served : reading_of (codes "osm" ∷ codes "serve" ∷ codes "--users" ∷ codes "u.txt" ∷ codes "--listen" ∷ codes "127.0.0.1:8080" ∷ codes "--workers" ∷ codes "8" ∷ [])
-    ≡ Some (serve (codes "u.txt") (codes "127.0.0.1:8080") 8)
+    ≡ Some (serve (codes "u.txt") (codes "127.0.0.1:8080") 8 None)
 unfolding clap_on_literals
 served = refl
 
 served_by_the_most : reading_of (codes "osm" ∷ codes "serve" ∷ codes "--workers=064" ∷ codes "--listen=[::1]:0" ∷ codes "--users=u" ∷ [])
-    ≡ Some (serve (codes "u") (codes "[::1]:0") 64)
+    ≡ Some (serve (codes "u") (codes "[::1]:0") 64 None)
 unfolding clap_on_literals
 served_by_the_most = refl
+
+served_with_a_journal : reading_of (codes "osm" ∷ codes "serve" ∷ codes "--users=u" ∷ codes "--journal" ∷ codes "j.txt" ∷ codes "--listen=l" ∷ codes "--workers=1" ∷ [])
+    ≡ Some (serve (codes "u") (codes "l") 1 (Some (codes "j.txt")))
+unfolding clap_on_literals
+served_with_a_journal = refl
+
+empty_journal : reading_of (codes "osm" ∷ codes "serve" ∷ codes "--users=u" ∷ codes "--listen=l" ∷ codes "--workers=1" ∷ codes "--journal=" ∷ []) ≡ None
+unfolding clap_on_literals
+empty_journal = refl
+
+two_journals : reading_of (codes "osm" ∷ codes "serve" ∷ codes "--users=u" ∷ codes "--listen=l" ∷ codes "--workers=1" ∷ codes "--journal=a" ∷ codes "--journal=b" ∷ []) ≡ None
+unfolding clap_on_literals
+two_journals = refl
 
 no_workers : reading_of (codes "osm" ∷ codes "serve" ∷ codes "--users=u" ∷ codes "--listen=l" ∷ codes "--workers=0" ∷ []) ≡ None
 unfolding clap_on_literals
@@ -82,7 +95,7 @@ unfolding clap_on_literals
 workers_untold = refl
 
 served_until_the_input_ends : reading_of (codes "osm" ∷ codes "serve" ∷ codes "--users=u" ∷ codes "--until-input-ends" ∷ codes "--listen=l" ∷ codes "--workers=1" ∷ [])
-    ≡ Some (serve (codes "u") (codes "l") 1)
+    ≡ Some (serve (codes "u") (codes "l") 1 None)
 unfolding clap_on_literals
 served_until_the_input_ends = refl
 
@@ -154,7 +167,7 @@ unfolding clap_on_literals
 mirrored_by_the_clock = refl
 
 mirrored_at_ports : mirror_reading_of (codes "osm_mirror" ∷ codes "--workers" ∷ codes "8" ∷ codes "--users=u" ∷ codes "--listen=[::1]:0" ∷ [])
-    ≡ Some (listens (codes "u") (codes "[::1]:0") 8)
+    ≡ Some (listens (codes "u") (codes "[::1]:0") 8 None)
 unfolding clap_on_literals
 mirrored_at_ports = refl
 
@@ -179,13 +192,26 @@ unfolding clap_on_literals
 mirror_of_too_many_workers = refl
 
 mirrored_until_the_input_ends : mirror_reading_of (codes "osm_mirror" ∷ codes "--until-input-ends" ∷ codes "--users=u" ∷ codes "--listen=l" ∷ codes "--workers=1" ∷ [])
-    ≡ Some (listens (codes "u") (codes "l") 1)
+    ≡ Some (listens (codes "u") (codes "l") 1 None)
 unfolding clap_on_literals
 mirrored_until_the_input_ends = refl
 
 mirror_that_ends_anyhow : mirror_reading_of (codes "osm_mirror" ∷ codes "--users=u" ∷ codes "--until-input-ends" ∷ []) ≡ None
 unfolding clap_on_literals
 mirror_that_ends_anyhow = refl
+
+mirrored_into_a_journal : mirror_reading_of (codes "osm_mirror" ∷ codes "--users=u" ∷ codes "--listen=l" ∷ codes "--workers=1" ∷ codes "--journal" ∷ codes "j" ∷ [])
+    ≡ Some (listens (codes "u") (codes "l") 1 (Some (codes "j")))
+unfolding clap_on_literals
+mirrored_into_a_journal = refl
+
+mirrored_into_no_path : mirror_reading_of (codes "osm_mirror" ∷ codes "--users=u" ∷ codes "--listen=l" ∷ codes "--workers=1" ∷ codes "--journal=" ∷ []) ≡ None
+unfolding clap_on_literals
+mirrored_into_no_path = refl
+
+journal_of_the_standard_link : mirror_reading_of (codes "osm_mirror" ∷ codes "--users=u" ∷ codes "--journal=j" ∷ []) ≡ None
+unfolding clap_on_literals
+journal_of_the_standard_link = refl
 
 mirror_with_a_command : mirror_reading_of (codes "osm_mirror" ∷ codes "pipe" ∷ codes "--users=u" ∷ []) ≡ None
 unfolding clap_on_literals
@@ -211,3 +237,7 @@ of_notes_until_the_input_ends : reading_of (codes "osm" ∷ codes "serve-notes" 
     ≡ Some (serve_notes (codes "u") (codes "a") 2)
 unfolding clap_on_literals
 of_notes_until_the_input_ends = refl
+
+no_journal_of_notes : reading_of (codes "osm" ∷ codes "serve-notes" ∷ codes "--users=u" ∷ codes "--listen=a" ∷ codes "--workers=2" ∷ codes "--journal=j" ∷ []) ≡ None
+unfolding clap_on_literals
+no_journal_of_notes = refl

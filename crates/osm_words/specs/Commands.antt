@@ -25,12 +25,16 @@ abbrev pub ending : App → App
 ending app = with_rule app (flag (codes "until-input-ends"))
 
 -- `NAME --users FILE --listen ADDRESS --workers N [--until-input-ends]`
-abbrev pub serve_app : Text → App
-serve_app name =
+abbrev pub listen_app : Text → App
+listen_app name =
     ending
     (with_rule
     (with_rule (with_rule (plain name) (option (codes "users") true)) (option (codes "listen") true))
     (option (codes "workers") true))
+
+-- `serve --users FILE --listen ADDRESS --workers N [--until-input-ends] [--journal FILE]`
+abbrev pub serve_app : App
+serve_app = with_rule (listen_app (codes "serve")) (option (codes "journal") false)
 
 -- `NAME --seed N --sessions N --uploads N`
 abbrev pub load_app : Text → App
@@ -39,15 +43,17 @@ load_app name =
     (with_rule (with_rule (plain name) (option (codes "seed") true)) (option (codes "sessions") true))
     (option (codes "uploads") true)
 
--- `osm_mirror --users FILE [--at SECONDS] [--listen ADDRESS] [--workers N] [--until-input-ends]`
+-- `osm_mirror --users FILE [--at SECONDS] [--listen ADDRESS] [--workers N] [--until-input-ends] [--journal FILE]`
 abbrev pub mirror_app : App
 mirror_app =
-    ending
+    with_rule
+    (ending
     (with_rule
     (with_rule
     (with_rule (with_rule (plain (codes "osm_mirror")) (option (codes "users") true)) (option (codes "at") false))
     (option (codes "listen") false))
-    (option (codes "workers") false))
+    (option (codes "workers") false)))
+    (option (codes "journal") false)
 
 -- the matches, where there is no fault
 abbrev pub unless_faulty : Kinds → List Row → Option (List Row)

@@ -3,7 +3,7 @@ use Rattle.std.specs.Prelude.{◌≡◌, ◌<◌, ◌≤◌, ⊤, ℕ, Bool, tru
 use Rattle.std.specs.Option.{option_map, option_and_then}
 use Rattle.std.specs.List.{list_any}
 use Rattle.std.specs.Str.{bytes_eq}
-use Rattle.clap.specs.Words.{Row, Text, first_of}
+use Rattle.clap.specs.Words.{App, Row, Text, first_of}
 use Rattle.osm_base.specs.declared.limits.TheConstants.{SESSION_LIMIT}
 use Rattle.osm_words.specs.declared.words.TheConstants.{UPLOAD_LIMIT}
 use Rattle.osm_words.specs.declared.words.LoadOptions.{LoadOptions}
@@ -15,25 +15,25 @@ use Rattle.osm_words.specs.declared.words.WordsFault.{WordsFault}
 use Rattle.osm_words.specs.declared.words.WordsFault.TheVariants.{NoReading, Memory}
 use Rattle.osm_words.specs.Values.{is_set, text_of, number_in, fitting}
 use Rattle.osm_base.specs.Number.{whole_of}
-use Rattle.osm_words.specs.Commands.{pipe_app, serve_app, load_app, mirror_app, plain, found}
+use Rattle.osm_words.specs.Commands.{pipe_app, listen_app, serve_app, load_app, mirror_app, plain, found}
 
 -- a command of the program, with its options
 pub data Reading : Type 0 where
   -- the path of the users text, and the moment at which the clock is fixed
   pipe : Text → Option ℕ → Reading
-  -- the path of the users text, the address where links come, and the number of workers
-  serve : Text → Text → ℕ → Reading
+  -- the path of the users text, the address where links come, the number of workers, and the path of the journal
+  serve : Text → Text → ℕ → Option Text → Reading
   measure : LoadOptions → Reading
   export : LoadOptions → Reading
   replay : Reading
-  -- as `pipe` and as `serve`, for the server of notes
+  -- as `pipe` and as `serve`, for the server of notes, which keeps no journal
   notes : Text → Option ℕ → Reading
   serve_notes : Text → Text → ℕ → Reading
 
 -- what was read, without where it lies in memory
 abbrev pub shown : Words → Reading
 shown (Pipe users at) = pipe users.now at
-shown (Serve users listen workers) = serve users.now listen.now workers
+shown (Serve users listen workers journal) = serve users.now listen.now workers (option_map (λ path. path.now) journal)
 shown (Measure load) = measure load
 shown (Export load) = export load
 shown Replay = replay
@@ -52,9 +52,14 @@ pipe_of rows =
     option_and_then (λ users. pipe_at users (first_of (codes "at") rows))
     (option_and_then text_of (first_of (codes "users") rows))
 
+-- the path of the journal may be missing, and has to be one where it isn't
+abbrev pub serve_with : Text → Text → ℕ → Option Text → Option Reading
+serve_with users listen workers None = Some (serve users listen workers None)
+serve_with users listen workers (Some text) = option_map (λ path. serve users listen workers (Some path)) (text_of text)
+
 abbrev pub serve_of : List Row → Option Reading
 serve_of rows =
-    option_and_then (λ users. option_and_then (λ listen. option_map (λ workers. serve users listen workers)
+    option_and_then (λ users. option_and_then (λ listen. option_and_then (λ workers. serve_with users listen workers (first_of (codes "journal") rows))
     (option_and_then (number_in 1 SESSION_LIMIT) (first_of (codes "workers") rows)))
     (option_and_then text_of (first_of (codes "listen") rows)))
     (option_and_then text_of (first_of (codes "users") rows))
@@ -72,13 +77,21 @@ load_of rows =
 abbrev pub pipe_reading : Text → List Text → Option Reading
 pipe_reading name words = option_and_then pipe_of (found (pipe_app name) words)
 
-abbrev pub serve_reading : Text → List Text → Option Reading
-serve_reading name words = option_and_then serve_of (found (serve_app name) words)
+-- of a server that listens, with the options that its command has
+abbrev pub listening_reading : App → List Text → Option Reading
+listening_reading app words = option_and_then serve_of (found app words)
+
+abbrev pub serve_reading : List Text → Option Reading
+serve_reading words = listening_reading serve_app words
+
+-- of one that has no option for a journal
+abbrev pub unkept_reading : Text → List Text → Option Reading
+unkept_reading name words = listening_reading (listen_app name) words
 
 -- what serves the map, for notes
 abbrev pub of_notes : Reading → Reading
 of_notes (pipe users at) = notes users at
-of_notes (serve users listen workers) = serve_notes users listen workers
+of_notes (serve users listen workers journal) = serve_notes users listen workers
 of_notes other = other
 
 abbrev pub load_reading : Text → List Text → Option LoadOptions
@@ -91,12 +104,12 @@ replay_reading words = option_map (λ _. replay) (found (plain (codes "replay"))
 abbrev pub command_reading : Text → List Text → Option Reading
 command_reading name words =
     if bytes_eq name (codes "pipe") then pipe_reading (codes "pipe") words
-    else (if bytes_eq name (codes "serve") then serve_reading (codes "serve") words
+    else (if bytes_eq name (codes "serve") then serve_reading words
     else (if bytes_eq name (codes "measure") then option_map measure (load_reading (codes "measure") words)
     else (if bytes_eq name (codes "export") then option_map export (load_reading (codes "export") words)
     else (if bytes_eq name (codes "replay") then replay_reading words
     else (if bytes_eq name (codes "notes") then option_map of_notes (pipe_reading (codes "notes") words)
-    else (if bytes_eq name (codes "serve-notes") then option_map of_notes (serve_reading (codes "serve-notes") words)
+    else (if bytes_eq name (codes "serve-notes") then option_map of_notes (unkept_reading (codes "serve-notes") words)
     else None))))))
 
 -- behind the program's name
@@ -123,33 +136,38 @@ reading_of words = if has_end_mark words then None else named_reading words
 pub data MirrorReading : Type 0 where
   -- the path of the users text, and the moment at which the clock is fixed
   standard : Text → Option ℕ → MirrorReading
-  -- the path of the users text, the address where links come, and the number of workers
-  listens : Text → Text → ℕ → MirrorReading
+  -- the path of the users text, the address where links come, the number of workers, and the path of the journal
+  listens : Text → Text → ℕ → Option Text → MirrorReading
 
 -- what was read, without where it lies in memory
 abbrev pub shown_mirror : MirrorWords → MirrorReading
 shown_mirror (Standard users at) = standard users.now at
-shown_mirror (Listen users listen workers) = listens users.now listen.now workers
+shown_mirror (Listen users listen workers journal) = listens users.now listen.now workers (option_map (λ path. path.now) journal)
 
--- The moment, the address and the workers: without the last two it is the standard link, with both of them and without a moment it
--- listens.
-abbrev pub mirror_by : Text → Option Text → Option Text → Option Text → Option MirrorReading
-mirror_by users None None None = Some (standard users None)
-mirror_by users (Some text) None None = option_map (λ at. standard users (Some at)) (whole_of text)
-mirror_by users None (Some address) (Some count) =
-    option_and_then (λ listen. option_map (λ workers. listens users listen workers) (number_in 1 SESSION_LIMIT count)) (text_of address)
-mirror_by users _ _ _ = None
+-- the path of the journal may be missing, and has to be one where it isn't
+abbrev pub listens_with : Text → Text → ℕ → Option Text → Option MirrorReading
+listens_with users listen workers None = Some (listens users listen workers None)
+listens_with users listen workers (Some text) = option_map (λ path. listens users listen workers (Some path)) (text_of text)
+
+-- The moment, the address, the workers and the journal: without the last three it is the standard link, with an address and workers and
+-- without a moment it listens.
+abbrev pub mirror_by : Text → Option Text → Option Text → Option Text → Option Text → Option MirrorReading
+mirror_by users None None None None = Some (standard users None)
+mirror_by users (Some text) None None None = option_map (λ at. standard users (Some at)) (whole_of text)
+mirror_by users None (Some address) (Some count) journal =
+    option_and_then (λ listen. option_and_then (λ workers. listens_with users listen workers journal) (number_in 1 SESSION_LIMIT count)) (text_of address)
+mirror_by users _ _ _ _ = None
 
 -- What doesn't listen isn't told to end with its input: it does so anyhow.
-abbrev pub mirror_until : Bool → Text → Option Text → Option Text → Option Text → Option MirrorReading
-mirror_until true users at None workers = None
-mirror_until true users at (Some address) workers = mirror_by users at (Some address) workers
-mirror_until false users at listen workers = mirror_by users at listen workers
+abbrev pub mirror_until : Bool → Text → Option Text → Option Text → Option Text → Option Text → Option MirrorReading
+mirror_until true users at None workers journal = None
+mirror_until true users at (Some address) workers journal = mirror_by users at (Some address) workers journal
+mirror_until false users at listen workers journal = mirror_by users at listen workers journal
 
 abbrev pub mirror_of : List Row → Option MirrorReading
 mirror_of rows =
     option_and_then (λ users. mirror_until (is_set (first_of (codes "until-input-ends") rows)) users (first_of (codes "at") rows) (first_of (codes "listen") rows)
-    (first_of (codes "workers") rows))
+    (first_of (codes "workers") rows) (first_of (codes "journal") rows))
     (option_and_then text_of (first_of (codes "users") rows))
 
 -- the reading of a mirror's words, the program's name first, whatever it is
@@ -186,7 +204,7 @@ pub record HasWorkers (workers : ℕ) : Type 0 where
 
 -- the same of the load or the workers that are asked for, where they are
 abbrev pub HaveSessions : Words → Type 0
-HaveSessions (Serve users listen workers) = HasWorkers workers
+HaveSessions (Serve users listen workers journal) = HasWorkers workers
 HaveSessions (ServeNotes users listen workers) = HasWorkers workers
 HaveSessions (Measure load) = HasSessions load
 HaveSessions (Export load) = HasSessions load
@@ -195,4 +213,4 @@ HaveSessions other = ⊤
 -- the same of a mirror's workers, where there are any
 abbrev pub HaveWorkers : MirrorWords → Type 0
 HaveWorkers (Standard users at) = ⊤
-HaveWorkers (Listen users listen workers) = HasWorkers workers
+HaveWorkers (Listen users listen workers journal) = HasWorkers workers

@@ -2,7 +2,7 @@
 //!
 //! A mirror's words have no command, and the address and the workers tell that it listens: both or
 //! none, and with them no moment, as the server's `serve` has none; only what listens may be told to
-//! end with its input. `clap` is told all five
+//! end with its input, and may keep a journal. `clap` is told all six
 //! options of one simple command, and which of them stand together is looked at behind it.
 ghost use Rattle.std.specs.Prelude.{◌≡◌, ◌≤◌, IfSome, Some, None, option_map, option_and_then};
 ghost use Rattle.clap.specs.Words.{first_of, found_of, rows_of};
@@ -45,12 +45,18 @@ fn is_set(matches: &ArgMatches<'_>, name: &str) -> bool
     }
 }
 
+/// The text, where it may be a path or an address.
+fn path_of(text: &str) -> Option<&str>
+    ensures { option_map (λ path. path.now) result ≡ text_of text.entry.now }
+{
+    if is_text(text) { Some(text) } else { None }
+}
+
 fn text_at<'a>(matches: &ArgMatches<'a>, name: &str) -> Option<&'a str>
     ensures { option_map (λ text. text.now) result
         ≡ option_and_then text_of (first_of name.now (rows_of (found_of matches.now))) }
 {
-    let text = value_of(matches, name)?;
-    if is_text(text) { Some(text) } else { None }
+    path_of(value_of(matches, name)?)
 }
 
 /// What `pipe` is to do.
@@ -74,10 +80,15 @@ pub fn serve_of<'a>(matches: &ArgMatches<'a>) -> Option<Words<'a>>
     let users = text_at(matches, "users")?;
     let listen = text_at(matches, "listen")?;
     let workers = number_in(matches, "workers", 1, SESSION_LIMIT)?;
+    let journal = match value_of(matches, "journal") {
+        Some(path) => Some(path_of(path)?),
+        None => None,
+    };
     Some(Words::Serve {
         users,
         listen,
         workers,
+        journal,
     })
 }
 
@@ -93,25 +104,36 @@ pub fn load_of(matches: &ArgMatches<'_>) -> Option<LoadOptions>
 }
 
 fn standard_at<'a>(users: &'a str, at: &str) -> Option<MirrorWords<'a>>
-    ensures value { option_map shown_mirror result ≡ mirror_by users.entry.now (Some at.now) None None }
+    ensures value { option_map shown_mirror result ≡ mirror_by users.entry.now (Some at.now) None None None }
     ensures workers { IfSome result HaveWorkers }
 {
     let at = Some(whole_number(at)?);
     Some(MirrorWords::Standard { users, at })
 }
 
-fn listen_at<'a>(users: &'a str, listen: &'a str, count: &str) -> Option<MirrorWords<'a>>
-    ensures value { option_map shown_mirror result ≡ mirror_by users.entry.now None (Some listen.entry.now) (Some count.now) }
+fn listen_at<'a>(
+    users: &'a str,
+    listen: &'a str,
+    count: &str,
+    journal: Option<&'a str>,
+) -> Option<MirrorWords<'a>>
+    ensures value { option_map shown_mirror result
+        ≡ mirror_by users.entry.now None (Some listen.entry.now) (Some count.now) (option_map (λ path. path.now) journal.entry) }
     ensures workers { IfSome result HaveWorkers }
 {
     if !is_text(listen) {
         return None;
     }
     let workers = checked(whole_number(count)?, 1, SESSION_LIMIT)?;
+    let journal = match journal {
+        Some(path) => Some(path_of(path)?),
+        None => None,
+    };
     Some(MirrorWords::Listen {
         users,
         listen,
         workers,
+        journal,
     })
 }
 
@@ -127,10 +149,11 @@ pub fn mirror_of<'a>(matches: &ArgMatches<'a>) -> Option<MirrorWords<'a>>
     if listen.is_none() && is_set(matches, "until-input-ends") {
         return None;
     }
-    match (at, listen, workers) {
-        (None, None, None) => Some(MirrorWords::Standard { users, at: None }),
-        (Some(at), None, None) => standard_at(users, at),
-        (None, Some(listen), Some(count)) => listen_at(users, listen, count),
+    let journal = value_of(matches, "journal");
+    match (at, listen, workers, journal) {
+        (None, None, None, None) => Some(MirrorWords::Standard { users, at: None }),
+        (Some(at), None, None, None) => standard_at(users, at),
+        (None, Some(listen), Some(count), journal) => listen_at(users, listen, count, journal),
         _ => None,
     }
 }

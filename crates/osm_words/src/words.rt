@@ -33,11 +33,13 @@ pub enum Words<'a> {
         at: Option<u64>,
     },
     /// To serve the links that come to an address, as the host reads it, with the users of the text
-    /// at that path and with so many workers, from 1 to `SESSION_LIMIT`.
+    /// at that path and with so many workers, from 1 to `SESSION_LIMIT`. Where there is a path of a
+    /// journal, the map is the one that this file tells of, and each change is kept there.
     Serve {
         users: &'a str,
         listen: &'a str,
         workers: u32,
+        journal: Option<&'a str>,
     },
     /// To send a load and tell what came of it.
     Measure(LoadOptions),
@@ -50,7 +52,7 @@ pub enum Words<'a> {
         users: &'a str,
         at: Option<u64>,
     },
-    /// As `Serve`, for the server of notes.
+    /// As `Serve`, for the server of notes, which keeps no journal.
     ServeNotes {
         users: &'a str,
         listen: &'a str,
@@ -66,11 +68,14 @@ pub enum MirrorWords<'a> {
         users: &'a str,
         at: Option<u64>,
     },
-    /// To serve the links that come to an address, as `Words::Serve`.
+    /// To serve the links that come to an address, as `Words::Serve`. Where there is a path of a
+    /// journal, the mirror goes on from the entries that this file tells of, and each entry that it
+    /// takes is kept there.
     Listen {
         users: &'a str,
         listen: &'a str,
         workers: u32,
+        journal: Option<&'a str>,
     },
 }
 

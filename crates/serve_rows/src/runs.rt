@@ -2,6 +2,7 @@
 use crate::ports::port;
 use crate::replies::{Numbers, reply};
 use crate::texts::{CREATION, FIRST, READ, USERS};
+use journal_host::MemJournals;
 use mirror_serve::mirror;
 use osm_base::{Bytes, Memory};
 use osm_outside::{MemHost, MemLink, MemPort};
@@ -76,9 +77,12 @@ pub fn listen<R: Threads + Wait + Sync>(
         Vec::new(alloc),
         1_000,
     )?;
+    let mut journals = MemJournals::new(None, u64::MAX);
     let status = match program {
-        Program::Server | Program::Notes => run(rt, alloc, words, &mut host, &mut standard),
-        Program::Mirror => mirror(rt, alloc, words, &mut host, &mut standard),
+        Program::Server | Program::Notes => {
+            run(rt, alloc, words, &mut host, &mut journals, &mut standard)
+        }
+        Program::Mirror => mirror(rt, alloc, words, &mut host, &mut journals, &mut standard),
     };
     let is_unused = standard.left().len() == length && standard.written().is_empty();
     Ok(Outcome {

@@ -1,5 +1,6 @@
 //! One run of the server or of a mirror for a row, and whether what came is what must come.
 use crate::rows::Row;
+use journal_host::MemJournals;
 use mirror_serve::mirror;
 use osm_base::Bytes;
 use osm_outside::{MemHost, MemLink};
@@ -146,10 +147,11 @@ fn served<R: Threads + Wait + Sync>(
     let bad_calls = row.bad_calls.as_slice().to_vec(alloc)?;
     let mut host = MemHost::new(alloc, users, Vec::new(alloc), bad_calls)?;
     let words = row.words.as_slice();
+    let mut journals = MemJournals::new(None, u64::MAX);
     if row.is_of_mirror() {
-        Ok(mirror(rt, alloc, words, &mut host, link))
+        Ok(mirror(rt, alloc, words, &mut host, &mut journals, link))
     } else {
-        Ok(run(rt, alloc, words, &mut host, link))
+        Ok(run(rt, alloc, words, &mut host, &mut journals, link))
     }
 }
 

@@ -39,7 +39,7 @@ joined allows old new (v ∷ visits) h =
 
 module _ {C E : Type 0} (steps : C → List E → Message → ℕ → Reply → List E → Type 0) where
   -- what is seen over a step goes on
-  step_begins : (old : AtFront C E) (message : Message) (moment : ℕ) (reply : Reply) (new : AtFront C E)
+  pub step_begins : (old : AtFront C E) (message : Message) (moment : ℕ) (reply : Reply) (new : AtFront C E)
       → Allows steps old message moment reply new → IsPrefix old.front new.front
   step_begins old message moment reply new a =
       prefix_trans old.front a.answered.found new.front a.answered.begins (grows_on a.answered.found new.front a.answered.grows)
@@ -56,7 +56,7 @@ module _ {C E : Type 0} (steps : C → List E → Message → ℕ → Reply → 
   chain_setting old new (e ∷ exchanges) h = chain_setting h.0 new exchanges h.2 ∙ h.1.setting
 
   -- a step that was made on what is now a beginning of a list
-  is_step : (list : List E) (old : AtFront C E) (e : Exchange) (new : AtFront C E) → IsPrefix new.front list
+  pub is_step : (list : List E) (old : AtFront C E) (e : Exchange) (new : AtFront C E) → IsPrefix new.front list
       → Allows steps old e.message e.moment e.answer new → IsStepOf (steps old.setting) list (length old.front) e (length new.front)
   is_step list old e new within a =
       let found = a.answered.found in

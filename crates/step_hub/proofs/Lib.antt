@@ -1,3 +1,3 @@
-mod Beginnings
-mod Joined
+pub mod Beginnings
+pub mod Joined
 mod Working

@@ -16,7 +16,7 @@ use Rattle.step_hub.specs.Steps.{AtFront, at_front, Allows}
 use Rattle.step_hub.specs.ServePorts.{Work, HasWorked, ServesAll}
 use Rattle.step_hub.proofs.Joined.{Joins, joined, chain_setting, are_steps}
 
-module _ {C E P : Type 0} (steps : C → List E → Message → ℕ → Reply → List E → Type 0) (setting : C) (told : P → PortTold) (list : List E) where
+module _ {C E P : Type 0} (steps : C → List E → Message → ℕ → Reply → List E → Type 0) (setting : C) (told : P → PortTold) (J list : List E) where
   desk_is : (desk : AtFront C E) → desk.setting ≡ setting → desk ≡ at_front setting desk.front
   desk_is desk same = λ i. record { setting = same i; front = desk.front }
 
@@ -25,30 +25,30 @@ module _ {C E P : Type 0} (steps : C → List E → Message → ℕ → Reply �
   work_of port w = record { front = w.session.front; before = told port; after = told w.port; failed = w.failed }
 
   one_work : (port : P) (w : Worker (AtFront C E) P) → IsPrefix w.session.front list
-      → ServesPort (Serves PIECE_LIMIT (Allows steps)) (at_front setting []) w.session (told port) (told w.port) w.failed → HasWorked steps setting list (work_of port w)
+      → ServesPort (Serves PIECE_LIMIT (Allows steps)) (at_front setting J) w.session (told port) (told w.port) w.failed → HasWorked steps setting J list (work_of port w)
   one_work port w begins h =
-      let all : Joins (Allows steps) (at_front setting []) w.session h.links.visits = joined (Allows steps) (at_front setting []) w.session h.links.visits h.links.served in
-      let same : w.session ≡ at_front setting w.session.front = desk_is w.session (chain_setting steps (at_front setting []) w.session (all_of all.exchanges) all.chain) in
-      let served = subst (λ (d : AtFront C E). ServesPort (Serves PIECE_LIMIT (Allows steps)) (at_front setting []) d (told port) (told w.port) w.failed) same h in
-      let again : Joins (Allows steps) (at_front setting []) (at_front setting w.session.front) served.links.visits =
-      joined (Allows steps) (at_front setting []) (at_front setting w.session.front) served.links.visits served.links.served in record {
+      let all : Joins (Allows steps) (at_front setting J) w.session h.links.visits = joined (Allows steps) (at_front setting J) w.session h.links.visits h.links.served in
+      let same : w.session ≡ at_front setting w.session.front = desk_is w.session (chain_setting steps (at_front setting J) w.session (all_of all.exchanges) all.chain) in
+      let served = subst (λ (d : AtFront C E). ServesPort (Serves PIECE_LIMIT (Allows steps)) (at_front setting J) d (told port) (told w.port) w.failed) same h in
+      let again : Joins (Allows steps) (at_front setting J) (at_front setting w.session.front) served.links.visits =
+      joined (Allows steps) (at_front setting J) (at_front setting w.session.front) served.links.visits served.links.served in record {
         links = served;
         front = begins;
         exchanges = again.exchanges;
         each = again.each;
-        answered = are_steps steps setting list (at_front setting []) (at_front setting w.session.front) (all_of again.exchanges) refl begins again.chain;
+        answered = are_steps steps setting list (at_front setting J) (at_front setting w.session.front) (all_of again.exchanges) refl begins again.chain;
       }
 
   -- what all of them did
   pub record AllWorked (ports : List P) (new : List (Worker (AtFront C E) P)) : Type 0 where
     pub works : List (Work E)
-    pub worked : AllByRecursion (HasWorked steps setting list) works
+    pub worked : AllByRecursion (HasWorked steps setting J list) works
     pub handed : map (λ work. work.before) works ≡ map told ports
     pub back : map (λ work. work.after) works ≡ map told (ports_of new)
     pub some : list_any (λ w. w.failed) new ≡ list_any (λ work. work.failed) works
 
   more_work : (port : P) (ports : List P) (w : Worker (AtFront C E) P) (new : List (Worker (AtFront C E) P)) → IsPrefix w.session.front list
-      → ServesPort (Serves PIECE_LIMIT (Allows steps)) (at_front setting []) w.session (told port) (told w.port) w.failed
+      → ServesPort (Serves PIECE_LIMIT (Allows steps)) (at_front setting J) w.session (told port) (told w.port) w.failed
       → AllWorked ports new → AllWorked (port ∷ ports) (w ∷ new)
   more_work port ports w new begins h rest = record {
     works = work_of port w ∷ rest.works;
@@ -59,25 +59,26 @@ module _ {C E P : Type 0} (steps : C → List E → Message → ℕ → Reply �
   }
 
   all_worked : (ports : List P) (new : List (Worker (AtFront C E) P))
-      → AllWork (Serves PIECE_LIMIT (Allows steps)) told (seated (replicate (length ports) (at_front setting [])) ports) new
+      → AllWork (Serves PIECE_LIMIT (Allows steps)) told (seated (replicate (length ports) (at_front setting J)) ports) new
       → AllByRecursion (λ (desk : AtFront C E). IsPrefix desk.front list) (sessions_of new) → AllWorked ports new
   all_worked [] [] h begin = record { works = []; worked = tt; handed = refl; back = refl; some = refl }
   all_worked [] (w ∷ new) h begin = absurd h
   all_worked (p ∷ ports) [] h begin = absurd h
   all_worked (p ∷ ports) (w ∷ new) h begin = more_work p ports w new begin.0 h.0 (all_worked ports new h.1 begin.1)
 
-  -- the clause on all workers, whose desks had seen nothing
+  -- the clause on all workers, whose desks had seen J
   pub serves_all : (legal : List E → Type 0) (ports back : List P) (desks : List (AtFront C E)) (new : List (Worker (AtFront C E) P)) (count : ℕ) (failed : Bool)
-      → legal list → desks ≡ replicate count (at_front setting []) → length ports ≡ count
+      → legal list → IsPrefix J list → desks ≡ replicate count (at_front setting J) → length ports ≡ count
       → AllWork (Serves PIECE_LIMIT (Allows steps)) told (seated desks ports) new
       → AllByRecursion (λ (desk : AtFront C E). IsPrefix desk.front list) (sessions_of new)
       → back ≡ ports_of new → failed ≡ list_any (λ w. w.failed) new
-      → ServesAll steps legal setting (map told ports) (map told back) failed
-  serves_all legal ports back desks new count failed legal_is fresh counted works begin back_is failed_is =
-      let same : desks ≡ replicate (length ports) (at_front setting []) = fresh ∙ ap (λ (n : ℕ). replicate n (at_front setting [])) (sym counted) in
+      → ServesAll steps legal setting J (map told ports) (map told back) failed
+  serves_all legal ports back desks new count failed legal_is goes_on fresh counted works begin back_is failed_is =
+      let same : desks ≡ replicate (length ports) (at_front setting J) = fresh ∙ ap (λ (n : ℕ). replicate n (at_front setting J)) (sym counted) in
       let all = all_worked ports new (subst (λ (ds : List (AtFront C E)). AllWork (Serves PIECE_LIMIT (Allows steps)) told (seated ds ports) new) same works) begin in record {
         list = list;
         legal_is = legal_is;
+        goes_on = goes_on;
         works = all.works;
         worked = all.worked;
         handed = all.handed;

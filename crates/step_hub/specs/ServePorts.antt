@@ -46,35 +46,41 @@ pub record Work (E : Type 0) : Type 0 where
   pub after : PortTold
   pub failed : Bool
 
--- A worker that had seen nothing of the list served the links of its port.
+-- A worker that had seen this beginning J of the list served the links of its port.
 pub record HasWorked {C E : Type 0} (steps : C → List E → Message → ℕ → Reply → List E → Type 0)
-    (setting : C) (list : List E) (work : Work E) : Type 0 where
+    (setting : C) (J list : List E) (work : Work E) : Type 0 where
   -- each link that the port handed out was served once, to an end, and given back; where accepting didn't fail, no known link is to come
-  pub links : ServesPort (Serves PIECE_LIMIT (Allows steps)) (at_front setting []) (at_front setting work.front) work.before work.after work.failed
+  pub links : ServesPort (Serves PIECE_LIMIT (Allows steps)) (at_front setting J) (at_front setting work.front) work.before work.after work.failed
   pub front : IsPrefix work.front list
   -- The messages of all these links, one link after another: each reply is a step on a beginning of the list. The points never go back,
-  -- from one link to the next neither.
+  -- from one link to the next neither. They begin where J ends.
   pub exchanges : List (List Exchange)
   pub each : AllZip (IsServed (Allows steps)) links.links.visits exchanges
-  pub answered : AreStepsOf (steps setting) list 0 (all_of exchanges) (length work.front)
+  pub answered : AreStepsOf (steps setting) list (length J) (all_of exchanges) (length work.front)
 
--- The links of these ports were served over one list that was empty.
+-- The links of these ports were served over one list that began with J.
 pub record ServesAll {C E : Type 0} (steps : C → List E → Message → ℕ → Reply → List E → Type 0) (legal : List E → Type 0)
-    (setting : C) (before after : List PortTold) (failed : Bool) : Type 0 where
+    (setting : C) (J : List E) (before after : List PortTold) (failed : Bool) : Type 0 where
   pub list : List E
   pub legal_is : legal list
+  pub goes_on : IsPrefix J list
   -- one worker for each port
   pub works : List (Work E)
-  pub worked : AllByRecursion (HasWorked steps setting list) works
+  pub worked : AllByRecursion (HasWorked steps setting J list) works
   pub handed : map (λ work. work.before) works ≡ before
   pub back : map (λ work. work.after) works ≡ after
   pub some_failed : failed ≡ list_any (λ work. work.failed) works
 
--- what serving ports comes to: no reply is held back, and want of memory leaves them as they were
+-- what serving ports comes to, on from such a list: no reply is held back, and want of memory leaves them as they were
+abbrev pub ServesPortsFrom : {C E : Type 0} → (C → List E → Message → ℕ → Reply → List E → Type 0) → (List E → Type 0)
+    → C → List E → List PortTold → List PortTold → Outcome → Type 0
+ServesPortsFrom steps legal setting J before after Served = ServesAll steps legal setting J before after false
+ServesPortsFrom steps legal setting J before after Failed = ServesAll steps legal setting J before after true
+ServesPortsFrom steps legal setting J before after Unkept = ⊥
+ServesPortsFrom steps legal setting J before after Unmatched = ⊥
+ServesPortsFrom steps legal setting J before after LacksMemory = after ≡ before
+
+-- the same, on from an empty list
 abbrev pub ServesPorts : {C E : Type 0} → (C → List E → Message → ℕ → Reply → List E → Type 0) → (List E → Type 0)
     → C → List PortTold → List PortTold → Outcome → Type 0
-ServesPorts steps legal setting before after Served = ServesAll steps legal setting before after false
-ServesPorts steps legal setting before after Failed = ServesAll steps legal setting before after true
-ServesPorts steps legal setting before after Unkept = ⊥
-ServesPorts steps legal setting before after Unmatched = ⊥
-ServesPorts steps legal setting before after LacksMemory = after ≡ before
+ServesPorts steps legal setting before after outcome = ServesPortsFrom steps legal setting [] before after outcome

@@ -1,5 +1,5 @@
 //! A desk of one worker.
-ghost use Rattle.std.specs.Prelude.{◌≡◌};
+ghost use Rattle.std.specs.Prelude.{◌≡◌, ◌++◌, IfOk};
 ghost use Rattle.step_hub.specs.Steps.{at_front};
 
 use crate::hub::StepHub;
@@ -49,6 +49,17 @@ impl<'a, N: HubName, S: Stepped + Drop, R: Wait> StepDesk<'a, N, S, R> {
             setting,
             front,
         }
+    }
+
+    /// Copies of the entries that are found under the lock behind this beginning of the list, and the longer one that they make of it.
+    pub fn behind(
+        &self,
+        alloc: Global,
+        front: &Front<N, S::Entry>,
+    ) -> Result<(Vec<S::Entry>, Front<N, S::Entry>), Memory>
+        ensures { IfOk result (λ r. r.1 ≡ front.now ++ r.0.items) }
+    {
+        self.hub.behind(self.rt, alloc, front)
     }
 
     /// What it has seen of the list.

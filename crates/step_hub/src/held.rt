@@ -5,7 +5,7 @@
 //! that the list under the lock is the whole list, so the case that it is longer has a branch: the
 //! value isn't asked any more, and each message gets 503. No run has shown it. The server's hub
 //! takes its lock again there; a mirror may answer any message with 503.
-ghost use Rattle.std.specs.Prelude.{◌≡◌, ◌<◌, ◌^◌, length, IsTrue, IfOk, OnOk, OnErr};
+ghost use Rattle.std.specs.Prelude.{◌≡◌, ◌<◌, ◌^◌, ◌++◌, [], length, IsTrue, IfOk, OnOk, OnErr};
 ghost use mathlib.Core.List.{IsPrefix};
 ghost use Rattle.osm_base.specs.Status.{IsStatus};
 ghost use Rattle.http_link.specs.Desk.{counted_reply};
@@ -14,7 +14,7 @@ ghost use Rattle.step_hub.specs.Steps.{GrowsByOne, StepsOn};
 use crate::stepped::Stepped;
 use http_link::Reply;
 use http_wire::Message;
-use osm_base::Memory;
+use osm_base::{Memory, copy_all};
 use shared_front::{Front, HubName, Tail};
 use std::alloc::Global;
 use std::marker::Model;
@@ -43,17 +43,32 @@ impl<N: HubName, S: Stepped + Drop> Model for Held<N, S> {
 }
 
 impl<N: HubName, S: Stepped + Drop> Held<N, S> {
-    /// An empty list.
-    pub fn new(value: S, tail: Tail<N, S::Entry>, front: Front<N, S::Entry>) -> Held<N, S>
-        requires { S.list value ≡ front }
-        ensures { result ≡ front }
+    /// The value's list, all of it added to an empty list. `Memory` where that took no more, which no run has shown.
+    pub fn begin(
+        value: S,
+        tail: Tail<N, S::Entry>,
+        mut front: Front<N, S::Entry>,
+    ) -> Result<Held<N, S>, Memory>
+        requires { front ≡ [] }
+        ensures list { IfOk result (λ held. held ≡ S.list value) }
+        ensures legal { IfOk result (λ held. S.legal held) }
     {
-        Held {
+        if !add_all(value.entries(), &tail, &mut front) {
+            return Err(Memory);
+        }
+        Ok(Held {
             value,
             tail,
             front,
             ahead: false,
-        }
+        })
+    }
+
+    /// What was added to the list so far.
+    pub fn front(&self) -> &Front<N, S::Entry>
+        ensures { result.now ≡ self.now }
+    {
+        &self.front
     }
 
     /// Answers a message at the list that is found here, and lets that front see what the list is then.
@@ -88,6 +103,41 @@ impl<N: HubName, S: Stepped + Drop> Held<N, S> {
         *front = self.front.again();
         reply
     }
+
+    /// Copies of the entries behind this beginning of the list, and the longer one that they make of it, which is all of it.
+    pub fn behind(
+        &self,
+        alloc: Global,
+        front: &Front<N, S::Entry>,
+    ) -> Result<(Vec<S::Entry>, Front<N, S::Entry>), Memory>
+        ensures entries { IfOk result (λ r. r.1 ≡ front.now ++ r.0.items) }
+        ensures all { IfOk result (λ r. r.1 ≡ self.now) }
+    {
+        // What was seen of the list is longer than the list, and the value has an entry that the list hasn't: no run has shown either.
+        if self.ahead || !front.begins(&self.front) {
+            return Err(Memory);
+        }
+        let entries = self.value.entries();
+        let seen = (front.len() as usize).min(entries.len());
+        let copies = copy_all(alloc, &entries[seen..])?;
+        Ok((copies, self.front.again()))
+    }
+}
+
+/// Adds all these entries to an empty list, and says whether it did.
+fn add_all<N: HubName, E>(entries: &[E], tail: &Tail<N, E>, front: &mut Front<N, E>) -> bool
+    requires { front.old ≡ [] }
+    ensures { IsTrue result → front.new ≡ entries.now }
+{
+    if entries.len() as u64 >= MOST {
+        return false;
+    }
+    for entry in entries {
+        if !front.add(tail, entry) {
+            return false;
+        }
+    }
+    true
 }
 
 /// Adds the entry that the front lacks of these, if it lacks one, and says whether it has them all then.

@@ -1,10 +1,12 @@
 //! One list under a lock.
-ghost use Rattle.std.specs.Prelude.{◌≡◌, []};
+ghost use Rattle.std.specs.Prelude.{◌≡◌, ◌++◌, IfOk};
 
 use crate::held::Held;
 use crate::stepped::Stepped;
+use osm_base::Memory;
 use shared_front::{Front, HubName, Opened};
-use std::sync::Mutex;
+use std::alloc::Global;
+use std::sync::{Mutex, Wait};
 
 /// A value that answers messages in steps of a list, under one lock.
 #[derive(Drop)]
@@ -13,19 +15,34 @@ pub struct StepHub<N: HubName, S: Stepped + Drop> {
 }
 
 impl<N: HubName, S: Stepped + Drop> StepHub<N, S> {
-    /// A hub of a value whose list is empty, under that name, and the front that has seen nothing. It takes no memory.
-    pub fn new(value: S, opened: Opened<S::Entry>) -> (StepHub<N, S>, Front<N, S::Entry>)
+    /// A hub of a value under that name, and the front that has seen the value's whole list. It takes no memory; `Memory` where that
+    /// list couldn't be added to an empty one, which no run has shown.
+    pub fn begin(
+        value: S,
+        opened: Opened<S::Entry>,
+    ) -> Result<(StepHub<N, S>, Front<N, S::Entry>), Memory>
         requires named { opened ≡ N.book }
-        requires empty { S.list value ≡ [] }
-        ensures fresh { result.1 ≡ [] }
-        ensures legal { S.legal result.1 }
+        ensures all { IfOk result (λ r. r.1 ≡ S.list value) }
+        ensures legal { IfOk result (λ r. S.legal r.1) }
     {
-        let _legal = value.entries();
-        let (tail, front) = opened.named::<N>();
-        let first = front.again();
+        let (tail, none) = opened.named::<N>();
+        let held = Held::begin(value, tail, none)?;
+        let front = held.front().again();
         let hub = StepHub {
-            held: Mutex::new(Held::new(value, tail, front)),
+            held: Mutex::new(held),
         };
-        (hub, first)
+        Ok((hub, front))
+    }
+
+    /// Copies of the entries that are found behind this beginning of the list, and the longer one that they make of it.
+    pub fn behind<R: Wait>(
+        &self,
+        rt: &R,
+        alloc: Global,
+        front: &Front<N, S::Entry>,
+    ) -> Result<(Vec<S::Entry>, Front<N, S::Entry>), Memory>
+        ensures { IfOk result (λ r. r.1 ≡ front.now ++ r.0.items) }
+    {
+        self.held.lock(rt).behind(alloc, front)
     }
 }

@@ -13,5 +13,5 @@ mod stepped;
 
 pub use desk::StepDesk;
 pub use hub::StepHub;
-pub use ports::serve_ports;
+pub use ports::{serve_ports, serve_ports_from};
 pub use stepped::Stepped;

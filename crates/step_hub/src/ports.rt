@@ -9,7 +9,7 @@ ghost use Rattle.osm_base.specs.declared.limits.TheConstants.{PIECE_LIMIT};
 ghost use Rattle.http_link.specs.Link.{Serves};
 ghost use Rattle.link_workers.specs.Workers.{AllWork};
 ghost use Rattle.step_hub.specs.Steps.{at_front};
-ghost use Rattle.step_hub.specs.ServePorts.{ServesAll, ServesPorts};
+ghost use Rattle.step_hub.specs.ServePorts.{ServesAll, ServesPorts, ServesPortsFrom};
 
 use crate::desk::StepDesk;
 use crate::hub::StepHub;
@@ -49,6 +49,7 @@ fn longest<N: HubName, S: Stepped + Drop, R: Wait>(
 ) -> Front<N, S::Entry>
     requires { S.legal first.now }
     ensures legal { S.legal result }
+    ensures goes_on { IsPrefix first.now result }
     ensures begin { AllByRecursion (λ desk. IsPrefix desk.front result) desks.now }
 {
     let mut front = first.again();
@@ -88,9 +89,8 @@ fn serve_by<
 where
     S::Entry: Send + Sync,
     S::Setting: Sync,
-    requires fresh { first.now ≡ [] }
-    requires legal { S.legal first.now }
-    ensures served { IfOk result (λ failed. ServesAll S.steps S.legal setting.now (map P.told ports.old.items) (map P.told ports.new.items) failed) }
+    requires { S.legal first.now }
+    ensures served { IfOk result (λ failed. ServesAll S.steps S.legal setting.now first.now (map P.told ports.old.items) (map P.told ports.new.items) failed) }
     ensures count { IfOk result (λ failed. vec_len ports.new ≡ vec_len ports.old) }
     ensures err { OnErr result (ports.new.items ≡ ports.old.items) }
 {
@@ -104,8 +104,39 @@ where
     Ok(failed)
 }
 
-/// Serves the links of the ports by a new hub of this value under that name, one worker a port, each in a thread of its own, until
-/// no port has a link to come or accepting fails. The ports come back in their order.
+/// Serves the links of the ports by a new hub of this value under that name, on from the list that it has, one worker a port, each in
+/// a thread of its own, until no port has a link to come or accepting fails. The ports come back in their order.
+pub fn serve_ports_from<
+    N: HubName + Send + Sync,
+    S: Stepped + Drop + Send,
+    R: Threads + Wait + Sync,
+    P: Port + Drop + Send,
+>(
+    rt: &R,
+    alloc: Global,
+    value: S,
+    opened: Opened<S::Entry>,
+    setting: &S::Setting,
+    ports: &mut Vec<P>,
+) -> Outcome
+where
+    S::Entry: Send + Sync,
+    S::Setting: Sync,
+    requires named { opened ≡ N.book }
+    ensures serves { ServesPortsFrom S.steps S.legal setting.now (S.list value) (map P.told ports.old.items) (map P.told ports.new.items) result }
+    ensures count { vec_len ports.new ≡ vec_len ports.old }
+{
+    let Ok((hub, first)) = StepHub::<N, S>::begin(value, opened) else {
+        return Outcome::LacksMemory;
+    };
+    match serve_by(rt, alloc, &hub, setting, &first, ports) {
+        Ok(true) => Outcome::Failed,
+        Ok(false) => Outcome::Served,
+        Err(Memory) => Outcome::LacksMemory,
+    }
+}
+
+/// The same by a value whose list is empty.
 pub fn serve_ports<
     N: HubName + Send + Sync,
     S: Stepped + Drop + Send,
@@ -127,10 +158,5 @@ where
     ensures serves { ServesPorts S.steps S.legal setting.now (map P.told ports.old.items) (map P.told ports.new.items) result }
     ensures count { vec_len ports.new ≡ vec_len ports.old }
 {
-    let (hub, first) = StepHub::<N, S>::new(value, opened);
-    match serve_by(rt, alloc, &hub, setting, &first, ports) {
-        Ok(true) => Outcome::Failed,
-        Ok(false) => Outcome::Served,
-        Err(Memory) => Outcome::LacksMemory,
-    }
+    serve_ports_from::<N, S, R, P>(rt, alloc, value, opened, setting, ports)
 }

@@ -8,13 +8,13 @@ ghost use Rattle.step_hub.specs.Steps.{GrowsByOne, memory_reply};
 
 use http_link::Reply;
 use http_wire::Message;
-use osm_base::Memory;
+use osm_base::{Memory, TryCopy};
 use std::alloc::Global;
 
 /// A value with a list that only grows, which answers messages one after another.
 pub trait Stepped {
     /// What the list is made of.
-    type Entry;
+    type Entry: TryCopy + Drop;
 
     /// What all who ask have in common, such as the users.
     type Setting;

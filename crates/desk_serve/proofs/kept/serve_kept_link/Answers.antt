@@ -1,20 +1,36 @@
-use Rattle.desk_serve.proofs.Keeping.{keeps_link, unkept_start}
+use Rattle.kept_desk.specs.Kept.{Tells, AllowsKept}
+use Rattle.desk_serve.proofs.Keeping.{keeps_link, unkept_start, answers_seen, sound_at}
 use Rattle.desk_serve.proofs.Sound.{sound_of}
 use Rattle.desk_serve.proofs.kept.serve_kept_link.Goals as goal
 
 pub returns-in-Ok : goal.returns-in-Ok
 returns-in-Ok g c =
     let rules = g.M.Machine.rules in
+    let row = g.Q.SessionDesk.answers in
+    let keeps = g.Q.SessionDesk.keeps in
+    let kept = g.Q.KeptSession.kept in
+    let laws = g.met.Q.KeptSession in
+    let fresh = c.freshen_session.new.self in
     let new = c.answer_link-end.new.desk in
-    keeps_link rules g.D.SessionDesk.answers c.args.desk.now c.freshen_session.new.self new
-    (g.L.Outside.told c.args.link.now) (g.L.Outside.told c.answer_link-end.new.link) c.answer_link-end.result
+    let before = g.L.Outside.told c.args.link.now in
+    let after = g.L.Outside.told c.answer_link-end.new.link in
+    let end = c.answer_link-end.result in
+    keeps_link rules row (kept c.args.desk.now) (kept fresh) (kept new) before after end
     c.told_chain.ensures c.kept_is_served.ensures.served c.kept_is_served.ensures.same
-    c.in-Ok.ensures.users c.in-Ok.ensures.ok c.in-Ok.ensures.receipts c.answer_link-end.ensures.told
-    (sound_of rules c.points_are_consistent.ensures new.desk.known.front c.law.ensures)
+    c.in-Ok.ensures.users c.in-Ok.ensures.ok c.in-Ok.ensures.receipts
+    (answers_seen kept g.Q.Desk.allows g.Q.Desk.tells (AllowsKept row) Tells laws.allowed_kept laws.tells_kept
+    fresh new before after end c.answer_link-end.ensures.told)
+    (sound_at rules (keeps new) (kept new).desk (laws.same_session new)
+    (sound_of rules c.points_are_consistent.ensures (keeps new).known.front c.law.ensures))
 
 pub returns-in-Err : goal.returns-in-Err
 returns-in-Err g c =
     let rules = g.M.Machine.rules in
-    unkept_start rules g.D.SessionDesk.answers c.args.desk.now c.freshen_session.new.self
+    let keeps = g.Q.SessionDesk.keeps in
+    let kept = g.Q.KeptSession.kept in
+    let laws = g.met.Q.KeptSession in
+    let fresh = c.freshen_session.new.self in
+    unkept_start rules g.Q.SessionDesk.answers (kept c.args.desk.now) (kept fresh)
     (g.L.Outside.told c.args.link.now) c.link_left_alone.ensures c.in-Err.ensures.err
-    (sound_of rules c.points_are_consistent.ensures c.freshen_session.new.self.desk.known.front c.law-in-Err.ensures)
+    (sound_at rules (keeps fresh) (kept fresh).desk (laws.same_session fresh)
+    (sound_of rules c.points_are_consistent.ensures (keeps fresh).known.front c.law-in-Err.ensures))

@@ -1,9 +1,11 @@
-use Rattle.std.proofs.Common.{◌≡◌, ◌∙◌, length, sym, subst, arith, rules}
+use Rattle.std.proofs.Common.{◌≡◌, ◌∙◌, List, ℕ, [], length, sym, subst, arith, rules}
 use Rattle.journal_text.specs.Faults.{LacksHeader}
 use Rattle.journal_text.specs.Text.{header}
 use Rattle.journal_text.specs.declared.versions.Version.TheVariants.{Two}
+use Rattle.journal_input.specs.Place.{Sees}
 use Rattle.journal_input.proofs.Ends.{short_input, whole_front, header_fails}
 use Rattle.journal_input.proofs.Exits.{read_exit}
+use Rattle.journal_input.proofs.Places.{sees_nothing}
 use Rattle.journal_input.proofs.SoFarLemmas.{stops_is_fault}
 use Rattle.journal_input.proofs.input.read_entries.Goals as goal
 
@@ -28,4 +30,4 @@ returns g c =
     let within = is.within in
     let size : length front ≡ length (header Two) = first_of (omega (arith, within, c.if-len.false, c.len.ensures, c.in_ok-front.front.ok), search (arith, within)) in
     let lacks : LacksHeader front = subst LacksHeader c.as_slice.ensures.value (c.in_default.ensures.none (search rules)) in
-    c.refuse.ensures _ front (is.whole size) (first_of (search arith, omega (arith, c.len-else-len.ensures, c.in_ok-front.front.ok))) (header_fails front size lacks)
+    c.refuse.ensures _ front (is.whole size) (first_of (search arith, omega (arith, c.len-else-len.ensures, c.in_ok-front.front.ok))) (subst (λ (t : List ℕ). Sees c.behind-place.result t) c.deref.ensures.value (c.behind-place.ensures [] sees_nothing)) (header_fails front size lacks)

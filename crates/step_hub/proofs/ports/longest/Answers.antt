@@ -9,6 +9,7 @@ loop-desk-preserved g c =
     let L = g.S.Stepped.legal in
     let there = c.front-in-loop-desk.ensures in record {
       legal = ⊎_elim (λ e. subst L (sym e) before.legal) (λ e. subst L (sym e) (subst L (sym there.front) there.legal)) c.longer-front.ensures.is_one;
+      goes_on = prefix_trans c.args.first.now c.loop-desk.front c.longer-front.result before.goes_on c.longer-front.ensures.this;
       begin =
           each_more (λ d. IsPrefix d.front c.loop-desk.front) (λ d. IsPrefix d.front c.longer-front.result)
           (λ d p. prefix_trans d.front c.loop-desk.front c.longer-front.result p c.longer-front.ensures.this)

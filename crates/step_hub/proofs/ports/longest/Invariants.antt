@@ -6,5 +6,6 @@ use Rattle.step_hub.proofs.ports.longest.Given as goal
 abbrev pub invariant-loop-desk : goal.invariant-loop-desk
 invariant-loop-desk g l = record {
   legal : g.S.Stepped.legal l.front;
+  goes_on : IsPrefix l.first l.front;
   begin : AllByRecursion (λ d. IsPrefix d.front l.front) (take l.desk-index l.desks);
 }

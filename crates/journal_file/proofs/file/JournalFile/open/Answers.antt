@@ -1,4 +1,5 @@
 use Rattle.std.proofs.Common.{sym, ◌∙◌, ap, subst, List, ℕ, false}
+use Rattle.std.proofs.lemmas.Bool.{false≢true}
 use Rattle.journal_file.specs.Whole.{text_of, IsText}
 use Rattle.journal_file.specs.Settled.{kept}
 use Rattle.journal_file.proofs.Gates.{gated_text, settled_now}
@@ -11,7 +12,8 @@ repair-requires-clause-text g c =
     subst (λ (l : List ℕ). IsText (text_of l)) (sym front.1) (begins_text c.args.header.now front.0 c.requires.header)
 
 pub invariant_of-result : goal.invariant_of-result
-invariant_of-result g c = λ going. (settled_now _ _ _ _ c.in-Ok.ensures.settled, c.in-Ok.ensures.fine ∙ c.requires.fine)
+invariant_of-result g c =
+    (λ going. (settled_now _ _ _ _ c.in-Ok.ensures.settled, c.in-Ok.ensures.fine ∙ c.requires.fine), λ broken. absurd (false≢true broken))
 
 pub returns-in-Ok-clause-ok : goal.returns-in-Ok-clause-ok
 returns-in-Ok-clause-ok g c =

@@ -1,0 +1,150 @@
+//! What has replies wait until the file holds what they tell of.
+ghost use Rattle.std.specs.Prelude.{◌≡◌, ◌≤◌, IsTrue};
+ghost use mathlib.Core.List.{IsPrefix};
+ghost use Rattle.kept_entries.specs.Receipts.{last_count};
+ghost use Rattle.session_desk.specs.Answered.{StaysOrFreshens};
+
+use crate::inner::Inner;
+use journal_file::Device;
+use kept_entries::{Behind, Lines, Receipt, Shelf, Told, receipts_for};
+use machine_law::Machine;
+use session_desk::SessionDesk;
+use shared_front::{Front, HubName};
+use snapshot_hub::Snapshot;
+use std::alloc::Global;
+use std::marker::{Model, PhantomData};
+use std::sync::{Mutex, Wait};
+
+/// What a desk keeps by that answers for a session: where the file's shelf is, how many entries the
+/// desk's last reply may tell of, and the receipts in hand. Contracts see the last two.
+#[derive(Drop)]
+pub struct Keeper<'a, N: HubName, K: HubName, E, T: Lines<E>, V: Device, W: Wait> {
+    rt: &'a W,
+    alloc: Global,
+    shelf: &'a Mutex<Shelf<N, K, E, T, V>>,
+    told: &'a Mutex<Told<K>>,
+    tells_of: u64,
+    receipts: Front<K, Receipt>,
+    /// So many entries, at least, the last receipt in hand is for: what tells of no more needs no lock.
+    held: u64,
+}
+
+impl<'a, N: HubName, K: HubName, E, T: Lines<E>, V: Device, W: Wait> Model
+    for Keeper<'a, N, K, E, T, V, W> {
+    ghost use Rattle.std.specs.Prelude.{◌≤◌};
+    ghost use Rattle.kept_desk.specs.Kept.{InHand};
+    ghost use Rattle.kept_entries.specs.Receipts.{last_count};
+
+    ghost Value = { InHand };
+
+    ghost view = { λ k. record { tells_of = k.tells_of; receipts = k.receipts } };
+
+    ghost invariant = { λ k. k.held ≤ last_count k.receipts };
+}
+
+impl<'a, N: HubName, K: HubName, E, T: Lines<E>, V: Device, W: Wait> Keeper<'a, N, K, E, T, V, W> {
+    /// A keeper that has these receipts in hand, of a desk that has answered nothing.
+    pub fn new(
+        rt: &'a W,
+        alloc: Global,
+        shelf: &'a Mutex<Shelf<N, K, E, T, V>>,
+        told: &'a Mutex<Told<K>>,
+        receipts: Front<K, Receipt>,
+    ) -> Keeper<'a, N, K, E, T, V, W>
+        ensures { result ≡ record { tells_of = 0; receipts = receipts } }
+    {
+        Keeper {
+            rt,
+            alloc,
+            shelf,
+            told,
+            tells_of: 0,
+            receipts,
+            held: 0,
+        }
+    }
+
+    /// Notes how many entries the desk's last reply may tell of.
+    pub fn note(&mut self, tells_of: u64)
+        ensures { self.new ≡ record { tells_of = tells_of; receipts = self.old.receipts } }
+    {
+        self.tells_of = tells_of;
+    }
+
+    /// The receipts that it has in hand.
+    pub fn receipts(&self) -> Front<K, Receipt>
+        ensures { result ≡ self.now.receipts }
+    {
+        self.receipts.again()
+    }
+
+    /// The receipts in hand, when the desk is done.
+    pub fn into_receipts(self) -> Front<K, Receipt>
+        ensures { result ≡ self.entry.receipts }
+    {
+        let Keeper {
+            rt: _rt,
+            alloc: _alloc,
+            shelf: _shelf,
+            told: _told,
+            tells_of: _tells_of,
+            receipts,
+            held: _held,
+        } = self;
+        receipts
+    }
+}
+
+/// Has the file hold what the desk's last reply may tell of, by the entries that this source has, and
+/// takes the receipt for it, unless one in hand is for as much; and says whether one is. Receipts that
+/// are older than those in hand are no receipts for it; no run has shown them.
+pub fn keep_from<N: HubName, K: HubName, E: Drop, T: Lines<E>, V: Device, B: Behind<N, E>, W: Wait>(
+    keeper: &mut Keeper<'_, N, K, E, T, V, W>,
+    source: &mut B,
+) -> bool
+    ensures source { B.becomes source.old source.new }
+    ensures stays { keeper.new.tells_of ≡ keeper.old.tells_of }
+    ensures receipts { IsPrefix keeper.old.receipts keeper.new.receipts }
+    ensures tells { IsTrue result → keeper.new.tells_of ≤ last_count keeper.new.receipts }
+{
+    let count = keeper.tells_of;
+    if count <= keeper.held {
+        return true;
+    }
+    let (rt, alloc) = (keeper.rt, keeper.alloc);
+    let (shelf, told) = (keeper.shelf, keeper.told);
+    match receipts_for(rt, alloc, shelf, told, source, count) {
+        Ok(receipts) => {
+            if !keeper.receipts.begins(&receipts) {
+                return false;
+            }
+            keeper.receipts = receipts;
+            keeper.held = count;
+            true
+        }
+        Err(_) => false,
+    }
+}
+
+/// The same by the desk itself, which has the entries of its session.
+pub fn keep<
+    N: HubName,
+    K: HubName,
+    M: Machine,
+    S: Snapshot<N, M>,
+    T: Lines<M::Entry>,
+    V: Device,
+    D: SessionDesk<N, M, S>,
+    W: Wait,
+>(keeper: &mut Keeper<'_, N, K, M::Entry, T, V, W>, desk: &mut D) -> bool
+    ensures session { StaysOrFreshens M.rules (D.keeps desk.old) (D.keeps desk.new) }
+    ensures stays { keeper.new.tells_of ≡ keeper.old.tells_of }
+    ensures receipts { IsPrefix keeper.old.receipts keeper.new.receipts }
+    ensures tells { IsTrue result → keeper.new.tells_of ≤ last_count keeper.new.receipts }
+{
+    let mut source = Inner {
+        desk,
+        of: PhantomData,
+    };
+    keep_from(keeper, &mut source)
+}

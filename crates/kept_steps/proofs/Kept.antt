@@ -1,0 +1,31 @@
+-- What a desk that keeps before it tells may answer, by what its inner desk may.
+use Rattle.std.proofs.Common.{◌≡◌, ℕ, List, length, sym, ◌∙◌, subst}
+use mathlib.Core.List.{IsPrefix}
+use Rattle.http_wire.specs.declared.message.Message.{Message}
+use Rattle.http_link.specs.declared.desk.Reply.{Reply}
+use Rattle.kept_entries.specs.declared.receipts.Receipt.{Receipt}
+use Rattle.kept_desk.specs.Kept.{InHand}
+use Rattle.step_hub.specs.Steps.{AtFront, Allows}
+use Rattle.step_hub.proofs.Beginnings.{prefix_self, prefix_trans}
+use Rattle.kept_steps.specs.Kept.{AtKeptFront, kept_front, AllowsKept}
+
+module _ {C E : Type 0} (steps : C → List E → Message → ℕ → Reply → List E → Type 0) where
+  -- the reply may tell of all that the inner desk has seen then
+  pub answered_so : (old : AtKeptFront C E) (message : Message) (moment : ℕ) (reply : Reply) (desk : AtFront C E) (keeper : InHand)
+      → Allows steps old.desk message moment reply desk → keeper.tells_of ≡ length desk.front → keeper.receipts ≡ old.keeper.receipts
+      → AllowsKept steps old message moment reply (kept_front desk keeper)
+  answered_so old message moment reply desk keeper allowed all same = record {
+    answered = allowed;
+    tells_of = all;
+    receipts = subst (λ (l : List Receipt). IsPrefix old.keeper.receipts l) (sym same) (prefix_self old.keeper.receipts);
+  }
+
+  -- what was allowed is so with more receipts in hand
+  pub still_allowed : (old mid : AtKeptFront C E) (message : Message) (moment : ℕ) (reply : Reply) (keeper : InHand)
+      → keeper.tells_of ≡ mid.keeper.tells_of → IsPrefix mid.keeper.receipts keeper.receipts → AllowsKept steps old message moment reply mid
+      → AllowsKept steps old message moment reply (kept_front mid.desk keeper)
+  still_allowed old mid message moment reply keeper same more allowed = record {
+    answered = allowed.answered;
+    tells_of = same ∙ allowed.tells_of;
+    receipts = prefix_trans old.keeper.receipts mid.keeper.receipts keeper.receipts allowed.receipts more;
+  }

@@ -1,0 +1,11 @@
+use Rattle.std.proofs.Common.{◌∙◌, length, ap}
+use Rattle.kept_desk.specs.Kept.{InHand}
+use Rattle.kept_steps.proofs.Kept.{answered_so}
+use Rattle.kept_steps.proofs.desk.KeptStepDeskDesk.answer.Goals as goal
+
+pub returns-clause-allowed : goal.returns-clause-allowed
+returns-clause-allowed g c =
+    rw (← c.self.view_is)
+    (answered_so g.S.Stepped.steps _ _ _ _ _ _ c.answer-reply.ensures.allowed
+    (ap (λ (k : InHand). k.tells_of) c.note.ensures ∙ (c.len-seen.ensures ∙ ap length c.front.ensures.front))
+    (ap (λ (k : InHand). k.receipts) c.note.ensures))

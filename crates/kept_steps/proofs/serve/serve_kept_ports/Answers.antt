@@ -1,0 +1,37 @@
+use Rattle.std.proofs.Common.{◌≡◌, ◌<◌, length, map, sym, ap, ◌∙◌, subst}
+use mathlib.Core.List.{IsPrefix}
+use Rattle.kept_entries.specs.Receipts.{AreKept}
+use Rattle.kept_steps.specs.KeptPorts.{HaveKept}
+use Rattle.kept_steps.proofs.Working.{ports_kept}
+use Rattle.kept_steps.proofs.serve.serve_kept_ports.Goals as goal
+
+pub shelve-shelved-requires-clause-text : goal.shelve-shelved-requires-clause-text
+shelve-shelved-requires-clause-text g c = c.requires.text ∙ ap g.T.Lines.text (sym (c.again.ensures ∙ c.in-Ok.ensures.all))
+
+pub returns-clause-serves : goal.returns-clause-serves
+returns-clause-serves g c =
+    let S = g.S.Stepped in
+    let V = g.V.Device in
+    let text = g.T.Lines.text in
+    let told = g.P.PortOutside.told in
+    let J = S.list c.args.kept.value in
+    let first = c.in-Ok.first in
+    let all : first ≡ J = c.in-Ok.ensures.all in
+    let before = map told c.args.ports.now.items in
+    let after = map told c.serve_by-served.new.ports.items in
+    let shelf = c.into_inner-shelf.result in
+    let device = c.into_device-2.result in
+    let had = c.in-Ok-shelved.shelved.1 in
+    let one = c.in-Ok-shelved.ensures.first in
+    let back = c.in-Ok-served.back in
+    let served = c.in-Ok-served.ensures.served in
+    ports_kept S.steps c.args.setting.now J S.legal text V.moment V.left_since V.faults c.receipts_stay.ensures before after served.0 back.receipts.items had shelf.receipts
+    back.list shelf.entries device back.failed shelf.broken c.outcome_of-outcome.result c.in-Ok-served.ensures.legal
+    (subst (λ l. IsPrefix l back.list) all c.in-Ok-served.ensures.goes_on)
+    (subst (λ l. HaveKept S.steps c.args.setting.now l had served.0 before after back.failed) all served.3)
+    served.1 served.2
+    (one.0, c.in-Ok-shelved.ensures.receipts ∙ one.1, one.2 ∙ ap length (c.again.ensures ∙ all))
+    (subst (λ d. AreKept text V.moment V.left_since d shelf.entries shelf.receipts) (sym c.into_device-2.ensures) c.law.ensures.kept)
+    (λ going. ap V.faults c.into_device-2.ensures ∙ c.law.ensures.fine going)
+    (λ broken. subst (λ d. 0 < V.faults d) (sym c.into_device-2.ensures) (c.law.ensures.failed broken))
+    c.outcome_of-outcome.ensures

@@ -1,0 +1,117 @@
+//! A desk of one worker that keeps before it tells.
+ghost use Rattle.std.specs.Prelude.{◌≡◌, ◌≤◌, IsTrue};
+ghost use mathlib.Core.List.{IsPrefix};
+ghost use Rattle.kept_entries.specs.Receipts.{last_count};
+ghost use Rattle.kept_steps.specs.Kept.{kept_front};
+
+use crate::source::Source;
+use http_link::{Desk, Reply};
+use http_wire::Message;
+use journal_file::Device;
+use kept_desk::{Keeper, keep_from};
+use kept_entries::{Lines, Receipt};
+use osm_base::Memory;
+use shared_front::{Front, HubName};
+use std::alloc::Global;
+use std::marker::Model;
+use std::sync::Wait;
+use step_hub::{StepDesk, Stepped};
+
+/// A desk over a list, whose replies are sent only once the file holds what they tell of.
+#[derive(Drop)]
+pub struct KeptStepDesk<
+    'a,
+    N: HubName,
+    K: HubName,
+    S: Stepped + Drop,
+    T: Lines<S::Entry>,
+    V: Device,
+    R: Wait,
+> {
+    alloc: Global,
+    desk: StepDesk<'a, N, S, R>,
+    keeper: Keeper<'a, N, K, S::Entry, T, V, R>,
+}
+
+impl<'a, N: HubName, K: HubName, S: Stepped + Drop, T: Lines<S::Entry>, V: Device, R: Wait> Model
+    for KeptStepDesk<'a, N, K, S, T, V, R> {
+    ghost use Rattle.kept_steps.specs.Kept.{AtKeptFront, kept_front};
+
+    ghost Value = { AtKeptFront S.Setting S.Entry };
+
+    ghost view = { λ d. kept_front d.desk d.keeper };
+}
+
+impl<
+    'a,
+    N: HubName,
+    K: HubName,
+    S: Stepped + Drop,
+    T: Lines<S::Entry>,
+    V: Device,
+    R: Wait,
+> KeptStepDesk<'a, N, K, S, T, V, R> {
+    /// That desk, with a keeper.
+    pub fn new(
+        alloc: Global,
+        desk: StepDesk<'a, N, S, R>,
+        keeper: Keeper<'a, N, K, S::Entry, T, V, R>,
+    ) -> KeptStepDesk<'a, N, K, S, T, V, R>
+        ensures { result ≡ kept_front desk.entry keeper.entry }
+    {
+        KeptStepDesk {
+            alloc,
+            desk,
+            keeper,
+        }
+    }
+
+    /// What it has seen of the list.
+    pub fn front(&self) -> &Front<N, S::Entry>
+        ensures front { result.now ≡ self.now.desk.front }
+        ensures legal { S.legal self.now.desk.front }
+    {
+        self.desk.front()
+    }
+
+    /// The receipts in hand.
+    pub fn receipts(&self) -> Front<K, Receipt>
+        ensures { result ≡ self.now.keeper.receipts }
+    {
+        self.keeper.receipts()
+    }
+}
+
+/// Has the file hold what the desk's last reply may tell of, by the entries of its list.
+fn keep_list<N: HubName, K: HubName, S: Stepped + Drop, T: Lines<S::Entry>, V: Device, R: Wait>(
+    alloc: Global,
+    keeper: &mut Keeper<'_, N, K, S::Entry, T, V, R>,
+    desk: &StepDesk<'_, N, S, R>,
+) -> bool
+    ensures stays { keeper.new.tells_of ≡ keeper.old.tells_of }
+    ensures receipts { IsPrefix keeper.old.receipts keeper.new.receipts }
+    ensures tells { IsTrue result → keeper.new.tells_of ≤ last_count keeper.new.receipts }
+{
+    let mut source = Source { alloc, desk };
+    keep_from(keeper, &mut source)
+}
+
+impl<'a, N: HubName, K: HubName, S: Stepped + Drop, T: Lines<S::Entry>, V: Device, R: Wait> Desk
+    for KeptStepDesk<'a, N, K, S, T, V, R> {
+    ghost use Rattle.kept_steps.specs.Kept.{AllowsKept, Tells};
+
+    ghost allows = { λ old message moment reply new. AllowsKept S.steps old message moment reply new };
+
+    ghost tells = { λ desk. Tells desk };
+
+    fn answer(&mut self, alloc: Global, message: Message, moment: u64) -> Result<Reply, Memory> {
+        let reply = self.desk.answer(alloc, message, moment);
+        let seen = self.desk.front().len();
+        self.keeper.note(seen);
+        reply
+    }
+
+    fn may_tell(&mut self) -> bool {
+        keep_list(self.alloc, &mut self.keeper, &self.desk)
+    }
+}

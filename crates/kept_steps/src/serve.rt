@@ -1,0 +1,126 @@
+//! Serving ports over one list that is kept in a file.
+ghost use Rattle.std.specs.Prelude.{◌≡◌, map, vec_len, IsTrue};
+ghost use Rattle.kept_serve.specs.Ports.{EndsSo};
+ghost use Rattle.kept_entries.specs.declared.receipts.Receipt.{Receipt};
+ghost use Rattle.kept_steps.specs.KeptPorts.{AreMatched, ServesKeptPorts};
+
+use crate::ports::{KeptBack, KeptDesks, serve_by};
+use journal_file::{Device, JournalFile};
+use kept_entries::{Lines, Receipt, Shelf, Told, receipts_stay};
+use kept_serve::{are_given, shelve};
+use link_workers::Outcome;
+use osm_outside::{Port, PortOutside};
+use shared_front::{Front, HubName, Opened};
+use std::alloc::Global;
+use std::sync::{Mutex, Wait};
+use std::thread::Threads;
+use step_hub::{StepHub, Stepped};
+
+/// A value with a list, and the file that holds that list.
+#[derive(Drop)]
+pub struct KeptList<S: Stepped + Drop, V: Device> {
+    pub value: S,
+    pub file: JournalFile<V>,
+}
+
+/// Whether what the workers have in hand, and these receipts that they had at first, are the first
+/// receipts that the shelf gave, and they have seen what its file may hold. No run has shown otherwise.
+fn is_matched<N: HubName, K: HubName, E, T: Lines<E>, V: Device>(
+    had: &Front<K, Receipt>,
+    back: &KeptBack<N, K, E>,
+    shelf: &Shelf<N, K, E, T, V>,
+) -> bool
+    ensures { IsTrue result → AreMatched had.now back.now.receipts.items back.now.list shelf.now.entries shelf.now.receipts }
+{
+    let given = shelf.receipts();
+    if !had.begins(&given) {
+        return false;
+    }
+    if !are_given(&back.receipts, &given) {
+        return false;
+    }
+    shelf.front().begins(&back.list)
+}
+
+/// How serving ended, by what came back from the workers and by what the shelf gave: these receipts
+/// first.
+fn outcome_of<N: HubName, K: HubName, E, T: Lines<E>, V: Device>(
+    had: &Front<K, Receipt>,
+    back: &KeptBack<N, K, E>,
+    shelf: &Shelf<N, K, E, T, V>,
+) -> Outcome
+    ensures { EndsSo (AreMatched had.now back.now.receipts.items back.now.list shelf.now.entries shelf.now.receipts) back.now.failed shelf.now.broken result }
+{
+    if !is_matched(had, back, shelf) {
+        Outcome::Unmatched
+    } else if shelf.is_broken() {
+        Outcome::Unkept
+    } else if back.failed {
+        Outcome::Failed
+    } else {
+        Outcome::Served
+    }
+}
+
+/// Serves the links of the ports by a new hub of this value, on from the list that it has, under the
+/// names of the list and of its receipts, one worker a port, each in a thread of its own, until no port
+/// has a link to come or accepting fails. A reply is sent only once the file holds what it tells of. The
+/// ports come back in their order, and the file's device does.
+pub fn serve_kept_ports<
+    N: HubName + Send + Sync,
+    K: HubName + Send + Sync,
+    S: Stepped + Drop + Send,
+    T: Lines<S::Entry> + Send,
+    V: Device + Drop + Send,
+    R: Threads + Wait + Sync,
+    P: Port + Drop + Send,
+>(
+    rt: &R,
+    alloc: Global,
+    kept: KeptList<S, V>,
+    opened: Opened<S::Entry>,
+    receipts: Opened<Receipt>,
+    setting: &S::Setting,
+    ports: &mut Vec<P>,
+) -> (Outcome, V)
+where
+    S::Entry: Send + Sync,
+    S::Setting: Sync,
+    requires named { opened ≡ N.book }
+    requires receipts { receipts ≡ K.book }
+    requires text { kept.file.text ≡ T.text (S.list kept.value) }
+    ensures serves { ServesKeptPorts S.steps S.legal T.text V.moment V.left_since V.faults setting.now (S.list kept.value) result.1
+        (map P.told ports.old.items) (map P.told ports.new.items) result.0 }
+    ensures count { vec_len ports.new ≡ vec_len ports.old }
+{
+    // What is kept of a list is kept of each longer one.
+    receipts_stay::<S::Entry, T, V>();
+    let KeptList { value, file } = kept;
+    let Ok((hub, first)) = StepHub::<N, S>::begin(value, opened) else {
+        return (Outcome::LacksMemory, file.into_device());
+    };
+    let shelved = shelve::<N, K, S::Entry, T, V>(alloc, file, first.again(), receipts);
+    let (shelf, had) = match shelved {
+        Ok(shelved) => shelved,
+        Err(device) => return (Outcome::LacksMemory, device),
+    };
+    let told = Mutex::new(Told::of(had.again(), shelf.front().len()));
+    let shelf = Mutex::new(shelf);
+    let desks = KeptDesks {
+        rt,
+        hub: &hub,
+        setting,
+        first: &first,
+        shelf: &shelf,
+        told: &told,
+        had: &had,
+    };
+    let served = serve_by(rt, alloc, &desks, ports);
+    let shelf = shelf.into_inner();
+    let Ok(back) = served else {
+        return (Outcome::LacksMemory, shelf.into_device());
+    };
+    shelf.law();
+    let outcome = outcome_of(&had, &back, &shelf);
+    (outcome, shelf.into_device())
+}

@@ -1,0 +1,10 @@
+//! The map server whose journal is kept in a file, as what a program runs: the journal is taken up,
+//! links are served on from there, and no reply is sent before the file holds what it tells of.
+#![tactic(auto)]
+
+mod desk;
+mod ports;
+mod run;
+
+pub use desk::MapKeptDesk;
+pub use run::run_serve_kept;
