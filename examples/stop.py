@@ -5,7 +5,10 @@ Starts `PROGRAM serve --until-input-ends`, puts links under load for some second
 program's input. Half of the links read and half make changesets; a few more are silent. Then this has to hold:
 
 - each reply that came, came whole, and the link ended behind it;
-- the program ends by itself with status 0 within 10 seconds, and nobody takes links any more.
+- the program ends by itself with status 0 within 10 seconds, and nobody takes links any more;
+- a changeset whose creation was answered is in the journal.
+
+Then the same on a journal whose file can't grow, while a link is idle: the program has to end by itself with status 9.
 
 PROGRAM is crates/osm/out/osm where none is named. Status 0 where all holds, 1 where something doesn't, 2 where it can't be run.
 """
@@ -27,6 +30,8 @@ PROGRAM = os.path.join(HERE, "..", "crates", "osm", "out", "osm")
 WORKERS = 64
 SILENT = 4  # links that say nothing
 LIMIT = 10  # seconds that a stop may take
+UNKEPT = 9  # the status where a journal can't be kept
+LIMITED = 'ulimit -f 1; trap "" XFSZ; exec "$0" "$@"'
 
 
 class Client(threading.Thread):
@@ -36,6 +41,7 @@ class Client(threading.Thread):
         super().__init__()
         self.port, self.stream = port, connect(port, 60)
         self.message = request("PUT", "changeset/create", "token1", {"tags": {}}) if number % 2 else request("GET", "changesets")
+        self.creates = bool(number % 2)
         self.answered, self.wrong = 0, ""
 
     def run(self) -> None:
@@ -67,8 +73,9 @@ class Program:
         users = os.path.join(folder, "users.txt")
         with open(users, "w") as file:
             file.write("1 token1 user user1\n")
+        self.journal = os.path.join(folder, "journal")
         words = [*words, "serve", "--until-input-ends", "--users", users, "--listen", f"127.0.0.1:{self.port}"]
-        self.process = subprocess.Popen([*words, "--workers", str(WORKERS)], stdin=subprocess.PIPE)
+        self.process = subprocess.Popen([*words, "--workers", str(WORKERS), "--journal", self.journal], stdin=subprocess.PIPE)
         until = time.monotonic() + wait
         while not self.listens():
             if self.process.poll() is not None or time.monotonic() > until:
@@ -99,6 +106,11 @@ class Program:
         return status, time.monotonic() - begun
 
 
+def entries_of(journal: str) -> int:
+    with open(journal, "rb") as file:
+        return file.read().count(b"\n{")
+
+
 def try_stop(words: list[str], links: int, seconds: float, wait: float) -> list[str]:
     with tempfile.TemporaryDirectory() as folder:
         program = Program(words, folder, wait)
@@ -119,8 +131,25 @@ def try_stop(words: list[str], links: int, seconds: float, wait: float) -> list[
             wrong.append(f"the status is {status}, not 0, after {taken:.1f} seconds")
         if program.listens():
             wrong.append("links are still taken")
-        print(f"{sum(it.answered for it in clients)} replies on {links} links; it stopped in {taken:.2f} seconds")
+        created = sum(client.answered for client in clients if client.creates)
+        kept = entries_of(program.journal)
+        if not created <= kept <= created + links:
+            wrong.append(f"{created} creations were answered, and the journal has {kept}")
+        print(f"{sum(it.answered for it in clients)} replies on {links} links, {created} of them kept; it stopped in {taken:.2f} seconds")
     return wrong
+
+
+def try_full(words: list[str], wait: float) -> list[str]:
+    """Creates changesets until the journal's file can't grow, beside a link that stays idle."""
+    with tempfile.TemporaryDirectory() as folder:
+        program = Program(["/bin/sh", "-c", LIMITED, *words], folder, wait)
+        with connect(program.port):
+            client = Client(program.port, 1)
+            client.run()
+            status, taken = program.status(LIMIT)
+        print(f"{client.answered} changesets until the journal was full; it stopped in {taken:.2f} seconds")
+    wrong = [client.wrong] if client.wrong else []
+    return wrong if status == UNKEPT else [*wrong, f"on a full journal the status is {status}, not {UNKEPT}"]
 
 
 def main() -> int:
@@ -134,6 +163,7 @@ def main() -> int:
         print(f"there is no program {it.program}: ./osm builds it", file=sys.stderr)
         return 2
     wrong = try_stop([it.program], it.links, it.seconds, it.wait)
+    wrong += try_full([it.program], it.wait)
     for fault in wrong[:20]:
         print("wrong:", fault)
     print(f"{len(wrong)} wrong")
