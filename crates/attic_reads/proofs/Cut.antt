@@ -7,7 +7,7 @@ use Rattle.osm_base.specs.declared.keys.Kind.{Kind}
 use Rattle.osm_base.specs.declared.keys.Kind.TheVariants as kind
 use Rattle.osm_element.specs.Elements.{histories, history_in, history}
 use Rattle.osm_element.specs.declared.elements.Elements.{Elements}
-use Rattle.osm_element.specs.declared.versions.Version.{Version}
+use Rattle.osm_element.specs.Version.{Version}
 use Rattle.osm_model.specs.Past.{made_by, before_others, histories_by, elements_by}
 
 -- none passes the test

@@ -11,7 +11,7 @@ use Rattle.osm_element.specs.Elements.{key, key_of_member, current, refs_in, ref
 use Rattle.osm_element.specs.declared.contents.Content.{Content}
 use Rattle.osm_element.specs.declared.contents.Member.{Member}
 use Rattle.osm_element.specs.declared.elements.Elements.{Elements}
-use Rattle.osm_element.specs.declared.versions.Version.{Version}
+use Rattle.osm_element.specs.Version.{Version}
 use Rattle.osm_model.specs.Past.{is_last_shown}
 use Rattle.osm_model.specs.PastMap.{is_in, lists_one}
 use Rattle.osm_model.specs.Reads.{hidden}

@@ -11,7 +11,7 @@ use Rattle.osm_change.specs.declared.reads.VersionId.{VersionId}
 use Rattle.osm_element.specs.Elements.{history, version_in}
 use Rattle.osm_element.specs.declared.contents.Content.{Content}
 use Rattle.osm_element.specs.declared.elements.Elements.{Elements}
-use Rattle.osm_element.specs.declared.versions.Version.{Version}
+use Rattle.osm_element.specs.Version.{Version}
 use Rattle.osm_model.specs.Past.{is_last_shown, one_unmarked}
 use Rattle.osm_model.specs.Reads.{shown, current_shown, hidden, unless_hidden}
 use Rattle.attic_reads.specs.Attic.{last_shown, last_in}

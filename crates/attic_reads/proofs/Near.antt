@@ -17,7 +17,7 @@ use Rattle.osm_base.proofs.KeyOrder.{kind_eq-same, key_eq-same, key_eq-refl, key
 use Rattle.osm_element.specs.Elements.{key, history, content_of, position, position_in, refs_in, refs_of}
 use Rattle.osm_element.specs.declared.contents.Content.{Content}
 use Rattle.osm_element.specs.declared.elements.Elements.{Elements}
-use Rattle.osm_element.specs.declared.versions.Version.{Version}
+use Rattle.osm_element.specs.Version.{Version}
 use Rattle.osm_element.proofs.Listed.{lists_node_mapped}
 use Rattle.osm_element.proofs.Pushed.{last_content}
 use Rattle.osm_model.specs.Past.{was_made, elements_by, is_last_shown}

@@ -13,7 +13,7 @@ use Rattle.osm_change.specs.declared.reads.VersionId.{VersionId}
 use Rattle.osm_element.specs.Elements.{history, version_in, current, position_in, refs_in}
 use Rattle.osm_element.specs.declared.contents.Content.{Content}
 use Rattle.osm_element.specs.declared.elements.Elements.{Elements}
-use Rattle.osm_element.specs.declared.versions.Version.{Version}
+use Rattle.osm_element.specs.Version.{Version}
 use Rattle.indexed_map.specs.Ever.{has_used}
 use Rattle.osm_model.specs.Reads.{unless_hidden}
 use Rattle.osm_model.specs.Stamped.{stamp_of}

@@ -18,10 +18,10 @@ use osm_element::{Content, Member, Version};
 fn unmarked_content(version: &Version) -> Option<&Content<u64>>
     ensures { option_copied result ≡ unmarked_content version.now }
 {
-    if version.redaction.is_some() {
+    if version.redaction().is_some() {
         return None;
     }
-    version.content.as_ref()
+    version.content()
 }
 
 /// What an element held at a stamp, if it was visible and its version isn't marked.

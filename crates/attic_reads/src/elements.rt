@@ -44,13 +44,13 @@ fn last_in(key: Key, versions: &[Version]) -> Result<VersionId, ReadFault>
 fn shown_or_not(key: Key, number: u64, version: &Version) -> Result<VersionId, ReadFault>
     ensures { result ≡ last_shown key number version.now }
 {
-    if version.content.is_none() {
+    if version.content().is_none() {
         return Err(ReadFault::Gone {
             key,
             version: number,
         });
     }
-    match version.redaction {
+    match version.redaction() {
         None => Ok(VersionId { key, number }),
         Some(redaction) => Err(ReadFault::Redacted {
             key,

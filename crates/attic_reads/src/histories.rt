@@ -30,7 +30,7 @@ fn made_by(history: &[Version], at: u64) -> &[Version]
     requires { IsNonDecreasingBy stamp_of history.now }
     ensures { result.now ≡ made_by at history.now }
 {
-    let made = history.partition_point(|version| version.stamp.seconds() <= at);
+    let made = history.partition_point(|version| version.stamp().seconds() <= at);
     &history[..made]
 }
 
@@ -55,7 +55,7 @@ pub fn content_at(store: &Store, key: Key, at: u64) -> Option<&Content<u64>>
     ensures { option_copied result ≡ content_of (elements_by at store.now.elements) key }
 {
     match last_of(versions_at(store, key, at)) {
-        Some(version) => version.content.as_ref(),
+        Some(version) => version.content(),
         None => None,
     }
 }

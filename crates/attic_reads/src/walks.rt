@@ -173,7 +173,8 @@ fn add_users(world: &World, kind: Kind, used: Key, found: &mut Vec<Key>) -> Resu
         ≡ lists_key found.old.items x || is_candidate (state_of world.now).elements kind used x) }
 {
     add_key(kind, used, found)?;
-    add_of_kind(kind, world.users_ever(used), found)?;
+    let users = world.users_ever(used);
+    add_of_kind(kind, users.items(), found)?;
     Ok(())
 }
 

@@ -17,7 +17,7 @@ fn is_unmarked(store: &Store, work: &Work) -> bool
     ensures { result ≡ is_unmarked store.now.elements work.now }
 {
     match store.version(work.key, work.version) {
-        Some(version) => version.redaction.is_none(),
+        Some(version) => version.redaction().is_none(),
         None => false,
     }
 }

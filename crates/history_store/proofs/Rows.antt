@@ -9,7 +9,7 @@ use Rattle.std.specs.Option.{option_map_or, option_map, unwrap_or}
 use Rattle.std.proofs.lemmas.Option.{get_or_from_slice_get, slice_get-map, unwrap_or-slice_get}
 use Rattle.std.proofs.lemmas.Bool.Decides.{nat_tests}
 use Rattle.osm_base.specs.Row.{Row}
-use Rattle.osm_element.specs.declared.versions.Version.{Version}
+use Rattle.osm_element.specs.Version.{Version}
 use Rattle.osm_element.specs.Elements.{add_version, mark_in}
 use Rattle.history_store.specs.Shelf.{HasMore, IsShelf, Shelved, shelved}
 

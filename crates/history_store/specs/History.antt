@@ -1,7 +1,7 @@
 -- Where the versions of an element stand, as a list with promised room.
 use Rattle.std.specs.Prelude.{[], ◌∷◌}
 use Rattle.osm_base.specs.Row.{Row}
-use Rattle.osm_element.specs.declared.versions.Version.{Version}
+use Rattle.osm_element.specs.Version.{Version}
 use Rattle.history_store.specs.declared.histories.Place.{Place}
 use Rattle.history_store.specs.declared.histories.Place.TheVariants.{Empty, Awaited, One, More}
 

@@ -30,7 +30,7 @@ pub struct History {
 
 impl Model for History {
     ghost use Rattle.osm_base.specs.Row.{Row};
-    ghost use Rattle.osm_element.specs.declared.versions.Version.{Version};
+    ghost use Rattle.osm_element.specs.Version.{Version};
     ghost use Rattle.history_store.specs.History.{row_of};
 
     ghost Value = { Row Version };
@@ -203,7 +203,7 @@ fn marked(alloc: Global, place: Place, number: usize, redaction: Option<u64>) ->
         Place::Empty => Place::Empty,
         Place::Awaited => Place::Awaited,
         Place::One(mut version) => {
-            version.redaction = redaction;
+            version.mark(redaction);
             Place::One(version)
         }
         Place::More(mut versions) => {
@@ -215,13 +215,7 @@ fn marked(alloc: Global, place: Place, number: usize, redaction: Option<u64>) ->
 
 /// A version to stand where another is taken out. It takes no memory.
 fn vacant(alloc: Global) -> Version {
-    Version {
-        content: None,
-        tags: Tags::none(alloc),
-        changeset: 0,
-        stamp: Stamp(0),
-        redaction: None,
-    }
+    Version::new(None, Tags::none(alloc), 0, Stamp(0))
 }
 
 fn mark_row(alloc: Global, row: &mut Roomy<Version>, number: usize, redaction: Option<u64>)
@@ -229,15 +223,7 @@ fn mark_row(alloc: Global, row: &mut Roomy<Version>, number: usize, redaction: O
     requires made { number ≤ length row.old.items }
     ensures { row.new ≡ record row.old { items = mark_in row.old.items number redaction } }
 {
-    let version = row.replace(number - 1, vacant(alloc));
-    row.set(
-        number - 1,
-        Version {
-            content: version.content,
-            tags: version.tags,
-            changeset: version.changeset,
-            stamp: version.stamp,
-            redaction,
-        },
-    );
+    let mut version = row.replace(number - 1, vacant(alloc));
+    version.mark(redaction);
+    row.set(number - 1, version);
 }

@@ -113,7 +113,7 @@ impl Store {
         ensures { result ≡ position self.now.elements key }
     {
         match self.current(key) {
-            Some(version) => match &version.content {
+            Some(version) => match version.content() {
                 Some(Content::Node(at)) => Some(*at),
                 _ => None,
             },

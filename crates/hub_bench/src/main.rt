@@ -10,6 +10,7 @@ mod keepers;
 mod orders;
 mod reads;
 mod seats;
+mod sizes;
 mod texts;
 
 use hubs::follow_on_hub;

@@ -7,7 +7,7 @@ use Rattle.osm_base.specs.Place.{Position}
 use Rattle.osm_base.specs.declared.keys.Kind.{Kind}
 use Rattle.osm_base.specs.declared.keys.Kind.TheVariants.{Node, Way, Relation}
 use Rattle.osm_base.specs.declared.keys.Key.{Key}
-use Rattle.osm_element.specs.declared.versions.Version.{Version}
+use Rattle.osm_element.specs.Version.{Version}
 use Rattle.osm_element.specs.Elements.{no_elements, key, histories, history, position_in, refs_in}
 use Rattle.osm_element.proofs.Pushed.{last_content}
 use Rattle.osm_element.proofs.Used.{known}

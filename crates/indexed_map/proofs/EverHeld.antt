@@ -14,7 +14,7 @@ use Rattle.osm_base.specs.declared.keys.Kind.TheVariants.{Node}
 use Rattle.osm_base.specs.declared.keys.Key.{Key}
 use Rattle.osm_base.proofs.KeyOrder.{kind_eq-same, key_eq-same, key_eq-refl, key_eq-sym}
 use Rattle.osm_element.specs.declared.contents.Content.{Content}
-use Rattle.osm_element.specs.declared.versions.Version.{Version}
+use Rattle.osm_element.specs.Version.{Version}
 use Rattle.osm_element.specs.declared.elements.Elements.{Elements}
 use Rattle.osm_element.specs.Elements.{key, next_id, history, position, count, refs_in, uses, push_version, mark_in, mark}
 use Rattle.osm_element.specs.Later.{contents}

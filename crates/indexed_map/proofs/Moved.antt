@@ -9,7 +9,7 @@ use Rattle.osm_base.specs.declared.keys.Kind.{Kind}
 use Rattle.osm_base.specs.declared.keys.Kind.TheVariants.{Node}
 use Rattle.osm_base.specs.declared.keys.Key.{Key}
 use Rattle.osm_base.proofs.KeyOrder.{kind_eq-same, key_eq-same}
-use Rattle.osm_element.specs.declared.versions.Version.{Version}
+use Rattle.osm_element.specs.Version.{Version}
 use Rattle.osm_element.specs.declared.elements.Elements.{Elements}
 use Rattle.osm_element.specs.Elements.{key, next_id, content_of, position, position_in, push_version}
 use Rattle.osm_element.proofs.Pushed.{content-push}

@@ -23,7 +23,7 @@ fn last_place(versions: &[Version]) -> Option<Coord>
     let mut place = versions.len();
     while place > 0 {
         place -= 1;
-        if let Some(at) = new_position(&versions[place].content) {
+        if let Some(at) = new_position(&versions[place]) {
             return Some(at);
         }
     }
@@ -44,7 +44,7 @@ pub fn place_ever(store: &Store, grid: &mut Grid, key: Key, version: &Version)
 {
     if key.kind.is(Kind::Node) {
         let last = last_place(store.history(key));
-        let to = new_position(&version.content);
+        let to = new_position(version);
         if !share_cell(&last, &to) {
             enter(grid, key.id, to);
         }

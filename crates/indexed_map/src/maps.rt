@@ -22,7 +22,7 @@ use changeset_core::{Places, touched_area};
 use history_store::Store;
 use osm_base::{Box7, Coord, Key, Kind, Memory};
 use osm_element::{Content, Version};
-use reverse_refs::UserIndex;
+use reverse_refs::{UserIndex, UserList};
 use std::alloc::Global;
 use std::marker::Model;
 use tile_grid::Grid;
@@ -83,8 +83,8 @@ impl IndexedMap {
     }
 
     /// The users of an element, in order.
-    pub fn users(&self, key: Key) -> &[Key]
-        ensures { result.now ≡ users self.now.elements key }
+    pub fn users(&self, key: Key) -> UserList<'_>
+        ensures { result ≡ users self.now.elements key }
     {
         self.users.users(key)
     }
@@ -97,9 +97,9 @@ impl IndexedMap {
     }
 
     /// The elements of which some version lists this one, in order.
-    pub fn users_ever(&self, key: Key) -> &[Key]
-        ensures rising { IsRising result.now }
-        ensures each { (user : Key) → lists_key result.now user ≡ has_used self.now.elements user key }
+    pub fn users_ever(&self, key: Key) -> UserList<'_>
+        ensures rising { IsRising result }
+        ensures each { (user : Key) → lists_key result user ≡ has_used self.now.elements user key }
     {
         self.users_ever.users(key)
     }
@@ -138,7 +138,8 @@ impl IndexedMap {
     pub fn is_unused(&self, key: Key) -> bool
         ensures { result ≡ is_unused self.now.elements key }
     {
-        self.users(key).is_empty()
+        let users = self.users(key);
+        users.items().is_empty()
     }
 
     /// The least box of what a new content of an element touches, `None` where it touches nothing.

@@ -38,11 +38,11 @@ pub fn enter(grid: &mut Grid, id: u64, to: Option<Coord>)
     }
 }
 
-/// Where a content places its node.
-pub fn new_position(content: &Option<Content<u64>>) -> Option<Coord>
-    ensures { result ≡ new_position content.now }
+/// Where a version places its node.
+pub fn new_position(version: &Version) -> Option<Coord>
+    ensures { result ≡ new_position version.now.content }
 {
-    match content {
+    match version.content() {
         Some(Content::Node(at)) => Some(*at),
         _ => None,
     }
@@ -80,7 +80,7 @@ pub fn move_node(store: &Store, grid: &mut Grid, key: Key, version: &Version)
 {
     if key.kind.is(Kind::Node) {
         let from = store.place_of(key);
-        let to = new_position(&version.content);
+        let to = new_position(version);
         if !share_cell(&from, &to) {
             leave(grid, key.id, from);
             enter(grid, key.id, to);

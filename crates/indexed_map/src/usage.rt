@@ -20,8 +20,9 @@ fn end_use(users: &mut UserIndex, user: Key, used: Key, listed: &[Key])
         ≡ lists_key (users_in users.old b) a && not (key_eq used b && (key_eq user a && not (lists_key listed.now b))) }
     ensures room { (b : Key) → free_in users.new b ≡ free_in users.old b }
 {
-    if !is_listed(listed, used) && is_listed(users.users(used), user) {
-        users.take_out(Pair { user, used });
+    let pair = Pair { user, used };
+    if !is_listed(listed, used) && users.has(pair) {
+        users.take_out(pair);
     }
 }
 
@@ -85,7 +86,7 @@ pub fn current_content(store: &Store, key: Key) -> Option<&Content<u64>>
     ensures { option_copied result ≡ content_of store.now.elements key }
 {
     match store.current(key) {
-        Some(version) => version.content.as_ref(),
+        Some(version) => version.content(),
         None => None,
     }
 }
@@ -100,8 +101,9 @@ fn begin_use(users: &mut UserIndex, user: Key, used: Key)
     ensures spent { (b : Key) → free_in users.new b + (if key_eq used b && (not (key_eq user b) && not (lists_key (users_in users.old b) user))
         then 1 else 0) ≡ free_in users.old b }
 {
-    if !user.is(used) && !is_listed(users.users(used), user) {
-        users.add(Pair { user, used });
+    let pair = Pair { user, used };
+    if !user.is(used) && !users.has(pair) {
+        users.add(pair);
     }
 }
 

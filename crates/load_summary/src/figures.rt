@@ -65,7 +65,7 @@ fn is_visible(store: &Store, key: Key) -> bool
     ensures { result ≡ is_visible store.now.elements key }
 {
     match store.current(key) {
-        Some(version) => version.content.is_some(),
+        Some(version) => version.content().is_some(),
         None => false,
     }
 }

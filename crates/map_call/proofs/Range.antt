@@ -6,7 +6,7 @@ use Rattle.std.proofs.lemmas.Bool.{false≢true}
 use Rattle.osm_base.specs.Key.{lists_key}
 use Rattle.osm_base.specs.Place.{Position}
 use Rattle.osm_base.specs.declared.keys.Key.{Key}
-use Rattle.osm_element.specs.declared.versions.Version.{Version}
+use Rattle.osm_element.specs.Version.{Version}
 use Rattle.osm_element.specs.declared.elements.Elements.{Elements}
 use Rattle.osm_element.specs.Elements.{histories, history, is_visible, position, position_in, refs_in}
 use Rattle.osm_element.proofs.Pushed.{last_content}

@@ -69,7 +69,8 @@ pub fn list_users(world: &World, nodes: &[u64], found: &mut Users) -> Result<(),
             kind: Kind::Node,
             id: *id,
         };
-        list_both(world.users(node), found)?;
+        let listing = world.users(node);
+        list_both(listing.items(), found)?;
     }
     Ok(())
 }
@@ -86,7 +87,8 @@ pub fn list_relation_users(
 {
     for id in used {
         let of = Key { kind, id: *id };
-        list_relations(world.users(of), ids)?;
+        let listing = world.users(of);
+        list_relations(listing.items(), ids)?;
     }
     Ok(())
 }
@@ -105,7 +107,8 @@ fn list_new_users(world: &World, known: &[u64], id: u64, ids: &mut Vec<u64>) -> 
         kind: Kind::Node,
         id,
     };
-    list_relations(world.users(node), ids)
+    let listing = world.users(node);
+    list_relations(listing.items(), ids)
 }
 
 /// Adds the relations that use one of some nodes which aren't `known`.
@@ -167,7 +170,7 @@ fn list_element(store: &Store, of: Key, ids: &mut Vec<u64>) -> Result<(), Memory
     ensures { OnOk result ((id : ℕ) → lists_id ids.new.items id ≡ lists_id ids.old.items id || lists store.now.elements of (key Kind.Node id)) }
 {
     match store.current(of) {
-        Some(version) => match &version.content {
+        Some(version) => match version.content() {
             Some(content) => list_content(content, ids),
             None => Ok(()),
         },

@@ -18,7 +18,7 @@ fn element_row(world: &World, shown: VersionId) -> Option<ElementRow<'_>>
     let Some(version) = world.store().version(shown.key, shown.number) else {
         return None;
     };
-    let Some(kept) = world.changeset(version.changeset) else {
+    let Some(kept) = world.changeset(version.changeset()) else {
         return None;
     };
     Some(ElementRow {

@@ -7,7 +7,7 @@ use Rattle.osm_base.specs.declared.keys.Kind.{Kind}
 use Rattle.osm_base.specs.declared.keys.Kind.TheVariants.{Node, Way, Relation}
 use Rattle.osm_base.specs.declared.keys.Key.{Key}
 use Rattle.osm_base.proofs.Pushed.{found_in_push}
-use Rattle.osm_element.specs.declared.versions.Version.{Version}
+use Rattle.osm_element.specs.Version.{Version}
 use Rattle.osm_element.specs.declared.elements.Elements.{Elements}
 use Rattle.osm_element.specs.Elements.{no_elements, histories, next_id, history_in, history, version_in, push_version, mark_in, mark, EachVersion}
 use Rattle.osm_element.proofs.Pushed.{history-push}

@@ -10,7 +10,7 @@ use Rattle.osm_base.specs.declared.keys.Kind.{Kind}
 use Rattle.osm_base.specs.declared.keys.Key.{Key}
 use Rattle.osm_base.proofs.KeyOrder.{kind_eq-same, key_eq-same}
 use Rattle.osm_element.specs.declared.contents.Content.{Content}
-use Rattle.osm_element.specs.declared.versions.Version.{Version}
+use Rattle.osm_element.specs.Version.{Version}
 use Rattle.osm_element.specs.declared.elements.Elements.{Elements}
 use Rattle.osm_element.specs.Elements.{histories, next_id, history_in, history, count, version_in, content_of, refs_in, add_version, push_version, mark_in, mark, IsConsistent}
 use Rattle.osm_element.proofs.Used.{known}

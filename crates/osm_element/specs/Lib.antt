@@ -1,4 +1,6 @@
 pub mod Tags
+pub mod Labels
+pub mod Version
 pub mod Elements
 pub mod Later
 pub mod Limits

@@ -1,10 +1,9 @@
 -- Tags as lists of pairs.
-use Rattle.std.specs.Prelude.{ℕ, zero, suc, ◌≡◌, ◌≤◌, List, [], ◌∷◌, length, map, drop, slice_range, Option, None, Some}
+use Rattle.std.specs.Prelude.{ℕ, zero, suc, ◌≡◌, ◌≤◌, List, [], ◌∷◌, length, map, drop, slice_range}
 use Rattle.std.specs.Ordering.{nat_cmp}
 use Rattle.std.specs.Cmp.Lexicographic.{slice_cmp}
 use Rattle.std.specs.List.Sorted.{IsStrictlySortedBy}
 use Rattle.std.specs.Str.{IsUtf8}
-use Rattle.std.specs.Global.{Box}
 use Rattle.osm_element.specs.declared.labels.Ends.{Ends}
 
 -- a key and a value, as their bytes
@@ -14,11 +13,6 @@ Tag = List ℕ × List ℕ
 -- the keys rise strictly, in the order of their bytes
 abbrev pub KeysRise : List Tag → Type 0
 KeysRise pairs = IsStrictlySortedBy (slice_cmp nat_cmp) (map (λ p. p.0) pairs)
-
--- what stands behind the pointer, if it leads anywhere
-abbrev pub tags_in : Option (Box (List Tag)) → List Tag
-tags_in None = []
-tags_in (Some table) = table.value
 
 -- ---- tags in one text
 

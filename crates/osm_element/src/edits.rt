@@ -76,5 +76,5 @@ fn mark_version(history: &mut History, number: u64, redaction: Option<u64>)
     requires made { number ≤ length history.old }
     ensures { history.new ≡ mark_in history.old number redaction }
 {
-    history.item_mut(number as usize - 1).redaction = redaction;
+    history.item_mut(number as usize - 1).mark(redaction);
 }

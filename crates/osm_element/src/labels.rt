@@ -1,8 +1,9 @@
 //! Tags, in one text and one list of ends behind a pointer.
-ghost use Rattle.std.specs.Prelude.{◌≡◌, ◌↔◌, ◌<◌, ◌∷◌, [], ◌++◌, length, get_or, map, IfOk, IfSome, IsSome, IsTrue};
+ghost use Rattle.std.specs.Prelude.{◌≡◌, ◌↔◌, ◌<◌, ◌∷◌, [], ◌++◌, Some, None, if◌then◌else◌, length, get_or, map, IfOk, IfSome, IsSome, IsTrue};
 ghost use Rattle.std.specs.Ordering.{is_lt, nat_cmp};
 ghost use Rattle.std.specs.Cmp.Lexicographic.{slice_cmp};
-ghost use Rattle.osm_element.specs.Tags.{KeysRise, cut, start_at, tags_in, AreEnds};
+ghost use Rattle.osm_element.specs.Tags.{KeysRise, cut, start_at, AreEnds};
+ghost use Rattle.osm_element.specs.Labels.{tags_in};
 
 use osm_base::{Memory, Text, TryCopy};
 use std::alloc::Global;
@@ -17,7 +18,7 @@ pub(crate) struct Ends {
 
 /// Keys and values in one text, and where each ends.
 #[derive(Drop)]
-struct Table {
+pub(crate) struct Table {
     /// The keys and the values, one after the other.
     text: String,
     ends: Vec<Ends>,
@@ -96,18 +97,111 @@ impl TryCopy for Table {
     }
 }
 
+/// A table, with room beside it for the number of a redaction: a version is marked without memory.
+#[derive(Drop)]
+pub(crate) struct MarkedTable {
+    pub(crate) table: Table,
+    pub(crate) redaction: u64,
+}
+
+impl MarkedTable {
+    /// A table that no redaction marks.
+    fn of(table: Table) -> MarkedTable
+        ensures { result.table ≡ table }
+    {
+        MarkedTable {
+            table,
+            redaction: 0,
+        }
+    }
+
+    pub(crate) fn list(&self) -> TagList<'_>
+        ensures { result ≡ self.now.table }
+    {
+        TagList {
+            table: Some(&self.table),
+        }
+    }
+
+    /// The redaction, where there is one.
+    pub(crate) fn redaction_if(&self, marked: bool) -> Option<u64>
+        ensures { result ≡ (if marked then Some self.now.redaction else None) }
+    {
+        if marked { Some(self.redaction) } else { None }
+    }
+
+    /// An equal one in a box of its own.
+    pub(crate) fn copy_boxed(&self, alloc: Global) -> Result<Box<MarkedTable>, Memory>
+        ensures { IfOk result (λ copy. copy.value ≡ self.now) }
+    {
+        let table = self.table.copy(alloc)?;
+        let marked = MarkedTable {
+            table,
+            redaction: self.redaction,
+        };
+        Ok(Box::new(alloc, marked)?)
+    }
+}
+
+/// Tags, borrowed from what has them. The keys rise there.
+#[derive(Drop)]
+pub struct TagList<'a> {
+    table: Option<&'a Table>,
+}
+
+impl<'a> Model for TagList<'a> {
+    ghost use Rattle.std.specs.Prelude.{List, option_copied};
+    ghost use Rattle.osm_element.specs.Tags.{Tag};
+    ghost use Rattle.osm_element.specs.Labels.{listed};
+
+    ghost Value = { List Tag };
+
+    ghost view = { λ l. listed (option_copied l.table) };
+}
+
+impl<'a> TagList<'a> {
+    /// No tags.
+    pub(crate) fn none() -> TagList<'a>
+        ensures { result ≡ [] }
+    {
+        TagList { table: None }
+    }
+
+    /// How many tags.
+    pub fn len(&self) -> usize
+        ensures { result ≡ length self.now }
+    {
+        match self.table {
+            Some(table) => table.len(),
+            None => 0,
+        }
+    }
+
+    /// A key and its value, in the order of the keys.
+    pub fn pair(&self, index: usize) -> (&str, &str)
+        requires { index < length self.now }
+        ensures { (result.0.now, result.1.now) ≡ get_or self.now index ([], []) }
+    {
+        match self.table {
+            Some(table) => table.pair(index),
+            None => ("", ""),
+        }
+    }
+}
+
 /// Keys and values, the keys in strictly rising byte order (OpenStreetMap wiki, "Tags").
 #[derive(Drop)]
 pub struct Tags {
     /// It takes no room, and makes the table of the first tag.
     alloc: Global,
-    /// Most elements have no tags, and so no table.
-    table: Option<Box<Table>>,
+    /// Most elements have no tags, and so no table. A version has it as it stands here.
+    table: Option<Box<MarkedTable>>,
 }
 
 impl Model for Tags {
     ghost use Rattle.std.specs.Prelude.{List};
-    ghost use Rattle.osm_element.specs.Tags.{Tag, KeysRise, tags_in};
+    ghost use Rattle.osm_element.specs.Tags.{Tag, KeysRise};
+    ghost use Rattle.osm_element.specs.Labels.{tags_in};
 
     ghost Value = { List Tag };
 
@@ -134,7 +228,8 @@ impl Tags {
         if count == 0 {
             return Ok(Tags::none(alloc));
         }
-        let table = Box::new(alloc, Table::with_room(alloc, count, bytes)?)?;
+        let table = MarkedTable::of(Table::with_room(alloc, count, bytes)?);
+        let table = Box::new(alloc, table)?;
         Ok(Tags {
             alloc,
             table: Some(table),
@@ -170,12 +265,29 @@ impl Tags {
         })
     }
 
+    /// All of them.
+    pub fn list(&self) -> TagList<'_>
+        ensures { result ≡ self.now }
+    {
+        match &self.table {
+            Some(marked) => marked.list(),
+            None => TagList::none(),
+        }
+    }
+
+    /// What stands behind the pointer, without a copy.
+    pub(crate) fn into_table(self) -> Option<Box<MarkedTable>>
+        ensures { tags_in result ≡ self }
+    {
+        self.table
+    }
+
     /// How many tags.
     pub fn len(&self) -> usize
         ensures { result ≡ length self.now }
     {
         match &self.table {
-            Some(table) => table.len(),
+            Some(marked) => marked.table.len(),
             None => 0,
         }
     }
@@ -193,7 +305,7 @@ impl Tags {
         ensures { (result.0.now, result.1.now) ≡ get_or self.now index ([], []) }
     {
         match &self.table {
-            Some(table) => table.pair(index),
+            Some(marked) => marked.table.pair(index),
             None => ("", ""),
         }
     }
@@ -207,35 +319,38 @@ impl TryCopy for Tags {
 }
 
 /// The table, or a new one where there is none.
-fn table_of(alloc: Global, table: Option<Box<Table>>) -> Result<Box<Table>, Memory>
-    ensures { IfOk result (λ made. made.value ≡ tags_in table) }
+fn table_of(alloc: Global, table: Option<Box<MarkedTable>>) -> Result<Box<MarkedTable>, Memory>
+    ensures { IfOk result (λ made. made.value.table ≡ tags_in table) }
 {
     match table {
         Some(table) => Ok(table),
-        None => Ok(Box::new(alloc, Table::none(alloc))?),
+        None => Ok(Box::new(alloc, MarkedTable::of(Table::none(alloc)))?),
     }
 }
 
 /// The table with one more pair, in the same box.
 fn with_pair(
     alloc: Global,
-    mut table: Box<Table>,
+    mut table: Box<MarkedTable>,
     key: &str,
     value: &str,
-) -> Result<Box<Table>, Memory>
-    ensures { IfOk result (λ more. more.value ≡ table.value ++ (key.now, value.now) ∷ []) }
+) -> Result<Box<MarkedTable>, Memory>
+    ensures { IfOk result (λ more. more.value.table ≡ table.value.table ++ (key.now, value.now) ∷ []) }
 {
-    let pairs = Box::replace(&mut table, Table::none(alloc));
-    let more = pairs.with(key, value)?;
-    *table = more;
+    let marked = Box::replace(&mut table, MarkedTable::of(Table::none(alloc)));
+    let more = marked.table.with(key, value)?;
+    *table = MarkedTable::of(more);
     Ok(table)
 }
 
-fn copy_table(alloc: Global, table: &Option<Box<Table>>) -> Result<Option<Box<Table>>, Memory>
+fn copy_table(
+    alloc: Global,
+    table: &Option<Box<MarkedTable>>,
+) -> Result<Option<Box<MarkedTable>>, Memory>
     ensures { IfOk result (λ copy. tags_in copy ≡ tags_in table.now) }
 {
     match table {
-        Some(table) => Ok(Some(Box::new(alloc, table.copy(alloc)?)?)),
+        Some(marked) => Ok(Some(marked.copy_boxed(alloc)?)),
         None => Ok(None),
     }
 }

@@ -18,5 +18,5 @@ pub use checks::check_local;
 pub use contents::{Content, Member, Members, RawContent, Refs};
 pub use elements::{Elements, History};
 pub use faults::LocalFault;
-pub use labels::Tags;
+pub use labels::{TagList, Tags};
 pub use versions::Version;

@@ -63,7 +63,7 @@ impl Elements {
         ensures { option_copied result ≡ content_of self.now key }
     {
         match self.current(key) {
-            Some(version) => version.content.as_ref(),
+            Some(version) => version.content(),
             None => None,
         }
     }

@@ -7,7 +7,7 @@ use Rattle.osm_element.specs.Tags.{Tag}
 use Rattle.osm_element.specs.declared.contents.Content.{Content}
 use Rattle.osm_element.specs.declared.contents.Content.TheVariants as contents
 use Rattle.osm_element.specs.declared.contents.Member.{Member as Reference}
-use Rattle.osm_element.specs.declared.versions.Version.{Version}
+use Rattle.osm_element.specs.Version.{Version}
 use Rattle.osm_change.specs.declared.answers.DiffRow.{DiffRow}
 use Rattle.osm_change.specs.declared.answers.ElementRow.{ElementRow}
 use Rattle.osm_change.specs.declared.answers.ChangesetRow.{ChangesetRow}

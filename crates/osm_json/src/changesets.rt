@@ -58,7 +58,7 @@ fn changeset_row(out: &mut Writer, row: &ChangesetRow) -> Result<(), AllocError>
     touched(out, &row.touched)?;
     open(out, row)?;
     out.key("tags")?;
-    tags(out, &row.tags)?;
+    tags(out, &row.tags.list())?;
     owner(out, &row.owner)?;
     out.end_object()
 }

@@ -9,7 +9,7 @@ ghost use Rattle.osm_json.specs.Sent.{Sends, SendsFields, tokens_of};
 use crate::send::{FieldValue, kind_name, members, record, text};
 use json::Writer;
 use osm_base::{Box7, Coord, Text};
-use osm_element::{Content, Member, Tags, Version};
+use osm_element::{Content, Member, TagList, Version};
 use std::alloc::AllocError;
 
 /// A coordinate, in units of 1e-7 degrees.
@@ -103,13 +103,13 @@ fn content(out: &mut Writer, content: &Content<u64>) -> Result<(), AllocError>
 pub(crate) fn visible(out: &mut Writer, version: &Version) -> Result<(), AllocError>
     ensures { SendsFields result out.old out.new (visible_fields version.now.content) }
 {
-    match &version.content {
+    match version.content() {
         None => Ok(()),
         Some(shown) => content(out, shown),
     }
 }
 
-fn pairs(out: &mut Writer, tags: &Tags) -> Result<(), AllocError>
+fn pairs(out: &mut Writer, tags: &TagList<'_>) -> Result<(), AllocError>
     ensures { SendsFields result out.old out.new (map tag_field tags.now) }
 {
     for index in 0..tags.len() {
@@ -120,7 +120,7 @@ fn pairs(out: &mut Writer, tags: &Tags) -> Result<(), AllocError>
 }
 
 /// The object of tags.
-pub(crate) fn tags(out: &mut Writer, tags: &Tags) -> Result<(), AllocError>
+pub(crate) fn tags(out: &mut Writer, tags: &TagList<'_>) -> Result<(), AllocError>
     ensures { Sends result out.old out.new (tokens_of (tags_data tags.now)) }
 {
     out.begin_object()?;
@@ -132,11 +132,12 @@ pub(crate) fn tags(out: &mut Writer, tags: &Tags) -> Result<(), AllocError>
 pub(crate) fn visible_tags(out: &mut Writer, version: &Version) -> Result<(), AllocError>
     ensures { SendsFields result out.old out.new (tags_fields version.now) }
 {
-    match &version.content {
+    match version.content() {
         None => Ok(()),
         Some(_) => {
             out.key("tags")?;
-            tags(out, &version.tags)?;
+            let shown = version.tags();
+            tags(out, &shown)?;
             Ok(())
         }
     }

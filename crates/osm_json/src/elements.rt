@@ -19,7 +19,7 @@ fn number(out: &mut Writer, row: &ElementRow<'_>) -> Result<(), AllocError>
     members(
         out,
         &[
-            ("changeset", FieldValue::Natural(row.version.changeset)),
+            ("changeset", FieldValue::Natural(row.version.changeset())),
             ("id", FieldValue::Natural(row.key.id)),
         ],
     )
@@ -28,7 +28,7 @@ fn number(out: &mut Writer, row: &ElementRow<'_>) -> Result<(), AllocError>
 fn redaction(out: &mut Writer, version: &Version) -> Result<(), AllocError>
     ensures { SendsFields result out.old out.new (redaction_fields version.now) }
 {
-    members(out, &[("redaction", optional(version.redaction))])
+    members(out, &[("redaction", optional(version.redaction()))])
 }
 
 fn origin(out: &mut Writer, row: &ElementRow<'_>) -> Result<(), AllocError>
@@ -41,7 +41,7 @@ fn origin(out: &mut Writer, row: &ElementRow<'_>) -> Result<(), AllocError>
             ("uid", FieldValue::Natural(row.owner.id)),
             ("user", FieldValue::Text(row.owner.name.as_str())),
             ("version", FieldValue::Natural(row.number)),
-            ("visible", FieldValue::Flag(row.version.content.is_some())),
+            ("visible", FieldValue::Flag(row.version.content().is_some())),
         ],
     )
 }
@@ -55,7 +55,7 @@ fn element(out: &mut Writer, row: &ElementRow<'_>) -> Result<(), AllocError>
     visible(out, row.version)?;
     redaction(out, row.version)?;
     visible_tags(out, row.version)?;
-    moment(out, "timestamp", row.version.stamp)?;
+    moment(out, "timestamp", row.version.stamp())?;
     origin(out, row)?;
     out.end_object()
 }
@@ -109,7 +109,7 @@ fn action_name(row: &ElementRow<'_>) -> &'static str
 {
     if row.number == 1 {
         "create"
-    } else if row.version.content.is_none() {
+    } else if row.version.content().is_none() {
         "delete"
     } else {
         "modify"

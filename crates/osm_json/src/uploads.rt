@@ -110,7 +110,7 @@ fn tags_if_some(out: &mut Writer, of: &Tags) -> Result<(), AllocError>
         return Ok(());
     }
     out.key("tags")?;
-    tags(out, of)?;
+    tags(out, &of.list())?;
     Ok(())
 }
 
@@ -306,5 +306,5 @@ pub fn write_change(out: &mut Writer, change: &Change) -> Result<(), AllocError>
 pub fn write_tags(out: &mut Writer, of: &Tags) -> Result<(), AllocError>
     ensures { Sends result out.old out.new (tokens_of (tags_data of.now)) }
 {
-    tags(out, of)
+    tags(out, &of.list())
 }

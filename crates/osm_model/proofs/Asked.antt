@@ -8,7 +8,7 @@ use Rattle.osm_base.specs.Place.{Area}
 use Rattle.osm_base.specs.Stamp.{stamp_after}
 use Rattle.osm_base.specs.declared.keys.Key.{Key}
 use Rattle.osm_element.specs.Elements.{version}
-use Rattle.osm_element.specs.declared.versions.Version.{Version}
+use Rattle.osm_element.specs.Version.{Version}
 use Rattle.osm_change.specs.Moments.{HasShownStamp, HasShownLife, RefusalHasShownEnd, HasShownMoments}
 use Rattle.osm_change.specs.Reads.{not_found, read_refusal}
 use Rattle.osm_change.specs.declared.answers.ElementRow.{ElementRow}

@@ -8,7 +8,7 @@ use Rattle.osm_base.specs.declared.keys.Key.{Key}
 use Rattle.osm_base.specs.declared.people.User.{User}
 use Rattle.osm_element.specs.Elements.{histories, count, version, push_version, mark}
 use Rattle.osm_element.specs.declared.elements.Elements.{Elements}
-use Rattle.osm_element.specs.declared.versions.Version.{Version}
+use Rattle.osm_element.specs.Version.{Version}
 use Rattle.osm_element.proofs.Later.{given-there}
 use Rattle.osm_change.specs.Change.{kind_of}
 use Rattle.osm_change.specs.Rows.{rows}

@@ -11,7 +11,7 @@ use Rattle.osm_base.proofs.KeyLists.{lists-append, lists-push}
 use Rattle.osm_base.proofs.KeyOrder.{key_eq-sym}
 use Rattle.osm_element.specs.Elements.{keys_to, keys, histories, history, count, is_visible, refs_of}
 use Rattle.osm_element.specs.declared.elements.Elements.{Elements}
-use Rattle.osm_element.specs.declared.versions.Version.{Version}
+use Rattle.osm_element.specs.Version.{Version}
 use Rattle.osm_element.proofs.Later.{given-there}
 use Rattle.osm_element.proofs.Used.{keys_to-has}
 use Rattle.osm_model.specs.Past.{is_last_shown, shown_way_refs, in_full_unmarked}

@@ -15,7 +15,7 @@ use Rattle.osm_element.specs.Elements.{next_id, history, count, version_in, vers
 use Rattle.osm_element.specs.Tags.{Tag}
 use Rattle.osm_element.specs.declared.contents.Content.{Content}
 use Rattle.osm_element.specs.declared.elements.Elements.{Elements}
-use Rattle.osm_element.specs.declared.versions.Version.{Version}
+use Rattle.osm_element.specs.Version.{Version}
 use Rattle.osm_element.proofs.Pushed.{history-push}
 use Rattle.osm_change.specs.Change.{kind_of}
 use Rattle.osm_change.specs.declared.operations.Op.{Op}

@@ -13,7 +13,7 @@ use Rattle.osm_base.specs.declared.keys.Kind.TheVariants as kind
 use Rattle.osm_element.specs.Elements.{no_elements, key, histories, with_histories, history_in, version_in, add_version, push_version, mark_in, mark}
 use Rattle.osm_element.specs.Later.{IsBegun}
 use Rattle.osm_element.specs.declared.elements.Elements.{Elements}
-use Rattle.osm_element.specs.declared.versions.Version.{Version}
+use Rattle.osm_element.specs.Version.{Version}
 use Rattle.osm_change.specs.declared.refusals.Refusal.{Refusal}
 use Rattle.osm_model.specs.declared.states.State.{State}
 use Rattle.osm_model.specs.declared.commands.Entry.{Entry}

@@ -8,7 +8,7 @@ use Rattle.osm_element.specs.Elements.{key}
 use Rattle.osm_element.specs.declared.contents.Content.{Content}
 use Rattle.osm_element.specs.declared.contents.Content.TheVariants.{Node, Way, Relation}
 use Rattle.osm_element.specs.declared.elements.Elements.{Elements}
-use Rattle.osm_element.specs.declared.versions.Version.{Version}
+use Rattle.osm_element.specs.Version.{Version}
 use Rattle.osm_change.specs.declared.reads.MapFault.TheVariants.{TooLarge}
 use Rattle.osm_change.specs.declared.reads.ReadFault.TheVariants.{NotFound, Gone, Redacted}
 use Rattle.changeset_core.specs.declared.records.ChangesetRecord.{ChangesetRecord}

@@ -10,7 +10,7 @@ use Rattle.osm_base.specs.declared.keys.Kind.TheVariants as kind
 use Rattle.osm_element.specs.Elements.{no_elements, histories, history_in, version_in, refs_in, refs_of, IsConsistent}
 use Rattle.osm_element.specs.Later.{Keeps}
 use Rattle.osm_element.specs.declared.elements.Elements.{Elements}
-use Rattle.osm_element.specs.declared.versions.Version.{Version}
+use Rattle.osm_element.specs.Version.{Version}
 use Rattle.osm_element.proofs.EachVersion.{each-none}
 use Rattle.osm_element.proofs.Later.{later-trans, keeps-refl}
 use Rattle.osm_change.specs.declared.refusals.Refusal.{Refusal}

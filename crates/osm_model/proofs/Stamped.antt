@@ -12,7 +12,7 @@ use Rattle.osm_base.specs.declared.keys.Kind.{Kind}
 use Rattle.osm_base.specs.declared.keys.Kind.TheVariants as kind
 use Rattle.osm_element.specs.Elements.{no_elements, key, histories, history_in, history, version_in, add_version, push_version, mark_in, mark}
 use Rattle.osm_element.specs.declared.elements.Elements.{Elements}
-use Rattle.osm_element.specs.declared.versions.Version.{Version}
+use Rattle.osm_element.specs.Version.{Version}
 use Rattle.osm_element.proofs.Pushed.{histories-with}
 use Rattle.osm_change.specs.declared.refusals.Refusal.{Refusal}
 use Rattle.osm_model.specs.declared.states.State.{State}

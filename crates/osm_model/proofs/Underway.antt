@@ -17,7 +17,7 @@ use Rattle.osm_element.specs.Later.{IsBegun, IsLater}
 use Rattle.osm_element.specs.Tags.{Tag}
 use Rattle.osm_element.specs.declared.contents.Content.{Content}
 use Rattle.osm_element.specs.declared.elements.Elements.{Elements}
-use Rattle.osm_element.specs.declared.versions.Version.{Version}
+use Rattle.osm_element.specs.Version.{Version}
 use Rattle.osm_element.proofs.Consistent.{consistent-push}
 use Rattle.osm_element.proofs.EachVersion.{each-push}
 use Rattle.osm_element.proofs.Later.{later-refl, later-trans, later-push, begun-push, next-push}

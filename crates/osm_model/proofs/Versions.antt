@@ -10,7 +10,7 @@ use Rattle.osm_base.specs.declared.keys.Key.{Key}
 use Rattle.osm_element.specs.Elements.{next_id, history, count, version_in, push_version}
 use Rattle.osm_element.specs.Later.{contents, IsLater}
 use Rattle.osm_element.specs.declared.elements.Elements.{Elements}
-use Rattle.osm_element.specs.declared.versions.Version.{Version}
+use Rattle.osm_element.specs.Version.{Version}
 use Rattle.osm_element.proofs.Pushed.{history-push}
 use Rattle.osm_change.specs.declared.operations.OpDone.{OpDone}
 use Rattle.changeset_core.specs.declared.records.Work.{Work}

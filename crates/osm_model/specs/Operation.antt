@@ -9,7 +9,7 @@ use Rattle.osm_element.specs.Elements.{key, next_id, count, is_visible, first_us
 use Rattle.osm_element.specs.Tags.{Tag}
 use Rattle.osm_element.specs.declared.contents.Content.{Content}
 use Rattle.osm_element.specs.declared.elements.Elements.{Elements}
-use Rattle.osm_element.specs.declared.versions.Version.{Version}
+use Rattle.osm_element.specs.Version.{Version}
 use Rattle.osm_change.specs.Change.{kind_of, names_listed}
 use Rattle.osm_change.specs.Names.{said}
 use Rattle.osm_change.specs.declared.operations.Name.{Name}

@@ -3,7 +3,7 @@ use Rattle.std.specs.Prelude.{ℕ, ◌≤◌, List, All}
 use Rattle.std.specs.List.Sorted.{IsNonDecreasingBy}
 use Rattle.osm_base.specs.declared.keys.Key.{Key}
 use Rattle.osm_element.specs.Elements.{history}
-use Rattle.osm_element.specs.declared.versions.Version.{Version}
+use Rattle.osm_element.specs.Version.{Version}
 use Rattle.osm_model.specs.declared.states.State.{State}
 
 abbrev pub stamp_of : Version → ℕ

@@ -1,7 +1,7 @@
 -- The moments that a map keeps are bounded.
 use Rattle.std.specs.Prelude.{All}
 use Rattle.osm_element.specs.Elements.{EachVersion}
-use Rattle.osm_element.specs.declared.versions.Version.{Version}
+use Rattle.osm_element.specs.Version.{Version}
 use Rattle.changeset_core.specs.Timely.{IsTimelyMoment, IsTimelyRecord}
 use Rattle.osm_model.specs.declared.states.State.{State}
 

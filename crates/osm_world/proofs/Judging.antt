@@ -8,7 +8,7 @@ use Rattle.osm_base.specs.declared.keys.Key.{Key}
 use Rattle.osm_base.specs.declared.people.User.{User}
 use Rattle.osm_element.specs.Elements.{count, history, version, version_in}
 use Rattle.osm_element.specs.Tags.{Tag}
-use Rattle.osm_element.specs.declared.versions.Version.{Version}
+use Rattle.osm_element.specs.Version.{Version}
 use Rattle.osm_change.specs.Rows.{rows}
 use Rattle.osm_change.specs.declared.answers.Answer.TheVariants as answer
 use Rattle.osm_change.specs.declared.operations.Op.{Op}

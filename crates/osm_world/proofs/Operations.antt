@@ -13,7 +13,7 @@ use Rattle.osm_base.proofs.KeyOrder.{kind_eq-same}
 use Rattle.osm_base.proofs.Pushed.{found_in_push}
 use Rattle.osm_element.specs.Elements.{key, next_id, count, is_visible, users, first_user, push_version}
 use Rattle.osm_element.specs.declared.elements.Elements.{Elements}
-use Rattle.osm_element.specs.declared.versions.Version.{Version}
+use Rattle.osm_element.specs.Version.{Version}
 use Rattle.osm_element.proofs.Used.{known}
 use Rattle.osm_element.proofs.Later.{next-push, later-push}
 use Rattle.osm_change.specs.Change.{kind_of}

@@ -9,7 +9,7 @@ use Rattle.osm_element.specs.Tags.{Tag}
 use Rattle.osm_element.specs.declared.contents.Content.{Content}
 use Rattle.osm_element.specs.declared.contents.Content.TheVariants as content
 use Rattle.osm_element.specs.declared.elements.Elements.{Elements}
-use Rattle.osm_element.specs.declared.versions.Version.{Version}
+use Rattle.osm_element.specs.Version.{Version}
 use Rattle.osm_change.specs.Keys.{ids_after, key_of}
 use Rattle.osm_change.specs.declared.operations.Name.{Name}
 use Rattle.osm_change.specs.declared.operations.FirstIds.{FirstIds}

@@ -123,13 +123,7 @@ fn make_version(
 {
     let number = map.count(key) + 1;
     let touched = map.touched_area(key, &fresh.content);
-    let version = Version {
-        content: fresh.content,
-        tags: fresh.tags,
-        changeset: changeset.id(),
-        stamp: at,
-        redaction: None,
-    };
+    let version = Version::new(fresh.content, fresh.tags, changeset.id(), at);
     changeset.worked(key, number);
     map.revise(key, version, listed);
     touched

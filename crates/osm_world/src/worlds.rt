@@ -28,6 +28,7 @@ use osm_model::{
     Command, Entry, entries_keep_maps, moments_are_bounded, points_are_consistent,
     versions_are_attributed, versions_are_stamped_in_order,
 };
+use reverse_refs::UserList;
 use std::alloc::Global;
 use std::marker::Model;
 use tile_grid::Grid;
@@ -90,8 +91,8 @@ impl World {
     }
 
     /// The users of an element, in order.
-    pub fn users(&self, key: Key) -> &[Key]
-        ensures { result.now ≡ users (state_of self.now).elements key }
+    pub fn users(&self, key: Key) -> UserList<'_>
+        ensures { result ≡ users (state_of self.now).elements key }
     {
         self.stores.map.users(key)
     }
@@ -104,9 +105,9 @@ impl World {
     }
 
     /// The elements of which some version lists this one, in order.
-    pub fn users_ever(&self, key: Key) -> &[Key]
-        ensures rising { IsRising result.now }
-        ensures each { (user : Key) → lists_key result.now user ≡ has_used (state_of self.now).elements user key }
+    pub fn users_ever(&self, key: Key) -> UserList<'_>
+        ensures rising { IsRising result }
+        ensures each { (user : Key) → lists_key result user ≡ has_used (state_of self.now).elements user key }
     {
         self.stores.map.users_ever(key)
     }

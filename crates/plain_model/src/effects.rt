@@ -25,13 +25,7 @@ pub fn apply(
 {
     let version = progress.elements.count(key) + 1;
     let touched = touched_area(&progress.elements, key, &content);
-    let made = Version {
-        content,
-        tags,
-        changeset: upload.changeset,
-        stamp: upload.stamp,
-        redaction: None,
-    };
+    let made = Version::new(content, tags, upload.changeset, upload.stamp);
     progress.elements.push_version(alloc, key, made)?;
     progress.keys.push(key)?;
     progress.done.push(OpDone::Applied { version })?;

@@ -126,7 +126,7 @@ fn is_unmarked(elements: &Elements, work: &Work) -> bool
     ensures { result ≡ is_unmarked elements.now work.now }
 {
     match elements.version(work.key, work.version) {
-        Some(version) => version.redaction.is_none(),
+        Some(version) => version.redaction().is_none(),
         None => false,
     }
 }

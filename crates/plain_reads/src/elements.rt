@@ -40,7 +40,7 @@ pub fn one(elements: &Elements, key: Key) -> Result<VersionId, ReadFault>
 fn hidden(version: &Version, show: bool) -> Option<u64>
     ensures { result ≡ hidden show version.now }
 {
-    if show { None } else { version.redaction }
+    if show { None } else { version.redaction() }
 }
 
 /// One version of an element, that of a deletion too.

@@ -47,7 +47,7 @@ fn made_by(alloc: Global, history: &History, at: u64) -> Result<History, Memory>
     ensures { IfOk result (λ made. made ≡ made_by at history.now) }
 {
     let mut versions = history.copy(alloc)?.into_vec();
-    versions.retain(|version| version.stamp.seconds() <= at);
+    versions.retain(|version| version.stamp().seconds() <= at);
     Ok(Items::of(versions))
 }
 

@@ -18,7 +18,7 @@ fn element_row(state: &State, shown: VersionId) -> Option<ElementRow<'_>>
     let Some(version) = state.elements.version(shown.key, shown.number) else {
         return None;
     };
-    let Some(kept) = state.changeset(version.changeset) else {
+    let Some(kept) = state.changeset(version.changeset()) else {
         return None;
     };
     Some(ElementRow {

@@ -28,7 +28,7 @@ pub fn content(store: &Store, key: Key) -> Option<&Content<u64>>
     ensures { option_copied result ≡ content_of store.now.elements key }
 {
     match store.current(key) {
-        Some(version) => version.content.as_ref(),
+        Some(version) => version.content(),
         None => None,
     }
 }
@@ -55,7 +55,7 @@ pub fn one(world: &World, key: Key) -> Result<VersionId, ReadFault>
 fn hidden(version: &Version, show: bool) -> Option<u64>
     ensures { result ≡ hidden show version.now }
 {
-    if show { None } else { version.redaction }
+    if show { None } else { version.redaction() }
 }
 
 /// One version of an element, that of a deletion too. `show` asks to see marked versions.

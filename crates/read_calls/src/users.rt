@@ -38,7 +38,8 @@ fn users_of_kind(
 ) -> Result<Items<VersionId>, Memory>
     ensures { IfOk result (λ found. found ≡ users_of_kind (state_of world.now).elements kind used) }
 {
-    let shown = of_kind(alloc, world.store(), kind, world.users(used))?;
+    let users = world.users(used);
+    let shown = of_kind(alloc, world.store(), kind, users.items())?;
     Ok(shown)
 }
 

@@ -8,5 +8,5 @@ use Rattle.reverse_refs.specs.declared.key_sets.Held.TheVariants.{Nothing, Promi
 abbrev pub row_held : Held → Row Key
 row_held Nothing = record { items = []; free = 0 }
 row_held Promised = record { items = []; free = 1 }
-row_held (One key) = record { items = key ∷ []; free = 0 }
+row_held (One kind id) = record { items = record { kind = kind; id = id } ∷ []; free = 0 }
 row_held (Many list) = list.value

@@ -4,19 +4,19 @@ ghost use Rattle.osm_base.specs.Key.{lists_key, insert_key, without_key, IsRisin
 ghost use Rattle.reverse_refs.specs.Held.{row_held};
 
 use crate::key_lists::KeyList;
-use osm_base::{Key, Memory};
+use crate::user_lists::UserList;
+use osm_base::{Key, Kind, Memory};
 use std::alloc::Global;
 use std::marker::Model;
 use std::mem::size_of;
-use std::slice;
 
-/// What a set holds. Most sets have one key, which stands here; a list is boxed, so that those
-/// aren't made larger by it.
+/// What a set holds. Most sets have one key, which stands here in its parts: the kind takes no room
+/// of its own beside the tag. A list is boxed, so that those aren't made larger by it.
 #[derive(Drop)]
 enum Held {
     Nothing,
     Promised,
-    One(Key),
+    One { kind: Kind, id: u64 },
     Many(Box<KeyList>),
 }
 
@@ -27,7 +27,7 @@ pub struct KeySet {
     held: Held,
 }
 
-const _: () = prove!(size_of::<KeySet>() == 24);
+const _: () = prove!(size_of::<KeySet>() == 16);
 
 impl Model for KeySet {
     ghost use Rattle.osm_base.specs.Row.{Row};
@@ -53,14 +53,14 @@ impl KeySet {
     }
 
     /// The keys, in order.
-    pub fn keys(&self) -> &[Key]
-        ensures keys { result.now ≡ self.now.items }
-        ensures rising { IsRising result.now }
+    pub fn keys(&self) -> UserList<'_>
+        ensures keys { result ≡ self.now.items }
+        ensures rising { IsRising result }
     {
         match &self.held {
-            Held::Nothing | Held::Promised => &[],
-            Held::One(key) => slice::from_ref(key),
-            Held::Many(list) => list.keys(),
+            Held::Nothing | Held::Promised => UserList::none(),
+            Held::One { kind, id } => UserList::one(key_of(*kind, *id)),
+            Held::Many(list) => UserList::listed(list.keys()),
         }
     }
 
@@ -72,7 +72,10 @@ impl KeySet {
         match &mut self.held {
             Held::Nothing => self.held = room_for(alloc, more)?,
             Held::Promised => self.held = Held::Many(roomy_list(alloc, 1, more)?),
-            Held::One(key) => self.held = Held::Many(list_of(alloc, *key, more)?),
+            Held::One { kind, id } => {
+                let key = key_of(*kind, *id);
+                self.held = Held::Many(list_of(alloc, key, more)?);
+            }
             Held::Many(list) => list.promise(more)?,
         }
         Ok(())
@@ -83,7 +86,7 @@ impl KeySet {
         ensures { self.new ≡ record self.old { free = 0 } }
     {
         match &mut self.held {
-            Held::Nothing | Held::One(_) => {}
+            Held::Nothing | Held::One { .. } => {}
             Held::Promised => self.held = Held::Nothing,
             Held::Many(list) => list.forget(),
         }
@@ -96,7 +99,7 @@ impl KeySet {
         ensures { self.new ≡ record self.old { free = self.old.free - less } }
     {
         match &mut self.held {
-            Held::Nothing | Held::One(_) => {}
+            Held::Nothing | Held::One { .. } => {}
             Held::Promised => {
                 if less > 0 {
                     self.held = Held::Nothing;
@@ -114,8 +117,8 @@ impl KeySet {
         ensures { self.new ≡ record { items = insert_key self.old.items key; free = self.old.free - 1 } }
     {
         match &mut self.held {
-            Held::Nothing | Held::One(_) => unreachable!(),
-            Held::Promised => self.held = Held::One(key),
+            Held::Nothing | Held::One { .. } => unreachable!(),
+            Held::Promised => self.held = one(key),
             Held::Many(list) => list.add(key),
         }
     }
@@ -126,8 +129,8 @@ impl KeySet {
     {
         match &mut self.held {
             Held::Nothing | Held::Promised => {}
-            Held::One(only) => {
-                if only.is(key) {
+            Held::One { kind, id } => {
+                if key_of(*kind, *id).is(key) {
                     self.held = Held::Nothing;
                 }
             }
@@ -148,6 +151,23 @@ impl KeySet {
     }
 }
 
+/// The key of two parts that stand in a set.
+fn key_of(kind: Kind, id: u64) -> Key
+    ensures { result ≡ record { kind = kind; id = id } }
+{
+    Key { kind, id }
+}
+
+/// One key, in its parts.
+fn one(key: Key) -> Held
+    ensures { row_held result ≡ record { items = key ∷ []; free = 0 } }
+{
+    Held::One {
+        kind: key.kind,
+        id: key.id,
+    }
+}
+
 /// The same without a list, where that is possible.
 fn without_list(list: &KeyList) -> Option<Held>
     ensures { IfSome result (λ less. row_held less ≡ list.now) }
@@ -155,7 +175,7 @@ fn without_list(list: &KeyList) -> Option<Held>
     match (list.keys(), list.free()) {
         ([], 0) => Some(Held::Nothing),
         ([], 1) => Some(Held::Promised),
-        ([key], 0) => Some(Held::One(*key)),
+        ([key], 0) => Some(one(*key)),
         _ => None,
     }
 }

@@ -5,7 +5,8 @@ ghost use Rattle.osm_base.specs.Key.{key_eq, lists_key, insert_key, without_key,
 ghost use Rattle.osm_base.specs.declared.keys.Key.{Key};
 
 use crate::key_sets::KeySet;
-use osm_base::{Key, Kind, Memory};
+use crate::user_lists::UserList;
+use osm_base::{Key, Kind, Memory, is_listed};
 use segment_list::Segments;
 use std::alloc::Global;
 use std::marker::Model;
@@ -50,15 +51,23 @@ impl UserIndex {
     }
 
     /// The users of an element, in order, each once.
-    pub fn users(&self, key: Key) -> &[Key]
-        ensures users { result.now ≡ users_in self.now key }
-        ensures rising { IsRising result.now }
+    pub fn users(&self, key: Key) -> UserList<'_>
+        ensures users { result ≡ users_in self.now key }
+        ensures rising { IsRising result }
     {
         match key.kind {
             Kind::Node => users_at(&self.nodes, key.id),
             Kind::Way => users_at(&self.ways, key.id),
             Kind::Relation => users_at(&self.relations, key.id),
         }
+    }
+
+    /// Whether an element uses another.
+    pub fn has(&self, pair: Pair) -> bool
+        ensures { result ≡ lists_key (users_in self.now pair.used) pair.user }
+    {
+        let users = self.users(pair.used);
+        is_listed(users.items(), pair.user)
     }
 
     /// Promises room for one more user for each of the pairs. After a refusal no more is promised
@@ -158,13 +167,13 @@ impl UserIndex {
     }
 }
 
-fn users_at(rows: &Segments<KeySet>, id: u64) -> &[Key]
-    ensures users { result.now ≡ (slice_index_or rows.now id no_row).items }
-    ensures rising { IsRising result.now }
+fn users_at(rows: &Segments<KeySet>, id: u64) -> UserList<'_>
+    ensures users { result ≡ (slice_index_or rows.now id no_row).items }
+    ensures rising { IsRising result }
 {
     match rows.get(id as usize) {
         Some(row) => row.keys(),
-        None => &[],
+        None => UserList::none(),
     }
 }
 

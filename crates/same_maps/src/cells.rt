@@ -70,7 +70,7 @@ impl Cells {
 
     fn note_versions(&mut self, history: &[Version]) -> Result<(), Memory> {
         for version in history {
-            if let Some(Content::Node(at)) = &version.content {
+            if let Some(Content::Node(at)) = version.content() {
                 self.ever.push(place_of(*at, 0))?;
             }
         }

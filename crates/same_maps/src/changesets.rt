@@ -41,7 +41,7 @@ impl Same<Changeset> for ChangesetRecord {
     fn is_same(&self, other: &Changeset) -> bool {
         self.owner.id == other.owner().id
             && self.owner.name.as_str() == other.owner().name.as_str()
-            && are_tags_same(&self.tags, other.tags())
+            && are_tags_same(&self.tags.list(), &other.tags().list())
             && self.created == other.created()
             && self.limit == other.limit()
             && self.touched == other.touched()

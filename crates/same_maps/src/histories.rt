@@ -1,7 +1,7 @@
 //! Whether the histories of both maps are the same.
 use crate::same::{Same, are_same};
 use osm_base::{Key, Kind};
-use osm_element::{Content, Elements, Member, Tags, Version};
+use osm_element::{Content, Elements, Member, TagList, Version};
 use osm_world::World;
 
 const KINDS: [Kind; 3] = [Kind::Node, Kind::Way, Kind::Relation];
@@ -33,15 +33,15 @@ fn are_kinds_same(elements: &Elements, world: &World, kind: Kind) -> bool {
 
 impl Same<Version> for Version {
     fn is_same(&self, other: &Version) -> bool {
-        self.changeset == other.changeset
-            && self.stamp == other.stamp
-            && self.redaction == other.redaction
-            && are_tags_same(&self.tags, &other.tags)
-            && is_content_same(&self.content, &other.content)
+        self.changeset() == other.changeset()
+            && self.stamp() == other.stamp()
+            && self.redaction() == other.redaction()
+            && are_tags_same(&self.tags(), &other.tags())
+            && is_content_same(self.content(), other.content())
     }
 }
 
-fn is_content_same(plain: &Option<Content<u64>>, came: &Option<Content<u64>>) -> bool {
+fn is_content_same(plain: Option<&Content<u64>>, came: Option<&Content<u64>>) -> bool {
     match (plain, came) {
         (None, None) => true,
         (Some(Content::Node(at)), Some(Content::Node(other))) => *at == *other,
@@ -61,7 +61,7 @@ impl Same<Member<u64>> for Member<u64> {
     }
 }
 
-pub fn are_tags_same(plain: &Tags, came: &Tags) -> bool {
+pub fn are_tags_same(plain: &TagList<'_>, came: &TagList<'_>) -> bool {
     if plain.len() != came.len() {
         return false;
     }

@@ -13,7 +13,8 @@ pub fn are_users_same(alloc: Global, elements: &Elements, world: &World) -> Resu
     for kind in KINDS {
         for id in 0..elements.next_id(kind) {
             let key = Key { kind, id };
-            let users = world.users(key);
+            let listed = world.users(key);
+            let users = listed.items();
             if !are_due(uses.as_slice(), place, key, users) {
                 return Ok(false);
             }

@@ -15,7 +15,7 @@ use Rattle.osm_element.specs.Elements.{key, next_id, history, count, content_of,
 use Rattle.osm_element.specs.Tags.{Tag}
 use Rattle.osm_element.specs.declared.contents.Content.{Content}
 use Rattle.osm_element.specs.declared.elements.Elements.{Elements}
-use Rattle.osm_element.specs.declared.versions.Version.{Version}
+use Rattle.osm_element.specs.Version.{Version}
 use Rattle.osm_element.proofs.Later.{next-push, later-push}
 use Rattle.osm_element.proofs.Pushed.{last_content, history-push, content-push}
 use Rattle.osm_element.proofs.Used as used

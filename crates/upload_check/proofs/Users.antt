@@ -7,7 +7,7 @@ use Rattle.osm_base.specs.declared.keys.Key.{Key}
 use Rattle.osm_base.proofs.KeyOrder.{key_eq-same, key_eq-refl, key_eq-sym}
 use Rattle.osm_base.proofs.KeyLists.{lists-insert, rising-insert, rising-filter, rising-same}
 use Rattle.osm_element.specs.declared.contents.Content.{Content}
-use Rattle.osm_element.specs.declared.versions.Version.{Version}
+use Rattle.osm_element.specs.Version.{Version}
 use Rattle.osm_element.specs.declared.elements.Elements.{Elements}
 use Rattle.osm_element.specs.Elements.{next_id, content_of, refs_in, uses, keys, users, first_user, push_version}
 use Rattle.osm_element.proofs.Pushed.{content-push}

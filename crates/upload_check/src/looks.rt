@@ -21,7 +21,8 @@ fn users_look(alloc: Global, world: &World, key: Key) -> Result<UsersLook, Memor
     ensures { IfOk result (λ look. look ≡ users_look (state_of world.now).elements key) }
 {
     let mut users = Items::none(alloc);
-    users.extend(world.users(key))?;
+    let listed = world.users(key);
+    users.extend(listed.items())?;
     Ok(UsersLook { key, users })
 }
 

@@ -41,7 +41,7 @@ pub fn stored(world: &World, key: Key) -> Option<&Content<u64>>
     ensures { option_copied result ≡ content_of (state_of world.now).elements key }
 {
     match world.store().current(key) {
-        Some(version) => version.content.as_ref(),
+        Some(version) => version.content(),
         None => None,
     }
 }
@@ -200,7 +200,8 @@ impl<'a> View<'a> {
     pub fn least_user(&self, used: Key) -> Option<Key>
         ensures { result ≡ least_user self.now used }
     {
-        let first = self.first_of(self.world.users(used), used);
+        let users = self.world.users(used);
+        let first = self.first_of(users.items(), used);
         least_key(first, self.least_of(self.over.keys(), used))
     }
 }

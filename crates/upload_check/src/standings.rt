@@ -102,10 +102,11 @@ ghost use Rattle.upload_check.specs.Overlay.{standing_before, standing_in};
 pub fn standing_before(world: &World, key: Key) -> Standing
     ensures { result ≡ standing_before (state_of world.now).elements key }
 {
+    let users = world.users(key);
     Standing {
         versions: world.store().count(key),
         holds: Holds::AsBefore,
-        users: world.users(key).len() as u64,
+        users: users.items().len() as u64,
     }
 }
 

@@ -49,7 +49,8 @@ fn still_used(world: &World, looks: &[UsersLook]) -> Result<(), Look>
     ensures { result ≡ still_used (state_of world.now).elements looks.now }
 {
     for look in looks {
-        if let Some(user) = first_apart(look.users.items(), world.users(look.key)) {
+        let users = world.users(look.key);
+        if let Some(user) = first_apart(look.users.items(), users.items()) {
             return Err(Look::Users {
                 key: look.key,
                 user,

@@ -204,13 +204,10 @@ fn version(alloc: Global, shown: &Shown) -> Result<Version, Memory> {
         Some(tags) => tags,
         None => Tags::none(alloc),
     };
-    Ok(Version {
-        content: content(alloc, &shown.shape)?,
-        tags,
-        changeset: 1,
-        stamp: Stamp(1_700_000_000),
-        redaction: shown.redaction,
-    })
+    let content = content(alloc, &shown.shape)?;
+    let mut version = Version::new(content, tags, 1, Stamp(1_700_000_000));
+    version.mark(shown.redaction);
+    Ok(version)
 }
 
 /// A version behind its key and its number.
@@ -237,7 +234,7 @@ fn keep(alloc: Global, shown: &[Shown]) -> Result<Vec<Kept>, Memory> {
 fn row<'a>(kept: &'a Kept, owner: &'a Owner) -> Option<ElementRow<'a>>
     ensures { IfSome result HasShownStamp }
 {
-    if kept.version.stamp.0 > 253_000_000_000 {
+    if kept.version.stamp().0 > 253_000_000_000 {
         return None;
     }
     Some(ElementRow {

@@ -1,5 +1,5 @@
 //! The users of an element, under promised room.
-use osm_base::{Key, Kind, Memory, is_listed};
+use osm_base::{Key, Kind, Memory};
 use reverse_refs::{Pair, UserIndex};
 use std::alloc::Global;
 
@@ -34,23 +34,23 @@ fn are_in_order(alloc: Global, index: &mut UserIndex) -> Result<bool, Memory> {
         used: node(5),
     };
     index.room(alloc, &[by_relation, by_way])?;
-    if is_listed(index.users(by_relation.used), by_relation.user) {
+    if index.has(by_relation) {
         return Ok(false);
     }
     index.add(by_relation);
-    if is_listed(index.users(by_way.used), by_way.user) {
+    if index.has(by_way) {
         return Ok(false);
     }
     index.add(by_way);
-    let are_both = index.users(node(5)) == [way(7), relation(1)].as_slice();
-    if !is_listed(index.users(by_way.used), by_way.user) {
+    let are_both = index.users(node(5)).items() == [way(7), relation(1)].as_slice();
+    if !index.has(by_way) {
         return Ok(false);
     }
     index.take_out(by_way);
     Ok(
         are_both
-            && index.users(node(5)) == [relation(1)].as_slice()
-            && index.users(way(5)).is_empty(),
+            && index.users(node(5)).items() == [relation(1)].as_slice()
+            && index.users(way(5)).items().is_empty(),
     )
 }
 

@@ -10,13 +10,8 @@ const NODE: Key = Key {
 };
 
 fn version_at(alloc: Global, at: Coord) -> Version {
-    Version {
-        content: Some(Content::Node(at)),
-        tags: Tags::none(alloc),
-        changeset: 1,
-        stamp: Stamp(1_700_000_000),
-        redaction: None,
-    }
+    let content = Some(Content::Node(at));
+    Version::new(content, Tags::none(alloc), 1, Stamp(1_700_000_000))
 }
 
 /// Whether room changes nothing that is kept, and a version then stands in it.

@@ -1,7 +1,7 @@
 use Rattle.std.proofs.Common.{List, length, ap, ◌∙◌}
 use Rattle.std.specs.Prelude.{option_and_then}
 use Rattle.osm_element.specs.Elements.{version_in}
-use Rattle.osm_element.specs.declared.versions.Version.{Version}
+use Rattle.osm_element.specs.Version.{Version}
 use Rattle.attic_reads.specs.Attic.{unmarked_content}
 use Rattle.attic_reads.proofs.contents.held.Goals as goal
 

@@ -1,7 +1,7 @@
 use Rattle.std.proofs.Common.{◌≡◌, ◌+◌, ◌-◌, ◌<◌, ◌≤◌, ℕ, List, length, get_or, map, take, Option, Some, None, sym, ap, ◌∙◌, arith}
 use Rattle.std.specs.Option.{option_or}
 use Rattle.osm_base.specs.Place.{Position}
-use Rattle.osm_element.specs.declared.versions.Version.{Version}
+use Rattle.osm_element.specs.Version.{Version}
 use Rattle.changeset_core.specs.Changeset.{new_position}
 use Rattle.indexed_map.specs.Ever.{last_place}
 use Rattle.indexed_map.proofs.EverHeld.{place-more}
@@ -23,14 +23,18 @@ place-before vs n v o some within o_is =
     ∙ place-more vs (n - 1) v (omega arith)
     ∙ ap (λ (p : Option Position). option_or p (place_in (take (n - 1) vs))) (sym o_is)
 
+-- the same version has the same position
+at : {v w : Version} → v ≡ w → new_position v.content ≡ new_position w.content
+at same = ap (λ (v : Version). new_position v.content) same
+
 pub returns-in-Some : goal.returns-in-Some
 returns-in-Some c =
     sym (sym c.loop-place.invariant.none_later
-    ∙ place-before c.args.versions.now c.loop-place.place c.index-versions-place.result (Some c.in-Some.at) c.loop-place-test.true c.loop-place.invariant.within c.in-Some.ensures)
+    ∙ place-before c.args.versions.now c.loop-place.place c.index-versions-place.result (Some c.in-Some.at) c.loop-place-test.true c.loop-place.invariant.within (c.in-Some.ensures ∙ at c.index-versions-place.is))
 
 pub loop-place-preserved : goal.loop-place-preserved
 loop-place-preserved c = record {
   within = omega arith;
-  none_later = sym (place-before c.args.versions.now c.loop-place.place c.index-versions-place.result None c.loop-place-test.true c.loop-place.invariant.within (sym c.in_default.is ∙ c.new_position.ensures))
+  none_later = sym (place-before c.args.versions.now c.loop-place.place c.index-versions-place.result None c.loop-place-test.true c.loop-place.invariant.within (sym c.in_default.is ∙ c.new_position.ensures ∙ at c.index-versions-place.is))
       ∙ c.loop-place.invariant.none_later;
 }

@@ -1,5 +1,5 @@
 use Rattle.std.proofs.Common.{◌≡◌, ◌≤◌, length, map, take, None}
-use Rattle.osm_element.specs.declared.versions.Version.{Version}
+use Rattle.osm_element.specs.Version.{Version}
 use Rattle.indexed_map.specs.Ever.{last_place}
 use Rattle.indexed_map.proofs.ever.last_place.Given as goal
 

@@ -1,5 +1,5 @@
 use Rattle.std.proofs.Common.{List, map, None, sym, ◌∙◌, ap}
-use Rattle.osm_element.specs.declared.versions.Version.{Version}
+use Rattle.osm_element.specs.Version.{Version}
 use Rattle.indexed_map.specs.Ever.{last_place}
 use Rattle.indexed_map.proofs.EverHeld.{placed_anew, placed_still}
 use Rattle.indexed_map.proofs.ever.place_ever.Goals as goal

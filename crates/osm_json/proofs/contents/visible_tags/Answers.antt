@@ -5,9 +5,10 @@ use Rattle.osm_json.proofs.contents.visible_tags.Goals as goal
 
 pub returns-in-None : goal.returns-in-None
 unfolding tags_fields
-returns-in-None c = rw c.in-None.is none_sent
+returns-in-None c = rw (← c.in-None.ensures) none_sent
 
 pub returns-in_ok-tags-in-Some : goal.returns-in_ok-tags-in-Some
 unfolding tags_fields
 returns-in_ok-tags-in-Some c =
-    rw c.in-Some.is (member_sent (codes "tags") (tags c.args.version.now.tags) (sent c.in_ok-key-in-Some.ensures) c.in_ok-tags-in-Some.ensures)
+    let written = rw c.tags-shown.ensures at c.in_ok-tags-in-Some.ensures in
+    rw (← c.in-Some.ensures) (member_sent (codes "tags") (tags c.args.version.now.tags) (sent c.in_ok-key-in-Some.ensures) written)

@@ -10,4 +10,4 @@ returns-then-len-eq0 c = let none : length c.args.of.now ≡ 0 = omega arith in 
 pub returns : goal.returns
 returns c =
     let some : length c.args.of.now ≡ 0 → ⊥ = λ none. omega arith in
-    rw (some_tags c.args.of.now some) (member_sent (codes "tags") (tags_data c.args.of.now) (sent c.in_ok-key.ensures) c.in_ok-tags.ensures)
+    rw (some_tags c.args.of.now some) (member_sent (codes "tags") (tags_data c.args.of.now) (sent c.in_ok-key.ensures) (rw c.list.ensures at c.in_ok-tags.ensures))

@@ -8,5 +8,6 @@ use Rattle.reverse_refs.proofs.users.users_at.Goals as goal
 
 pub returns-in-None-clause-users : goal.returns-in-None-clause-users
 returns-in-None-clause-users c =
-    ap (λ (found : Option (Row Key)). (unwrap_or found no_row).items) c.in-None.ensures
+    c.none.ensures.keys
+    ∙ ap (λ (found : Option (Row Key)). (unwrap_or found no_row).items) c.in-None.ensures
     ∙ ap (λ (row : Row Key). row.items) (unwrap_or-slice_get c.args.rows.now c.args.id no_row)

@@ -7,5 +7,5 @@ use Rattle.indexed_map.proofs.maps.IndexedMap.users_ever.Goals as goal
 
 pub returns-clause-each : goal.returns-clause-each
 returns-clause-each c a =
-    let P : Stand → Type 0 = λ w. lists_key c.users.result.now a ≡ has_used w.elements a c.args.key in
+    let P : Stand → Type 0 = λ w. lists_key c.users.result a ≡ has_used w.elements a c.args.key in
     subst P c.self.view_is (ap (λ (ks : List Key). lists_key ks a) c.users.ensures.users ∙ c.self.invariant.indexed_ever.holds a c.args.key)

@@ -13,6 +13,6 @@ returns c =
     let same = c.self.view_is in
     c.least_key.ensures
     ∙ ap (λ (x : Option Key). least x c.least_of.result)
-    (c.first_of-first.ensures ∙ ap (λ (ks : List Key). slice_get (filter (λ a. uses s a c.args.used) ks) 0) (c.users.ensures ∙ ap (λ (x : Sight). users x.before c.args.used) same))
+    (c.first_of-first.ensures ∙ ap (λ (ks : List Key). slice_get (filter (λ a. uses s a c.args.used) ks) 0) (c.items.ensures.keys ∙ c.users-users.ensures ∙ ap (λ (x : Sight). users x.before c.args.used) same))
     ∙ ap (λ (x : Option Key). least (slice_get (filter (λ a. uses s a c.args.used) (users s.before c.args.used)) 0) x)
     (c.least_of.ensures ∙ ap (least_where (λ a. uses s a c.args.used)) (c.keys.ensures ∙ ap (λ (x : Sight). x.over.keys) same))
