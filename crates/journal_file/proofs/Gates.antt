@@ -16,12 +16,12 @@ gated_text text file gated =
     ∙ ap (λ (l : List ℕ). text ++ l) (shut 35 gated.behind (omega arith))
     ∙ append-nil text
 
-gate_front : (text behind : List ℕ) (n : ℕ) → n ≡ length text → take (n + 1) (text ++ 35 ∷ behind) ≡ text ++ 35 ∷ []
+pub gate_front : (text behind : List ℕ) (n : ℕ) → n ≡ length text → take (n + 1) (text ++ 35 ∷ behind) ≡ text ++ 35 ∷ []
 gate_front text behind n is =
     ap (λ (l : List ℕ). take (n + 1) l) (sym (append_assoc text (35 ∷ []) behind))
     ∙ take_at (text ++ 35 ∷ []) behind (n + 1) (omega (arith, is, length-append text (35 ∷ [])))
 
-by_front : (text file : List ℕ) (n : ℕ) → IsText text → take (n + 1) file ≡ text ++ 35 ∷ [] → IsGated text file
+pub by_front : (text file : List ℕ) (n : ℕ) → IsText text → take (n + 1) file ≡ text ++ 35 ∷ [] → IsGated text file
 by_front text file n whole front = record {
   whole = whole;
   behind = drop (n + 1) file;

@@ -1,3 +1,4 @@
+mod Behind
 mod Cuts
 mod Gates
 mod Moments

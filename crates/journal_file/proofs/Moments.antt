@@ -23,3 +23,12 @@ module _ {D : Type 0} (moment : D → ℕ) (left_since : D → ℕ → List ℕ 
     each = λ c left. so c (run.each c left);
     before = λ t c le left. ⊎_elim (λ past. inl past) (λ has. inr (so c has)) (run.before t c le left);
   }
+
+  -- a run behind another, each over what it may leave
+  pub goes_over : (old mid new : D) (P Q R : List ℕ → Type 0) → ((c : List ℕ) → P c → R c) → ((c : List ℕ) → Q c → R c) → LeavesOnly moment left_since old mid P → LeavesOnly moment left_since mid new Q
+      → LeavesOnly moment left_since old new R
+  goes_over old mid new P Q R first second so_far on = record {
+    later = omega (arith, so_far.later, on.later);
+    each = λ c left. ⊎_elim (λ past. first c (so_far.each c past)) (λ has. second c has) (on.before (moment old) c so_far.later left);
+    before = λ t c le left. ⊎_elim (λ past. ⊎_elim (λ earlier. inl earlier) (λ has. inr (first c has)) (so_far.before t c le past)) (λ has. inr (second c has)) (on.before t c (omega (arith, le, so_far.later)) left);
+  }

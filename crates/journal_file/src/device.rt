@@ -9,6 +9,10 @@ pub struct DeviceFailed;
 /// A file that one writer has open. Its calls change it at once for readers, and for good with the
 /// next `sync`; until then a crash may leave anything in what they touch.
 pub trait Device {
+    /// How many bytes of room are laid by at once behind the closed gate, or 0: none. Where a write goes
+    /// past the end of a file, each sync has to put its new length on the disk too.
+    const ROOM: usize;
+
     // The bytes that a read would return.
     ghost seen: { Self → List ℕ };
 

@@ -65,6 +65,8 @@ impl Device for DiskFile {
     ghost use Rattle.std.specs.Prelude.{length};
     ghost use Rattle.journal_file.specs.History.{seen_after, left_after, left_from, faults_in, counts_now, only_now};
 
+    const ROOM: usize = 1 << 18;
+
     ghost seen = { λ h. seen_after h.first h.calls };
 
     ghost may_leave = { λ h c. left_after h.first h.calls c };

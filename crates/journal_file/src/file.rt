@@ -8,8 +8,9 @@ ghost use Rattle.journal_file.specs.declared.faults.OpenFault.{OpenFault};
 
 use crate::device::{Device, DeviceFailed};
 use crate::faults::{AppendFault, OpenFault};
+use crate::room::add_lines;
 use crate::text::begins_with;
-use crate::write::{put_lines, repair};
+use crate::write::repair;
 use std::marker::Model;
 
 /// The most bytes that a text has when lines are added to it.
@@ -22,6 +23,8 @@ pub struct JournalFile<D: Device> {
     device: D,
     /// Where the gate stands, closed: the length of the text.
     gate: usize,
+    /// Up to where room was laid by, as far as this file knows. A hint alone: no fact rests on it.
+    laid: usize,
     /// Whether a call of the device has failed. No call follows it: a sync that failed is never made
     /// again as if it could still succeed.
     broken: bool,
@@ -63,6 +66,7 @@ impl<D: Device> JournalFile<D> {
             Ok(gate) => Ok(JournalFile {
                 device,
                 gate,
+                laid: gate,
                 broken: false,
             }),
             Err(DeviceFailed) => Err((OpenFault::Failed, device)),
@@ -91,9 +95,10 @@ impl<D: Device> JournalFile<D> {
         if lines.is_empty() {
             return Ok(());
         }
-        match put_lines(&mut self.device, self.gate, lines) {
-            Ok(()) => {
+        match add_lines(&mut self.device, self.gate, self.laid, lines) {
+            Ok(laid) => {
                 self.gate += lines.len();
+                self.laid = laid;
                 Ok(())
             }
             Err(DeviceFailed) => {
@@ -117,6 +122,7 @@ impl<D: Device> JournalFile<D> {
         let JournalFile {
             device,
             gate: _,
+            laid: _,
             broken: _,
         } = self;
         device

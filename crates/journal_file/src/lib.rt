@@ -4,7 +4,8 @@
 //! A file is a header line, whole lines that each begin with `{`, and a closed gate: the byte `#` where
 //! the next line's `{` will be. What stands behind the gate doesn't count. Lines are added behind it,
 //! all but their first byte, with another closed gate behind them; once they are on the disk, that one
-//! byte opens the gate to all of them at once.
+//! byte opens the gate to all of them at once. So room may be laid by there: zeros, which later lines
+//! are written over.
 #![tactic(auto)]
 
 mod chronicle;
@@ -14,6 +15,7 @@ mod disk;
 mod faults;
 mod file;
 mod memory;
+mod room;
 mod text;
 mod write;
 

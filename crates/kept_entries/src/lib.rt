@@ -2,6 +2,7 @@
 //! beginning of that list, which has at least what was promised.
 #![tactic(auto)]
 
+mod board;
 mod keeping;
 mod moment;
 mod receipts;
@@ -9,9 +10,10 @@ mod shelf;
 mod told;
 mod writing;
 
+pub use board::{Behind, Board, receipts_for};
 pub use keeping::{KeepFault, keep};
 pub use moment::Moment;
 pub use receipts::Receipt;
 pub use shelf::{Shelf, receipts_stay};
-pub use told::{Behind, Told, receipts_for};
+pub use told::Told;
 pub use writing::Lines;

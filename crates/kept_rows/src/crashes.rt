@@ -1,5 +1,6 @@
 //! A crash at each call of a script, in drawn outcomes, recovery, and recovery that crashes.
 use crate::drawn::left_by;
+use crate::roomy::RoomyFile;
 use crate::texts::{FIRST, HEADER, SECOND, THIRD, joined};
 use journal_file::{AppendFault, Device, JournalFile, MemFile, OpenFault, kept_text};
 use osm_base::Memory;
@@ -47,9 +48,13 @@ fn recovers(alloc: Global, file: &[u8], seed: u64) -> Result<bool, Memory> {
 }
 
 /// A file without lines, which fails after so many calls.
-fn fresh(alloc: Global, first: &[u8], left: u64) -> Result<Option<JournalFile<MemFile>>, Memory> {
-    let device = MemFile::new(alloc, first.to_vec(alloc)?, left);
-    Ok(JournalFile::open(device, first, HEADER).ok())
+fn fresh<const ROOM: usize>(
+    alloc: Global,
+    first: &[u8],
+    left: u64,
+) -> Result<Option<JournalFile<RoomyFile<ROOM>>>, Memory> {
+    let file = MemFile::new(alloc, first.to_vec(alloc)?, left);
+    Ok(JournalFile::open(RoomyFile::new(file), first, HEADER).ok())
 }
 
 /// Whether a file that failed takes no lines any more.
@@ -59,9 +64,9 @@ fn is_done_with<D: Device>(file: &mut JournalFile<D>) -> bool {
 
 /// The lines of the script are added to a file in memory that fails from a call on: what a crash may
 /// leave then has the lines that were acknowledged, and of the next ones all or none.
-fn script_crashes(alloc: Global, left: u64, seed: u64) -> Result<bool, Memory> {
+fn script_crashes<const ROOM: usize>(alloc: Global, left: u64, seed: u64) -> Result<bool, Memory> {
     let first = joined(alloc, &[HEADER, b"#"])?;
-    let Some(mut file) = fresh(alloc, &first, left)? else {
+    let Some(mut file) = fresh::<ROOM>(alloc, &first, left)? else {
         return Ok(false);
     };
     let mut before = HEADER.to_vec(alloc)?;
@@ -76,16 +81,16 @@ fn script_crashes(alloc: Global, left: u64, seed: u64) -> Result<bool, Memory> {
         }
         before = after.to_vec(alloc)?;
     }
-    let crashed = left_by(alloc, &first, file.device().deeds(), seed)?;
+    let crashed = left_by(alloc, &first, file.device().file().deeds(), seed)?;
     let found = kept_text(&crashed);
     let stands = found == before.as_slice() || found == after.as_slice();
     Ok(stands && recovers(alloc, &crashed, seed.wrapping_add(1))?)
 }
 
 /// A crash behind so many calls of the script, in each outcome that is drawn.
-fn crashes_after(alloc: Global, left: u64) -> Result<bool, Memory> {
+fn crashes_after<const ROOM: usize>(alloc: Global, left: u64) -> Result<bool, Memory> {
     for seed in 0..SEEDS {
-        if !script_crashes(alloc, left, seed.wrapping_mul(1_000_003))? {
+        if !script_crashes::<ROOM>(alloc, left, seed.wrapping_mul(1_000_003))? {
             return Ok(false);
         }
     }
@@ -93,17 +98,31 @@ fn crashes_after(alloc: Global, left: u64) -> Result<bool, Memory> {
 }
 
 /// Notes the row of a crash behind so many calls.
-fn note_crash<R: Print>(rt: &R, alloc: Global, tally: &mut Tally, left: u64) -> Result<(), Memory> {
-    let name = format!(in alloc; "a crash behind {left} calls of the script")?;
-    tally.note(rt, name.as_str(), crashes_after(alloc, left));
+fn note_crash<R: Print, const ROOM: usize>(
+    rt: &R,
+    alloc: Global,
+    tally: &mut Tally,
+    left: u64,
+) -> Result<(), Memory> {
+    let name = format!(in alloc;
+        "a crash behind {left} calls of the script, by {ROOM} bytes of room"
+    )?;
+    tally.note(rt, name.as_str(), crashes_after::<ROOM>(alloc, left));
     Ok(())
 }
 
-/// The script has fifteen calls: five for each of its three appends.
-pub fn play<R: Print>(rt: &R, alloc: Global, tally: &mut Tally) {
-    for left in 0..16_u64 {
-        if note_crash(rt, alloc, tally, left).is_err() {
+/// Notes a row for each of so many calls.
+fn note_crashes<R: Print, const ROOM: usize>(rt: &R, alloc: Global, tally: &mut Tally, calls: u64) {
+    for left in 0..calls {
+        if note_crash::<R, ROOM>(rt, alloc, tally, left).is_err() {
             tally.note(rt, "a crash of the script", Err(Memory));
         }
     }
+}
+
+/// The script has fifteen calls: five for each of its three appends. Where room is laid by sixteen bytes
+/// at a time, the first two have two more.
+pub fn play<R: Print>(rt: &R, alloc: Global, tally: &mut Tally) {
+    note_crashes::<R, 0>(rt, alloc, tally, 16);
+    note_crashes::<R, 16>(rt, alloc, tally, 20);
 }

@@ -2,7 +2,7 @@
 ghost use Rattle.journal_file.specs.Whole.{AreLines};
 
 use crate::texts::{FIRST, HEADER, SCRIPT, SECOND, joined};
-use journal_file::{DiskFault, DiskFile, JournalFile, OpenFault, create, is_damaged, open};
+use journal_file::{Device, DiskFault, DiskFile, JournalFile, OpenFault, create, is_damaged, open};
 use osm_base::Memory;
 use row_tally::Tally;
 use std::alloc::Global;
@@ -30,11 +30,21 @@ fn add(rt: HostRuntime, path: &str, lines: &[u8]) -> Result<JournalFile<DiskFile
     Ok(file)
 }
 
-/// Whether the file has these parts, one behind another.
+/// Whether the file has these parts, one behind another, and behind them at most the zeros of room
+/// that was laid by.
 fn has(rt: HostRuntime, path: &str, parts: &[&[u8]]) -> Result<bool, DiskFault> {
     let (_device, bytes) = open(&rt, rt.alloc(), path)?;
     let wanted = joined(rt.alloc(), parts)?;
-    Ok(bytes.as_slice() == wanted.as_slice())
+    let Some(behind) = bytes.strip_prefix(wanted.as_slice()) else {
+        return Ok(false);
+    };
+    Ok(behind.iter().all(|byte| *byte == 0))
+}
+
+/// Whether the file has these parts and as much room behind them as the first lines had laid by.
+fn has_room(rt: HostRuntime, path: &str, parts: &[&[u8]]) -> Result<bool, DiskFault> {
+    let room = fs::metadata(&rt, path)?.len() == (HEADER.len() + 1 + DiskFile::ROOM) as u64;
+    Ok(room && has(rt, path, parts)?)
 }
 
 /// A file is made, opened, added to, refused to a second device, not made anew, and opened again.
@@ -45,9 +55,10 @@ fn made(rt: HostRuntime, path: &str) -> Result<bool, DiskFault> {
     let file = add(rt, path, FIRST)?;
     let busy = matches!(open(&rt, alloc, path), Err(DiskFault::Busy));
     drop(file);
+    let room = has_room(rt, path, &[HEADER, FIRST, b"#"])?;
     create(&rt, alloc, path, HEADER)?;
     drop(add(rt, path, SECOND)?);
-    Ok(missing && busy && has(rt, path, &[HEADER, FIRST, SECOND, b"#"])?)
+    Ok(missing && busy && room && has(rt, path, &[HEADER, FIRST, SECOND, b"#"])?)
 }
 
 /// What a crash left behind the last whole line is cut, and the next lines stand in its place.

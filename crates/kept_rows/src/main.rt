@@ -7,6 +7,7 @@ mod disk;
 mod drawn;
 mod marks;
 mod memory;
+mod roomy;
 mod shelves;
 mod texts;
 

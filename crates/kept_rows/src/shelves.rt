@@ -3,7 +3,7 @@ ghost use Rattle.std.specs.Prelude.{◌≡◌, []};
 
 use crate::marks::{HEADER, MARKS, MarkShelf, Marks, Source, text_of};
 use journal_file::{Deed, JournalFile, MemFile, kept_text};
-use kept_entries::{KeepFault, Receipt, Shelf, Told, receipts_for};
+use kept_entries::{Board, KeepFault, Receipt, Shelf, Told, receipts_for};
 use osm_base::Memory;
 use row_tally::Tally;
 use shared_front::{Front, HubName, Opened, Tail};
@@ -36,7 +36,7 @@ fn mark<N: HubName, K: HubName, R: Wait>(
     rt: &R,
     alloc: Global,
     shelf: &Mutex<MarkShelf<N, K>>,
-    told: &Mutex<Told<K>>,
+    board: &Board<K>,
     marks: &Mutex<Marks<N>>,
     mark: bool,
 ) -> Result<bool, KeepFault> {
@@ -44,7 +44,7 @@ fn mark<N: HubName, K: HubName, R: Wait>(
     let mut right = true;
     for _ in 0..MARKS {
         let count = marks.lock(rt).add(mark)?;
-        let receipts = receipts_for(rt, alloc, shelf, told, &mut source, count)?;
+        let receipts = receipts_for(rt, alloc, shelf, board, &mut source, count)?;
         right &= shelf.lock(rt).gave(&receipts);
     }
     Ok(right)
@@ -61,6 +61,21 @@ fn syncs(deeds: &[Deed]) -> u64 {
     count
 }
 
+/// Whether the file has all marks of both threads, and each receipt took two syncs.
+fn has_all<N: HubName, K: HubName>(
+    alloc: Global,
+    marks: &Marks<N>,
+    shelf: &MarkShelf<N, K>,
+) -> Result<bool, Memory> {
+    let file = shelf.device();
+    let all = marks.marks.as_slice();
+    let whole = kept_text(file.bytes()) == text_of(alloc, all)?.as_slice();
+    let yes = all.iter().filter(|mark| **mark).count();
+    let counted = all.len() == 2 * MARKS && yes == MARKS;
+    let given = shelf.receipts().len();
+    Ok(whole && counted && syncs(file.deeds()) == given.saturating_mul(2))
+}
+
 /// Two threads keep marks in one file. It holds all of both in the end, in the order of the list, and
 /// each receipt took two syncs.
 fn by_two<N: HubName + Send + Sync, K: HubName + Send + Sync, R: Threads + Wait + Sync>(
@@ -75,7 +90,7 @@ fn by_two<N: HubName + Send + Sync, K: HubName + Send + Sync, R: Threads + Wait 
     let (tail, front) = list.named::<N>();
     let (ends, none) = receipts.named::<K>();
     let shelf = Mutex::new(empty(alloc, u64::MAX, front.again(), ends, none.again())?);
-    let told = Mutex::new(Told::new(none));
+    let board = Board::new(Told::new(none));
     let marks = Mutex::new(Marks {
         tail,
         front,
@@ -83,20 +98,18 @@ fn by_two<N: HubName + Send + Sync, K: HubName + Send + Sync, R: Threads + Wait 
     });
     let (one, other) = join(
         rt,
-        || mark(rt, alloc, &shelf, &told, &marks, true),
-        || mark(rt, alloc, &shelf, &told, &marks, false),
+        || mark(rt, alloc, &shelf, &board, &marks, true),
+        || mark(rt, alloc, &shelf, &board, &marks, false),
     );
-    let marks = marks.lock(rt);
-    let shelf = shelf.lock(rt);
-    let file = shelf.device();
-    let all = marks.marks.as_slice();
-    let whole = kept_text(file.bytes()) == text_of(alloc, all)?.as_slice();
-    let yes = all.iter().filter(|mark| **mark).count();
-    let given = shelf.receipts().len();
-    let told = told.lock(rt).count();
-    let counted = all.len() == 2 * MARKS && yes == MARKS && told == all.len() as u64;
-    let right = one? && other?;
-    Ok(right && whole && counted && syncs(file.deeds()) == given.saturating_mul(2))
+    // The last receipt is told, so this asks nothing of the file.
+    let mut source = Source {
+        rt,
+        alloc,
+        marks: &marks,
+    };
+    let told = receipts_for(rt, alloc, &shelf, &board, &mut source, 2 * MARKS as u64)?;
+    let right = one? && other? && has_all(alloc, &marks.lock(rt), &shelf.lock(rt))?;
+    Ok(right && shelf.lock(rt).receipts().len() == told.len())
 }
 
 fn two_threads<R: Threads + Wait + Sync>(rt: &R, alloc: Global) -> Result<bool, KeepFault> {
@@ -117,7 +130,7 @@ fn till_it_fails<N: HubName, K: HubName, R: Wait>(
     let (tail, front) = list.named::<N>();
     let (ends, none) = receipts.named::<K>();
     let shelf = Mutex::new(empty(alloc, 7, front.again(), ends, none.again())?);
-    let told = Mutex::new(Told::new(none));
+    let board = Board::new(Told::new(none));
     let marks = Mutex::new(Marks {
         tail,
         front,
@@ -131,14 +144,14 @@ fn till_it_fails<N: HubName, K: HubName, R: Wait>(
     for mark in [true, false, true] {
         marks.lock(rt).add(mark)?;
     }
-    let first = receipts_for(rt, alloc, &shelf, &told, &mut source, 1)?;
-    let again = receipts_for(rt, alloc, &shelf, &told, &mut source, 3)?;
+    let first = receipts_for(rt, alloc, &shelf, &board, &mut source, 1)?;
+    let again = receipts_for(rt, alloc, &shelf, &board, &mut source, 3)?;
     let one = first.len() == 1 && again.len() == 1;
     let fourth = marks.lock(rt).add(false)?;
-    let failed = receipts_for(rt, alloc, &shelf, &told, &mut source, fourth);
+    let failed = receipts_for(rt, alloc, &shelf, &board, &mut source, fourth);
     let broken = shelf.lock(rt).is_broken();
-    let tried = receipts_for(rt, alloc, &shelf, &told, &mut source, fourth);
-    let third = receipts_for(rt, alloc, &shelf, &told, &mut source, 3)?;
+    let tried = receipts_for(rt, alloc, &shelf, &board, &mut source, fourth);
+    let third = receipts_for(rt, alloc, &shelf, &board, &mut source, 3)?;
     let shelf = shelf.lock(rt);
     let stands = shelf.gave(&third) && third.len() == 1 && shelf.device().deeds().len() == 7;
     let refused = matches!(failed, Err(KeepFault::File)) && matches!(tried, Err(KeepFault::File));
