@@ -1,2 +1,3 @@
-mod Fronts
+mod InTurn
+mod OneLine
 mod WholeEntries

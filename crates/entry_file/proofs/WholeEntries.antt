@@ -8,8 +8,6 @@ use Rattle.osm_model.specs.declared.commands.Entry.{Entry}
 use Rattle.journal_file.specs.Whole.{with_first, whole, ended, AreLines}
 use Rattle.journal_text.specs.Line.{line, IsEntry}
 use Rattle.journal_text.specs.Text.{lines}
-use Rattle.journal_text.specs.Version.{IsEntryIn}
-use Rattle.journal_text.specs.declared.versions.Version.TheVariants.{Two}
 
 ended_line : (xs more : List ℕ) → is_one_line xs ≡ true → ended (xs ++ 10 ∷ more) ≡ Some (xs ++ 10 ∷ whole more)
 ended_line [] more h = refl
@@ -33,7 +31,3 @@ module _ (begins : (e : Entry) → (rest : List ℕ) × (line e ≡ 123 ∷ rest
   are_lines [] typed = refl
   are_lines (e ∷ es) typed =
       whole_line e (lines es) (All-head IsEntry e es typed) ∙ ap (λ (l : List ℕ). line e ++ 10 ∷ l) (are_lines es (All-tail IsEntry e es typed))
-
--- version 2 has a member for each part of an entry
-pub all_in_two : (es : List Entry) → All IsEntry es → All (IsEntryIn Two) es
-all_in_two es typed = λ k d lt. record { typed = typed k d lt; fits = refl }

@@ -1,10 +1,9 @@
 //! The file of the map's journal: how its entries are written, and how they are read again.
 #![tactic(auto)]
 
-mod faults;
+mod keeping;
 mod lines;
-mod taking_up;
+mod reading;
 
-pub use faults::RestartFault;
+pub use keeping::keep_all;
 pub use lines::EntryLines;
-pub use taking_up::restart;

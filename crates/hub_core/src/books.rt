@@ -66,16 +66,17 @@ impl<M: Machine> Book<M> {
         journal.into_journal()
     }
 
-    /// The journal with its counts alone: the world is let go.
-    pub fn into_counted(self) -> CountedJournal<M>
-        ensures { result ≡ self }
+    /// The journal with its counts, and the world after it.
+    pub fn into_parts(self) -> (CountedJournal<M>, M::World)
+        ensures journal { result.0 ≡ self }
+        ensures world { M.state result.1 ≡ replay M.rules self }
     {
         let Book {
             alloc: _,
             journal,
-            world: _,
+            world,
         } = self;
-        journal
+        (journal, world)
     }
 
     /// The world after the journal.
@@ -104,8 +105,9 @@ impl<M: Machine> Book<M> {
         self.journal.sessions()
     }
 
-    // Puts an entry at the end, and offers it. It returns its place.
-    fn append<O: Outlet<M::Entry>>(
+    /// Puts an entry at the end, and offers it. It returns its place. All memory is taken first:
+    /// `Memory`, the only error, leaves the book and the outlet.
+    pub fn append<O: Outlet<M::Entry>>(
         &mut self,
         entry: M::Entry,
         tag: Tag,

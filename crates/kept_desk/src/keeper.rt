@@ -6,7 +6,7 @@ ghost use Rattle.session_desk.specs.Answered.{StaysOrFreshens};
 
 use crate::inner::Inner;
 use journal_file::Device;
-use kept_entries::{Behind, Lines, Receipt, Shelf, Told, receipts_for};
+use kept_entries::{Behind, Board, Lines, Receipt, Shelf, receipts_for};
 use machine_law::Machine;
 use session_desk::SessionDesk;
 use shared_front::{Front, HubName};
@@ -15,14 +15,15 @@ use std::alloc::Global;
 use std::marker::{Model, PhantomData};
 use std::sync::{Mutex, Wait};
 
-/// What a desk keeps by that answers for a session: where the file's shelf is, how many entries the
-/// desk's last reply may tell of, and the receipts in hand. Contracts see the last two.
+/// What a desk keeps by that answers for a session: where the file's shelf is and the board where
+/// its receipts are told, how many entries the desk's last reply may tell of, and the receipts in hand.
+/// Contracts see the last two.
 #[derive(Drop)]
 pub struct Keeper<'a, N: HubName, K: HubName, E, T: Lines<E>, V: Device, W: Wait> {
     rt: &'a W,
     alloc: Global,
     shelf: &'a Mutex<Shelf<N, K, E, T, V>>,
-    told: &'a Mutex<Told<K>>,
+    board: &'a Board<K>,
     tells_of: u64,
     receipts: Front<K, Receipt>,
     /// So many entries, at least, the last receipt in hand is for: what tells of no more needs no lock.
@@ -48,7 +49,7 @@ impl<'a, N: HubName, K: HubName, E, T: Lines<E>, V: Device, W: Wait> Keeper<'a, 
         rt: &'a W,
         alloc: Global,
         shelf: &'a Mutex<Shelf<N, K, E, T, V>>,
-        told: &'a Mutex<Told<K>>,
+        board: &'a Board<K>,
         receipts: Front<K, Receipt>,
     ) -> Keeper<'a, N, K, E, T, V, W>
         ensures { result ≡ record { tells_of = 0; receipts = receipts } }
@@ -57,7 +58,7 @@ impl<'a, N: HubName, K: HubName, E, T: Lines<E>, V: Device, W: Wait> Keeper<'a, 
             rt,
             alloc,
             shelf,
-            told,
+            board,
             tells_of: 0,
             receipts,
             held: 0,
@@ -86,7 +87,7 @@ impl<'a, N: HubName, K: HubName, E, T: Lines<E>, V: Device, W: Wait> Keeper<'a, 
             rt: _rt,
             alloc: _alloc,
             shelf: _shelf,
-            told: _told,
+            board: _board,
             tells_of: _tells_of,
             receipts,
             held: _held,
@@ -112,8 +113,8 @@ pub fn keep_from<N: HubName, K: HubName, E: Drop, T: Lines<E>, V: Device, B: Beh
         return true;
     }
     let (rt, alloc) = (keeper.rt, keeper.alloc);
-    let (shelf, told) = (keeper.shelf, keeper.told);
-    match receipts_for(rt, alloc, shelf, told, source, count) {
+    let (shelf, board) = (keeper.shelf, keeper.board);
+    match receipts_for(rt, alloc, shelf, board, source, count) {
         Ok(receipts) => {
             if !keeper.receipts.begins(&receipts) {
                 return false;

@@ -1,2 +1,3 @@
 pub mod Working
 pub mod Serving
+pub mod Begun

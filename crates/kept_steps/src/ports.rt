@@ -13,7 +13,7 @@ use crate::service::ToldService;
 use http_link::Desk;
 use journal_file::Device;
 use kept_desk::Keeper;
-use kept_entries::{Lines, Receipt, Shelf, Told};
+use kept_entries::{Board, Lines, Receipt, Shelf};
 use link_workers::{Worker, any_failed, seat_all, serve_all, unseat_all};
 use osm_base::{Memory, PIECE_LIMIT};
 use osm_outside::{Port, PortOutside};
@@ -40,7 +40,7 @@ pub struct KeptDesks<
     pub setting: &'a S::Setting,
     pub first: &'a Front<N, S::Entry>,
     pub shelf: &'a Mutex<Shelf<N, K, S::Entry, T, V>>,
-    pub told: &'a Mutex<Told<K>>,
+    pub board: &'a Board<K>,
     pub had: &'a Front<K, Receipt>,
 }
 
@@ -68,7 +68,7 @@ impl<
         ensures { result ≡ at_kept_front self.now.setting.now self.now.first.now 0 self.now.had.now }
     {
         let desk = StepDesk::new(self.rt, self.hub, self.setting, self.first.again());
-        let keeper = Keeper::new(self.rt, alloc, self.shelf, self.told, self.had.again());
+        let keeper = Keeper::new(self.rt, alloc, self.shelf, self.board, self.had.again());
         KeptStepDesk::new(alloc, desk, keeper)
     }
 }

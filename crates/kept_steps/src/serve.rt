@@ -6,7 +6,7 @@ ghost use Rattle.kept_steps.specs.KeptPorts.{AreMatched, ServesKeptPorts};
 
 use crate::ports::{KeptBack, KeptDesks, serve_by};
 use journal_file::{Device, JournalFile};
-use kept_entries::{Lines, Receipt, Shelf, Told, receipts_stay};
+use kept_entries::{Board, Lines, Receipt, Shelf, Told, receipts_stay};
 use kept_serve::{are_given, shelve};
 use link_workers::Outcome;
 use osm_outside::{Port, PortOutside};
@@ -104,7 +104,7 @@ where
         Ok(shelved) => shelved,
         Err(device) => return (Outcome::LacksMemory, device),
     };
-    let told = Mutex::new(Told::of(had.again(), shelf.front().len()));
+    let board = Board::new(Told::of(had.again(), shelf.front().len()));
     let shelf = Mutex::new(shelf);
     let desks = KeptDesks {
         rt,
@@ -112,7 +112,7 @@ where
         setting,
         first: &first,
         shelf: &shelf,
-        told: &told,
+        board: &board,
         had: &had,
     };
     let served = serve_by(rt, alloc, &desks, ports);

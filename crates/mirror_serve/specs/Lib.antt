@@ -1,4 +1,3 @@
 pub mod Mirrors
 pub mod Serve
-pub mod Kept
 pub mod Run

@@ -2,6 +2,7 @@
 use Rattle.std.specs.Prelude.{ℕ, List}
 use Rattle.osm_outside.specs.Port.{PortTold}
 use Rattle.journal_text.specs.Text.{text_of}
+use Rattle.kept_run.specs.Run.{Serving}
 use Rattle.kept_steps.specs.KeptPorts.{ServesKeptPorts}
 use Rattle.osm_model.specs.Journal.{IsLegal}
 use Rattle.osm_model.specs.declared.commands.Entry.{Entry}
@@ -17,6 +18,6 @@ MirrorsPorts users before after outcome = ServesPorts MirrorAnswers IsLegal user
 
 -- The same on from this journal, where the list goes on in this file, as it was at last: each reply that was sent was sent with a receipt in
 -- hand for the beginning of the list that it was answered on.
-abbrev pub MirrorsKeptPorts : {F : Type 0} → (F → ℕ) → (F → ℕ → List ℕ → Type 0) → (F → ℕ) → Users → List Entry → F → List PortTold → List PortTold → Outcome → Type 0
-MirrorsKeptPorts moment left_since faults users journal file before after outcome =
+abbrev pub MirrorsKeptPorts : {F : Type 0} → (F → ℕ) → (F → ℕ → List ℕ → Type 0) → (F → ℕ) → Serving Entry F
+MirrorsKeptPorts moment left_since faults journal file users before after outcome =
     ServesKeptPorts MirrorAnswers IsLegal text_of moment left_since faults users journal file before after outcome

@@ -1,5 +1,5 @@
 -- What a run of a mirror does, and which status it ends with.
-use Rattle.std.specs.Prelude.{◌≡◌, ℕ, ◌⊎◌, List, Option, Some, None}
+use Rattle.std.specs.Prelude.{ℕ, ◌⊎◌, ⊤, List, Option, Some, None}
 use Rattle.osm_outside.specs.Told.{Told}
 use Rattle.osm_outside.specs.Host.{HostTold}
 use Rattle.journal_host.specs.Told.{JournalsTold}
@@ -7,8 +7,11 @@ use Rattle.osm_words.specs.Words.{MirrorReading, standard, listens}
 use Rattle.server_frame.specs.Standard.{RunsStandard, IsUnserved}
 use Rattle.server_frame.specs.Listening.{RunsListening}
 use Rattle.mirror_serve.specs.Serve.{ServesMirror}
-use Rattle.mirror_serve.specs.Mirrors.{MirrorsPorts}
-use Rattle.mirror_serve.specs.Kept.{RunsListenKept}
+use Rattle.mirror_serve.specs.Mirrors.{MirrorsPorts, MirrorsKeptPorts}
+use Rattle.kept_run.specs.Run.{RunsKept, LeavesFiles}
+use Rattle.journal_text.specs.Line.{IsEntry}
+use Rattle.journal_text.specs.Text.{text_of}
+use Rattle.osm_model.specs.Journal.{IsLegal}
 
 -- what serving the standard link comes to
 abbrev pub RunsLink : List ℕ → Option ℕ → HostTold → HostTold → Told → Told → ℕ → Type 0
@@ -18,21 +21,19 @@ RunsLink = RunsStandard ServesMirror
 abbrev pub RunsListen : List ℕ → List ℕ → ℕ → HostTold → HostTold → Told → Told → ℕ → Type 0
 RunsListen = RunsListening MirrorsPorts
 
--- what words come to that name no file of a journal: none was asked for
-pub record LeavesFiles {F : Type 0} (comes_to : HostTold → HostTold → Told → Told → ℕ → Type 0) (journals journals' : JournalsTold F)
-    (host host' : HostTold) (before after : Told) (status : ℕ) : Type 0 where
-  pub files : journals' ≡ journals
-  pub comes : comes_to host host' before after status
-
 -- over what a file that a journal is kept in tells: the moments of its device, what a crash since one of them may leave, and how often a
 -- call has failed
 module _ {F : Type 0} (moment : F → ℕ) (left_since : F → ℕ → List ℕ → Type 0) (faults : F → ℕ) where
+  -- what listening with a journal comes to
+  abbrev pub RunsListenKept : List ℕ → List ℕ → ℕ → List ℕ → JournalsTold F → JournalsTold F → HostTold → HostTold → Told → Told → ℕ → Type 0
+  RunsListenKept = RunsKept moment left_since faults text_of IsEntry IsLegal (λ _. ⊤) (MirrorsKeptPorts moment left_since faults)
+
   -- what words come to: those without a reading are status 1
   abbrev pub ComesTo : Option MirrorReading → JournalsTold F → JournalsTold F → HostTold → HostTold → Told → Told → ℕ → Type 0
   ComesTo None = LeavesFiles (IsUnserved 1)
   ComesTo (Some (standard users at)) = LeavesFiles (RunsLink users at)
   ComesTo (Some (listens users address workers None)) = LeavesFiles (RunsListen users address workers)
-  ComesTo (Some (listens users address workers (Some path))) = RunsListenKept moment left_since faults users address workers path
+  ComesTo (Some (listens users address workers (Some path))) = RunsListenKept users address workers path
 
   -- the same, or there was no memory for reading the words
   abbrev pub Runs : Option MirrorReading → JournalsTold F → JournalsTold F → HostTold → HostTold → Told → Told → ℕ → Type 0

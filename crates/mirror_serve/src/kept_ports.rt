@@ -47,7 +47,7 @@ pub fn mirror_kept_ports<
     requires named { opened ≡ N.book }
     requires receipts { receipts ≡ K.book }
     requires text { taken.file.text ≡ text_of taken.follower }
-    ensures serves { MirrorsKeptPorts V.moment V.left_since V.faults users.now taken.follower result.1
+    ensures serves { MirrorsKeptPorts V.moment V.left_since V.faults taken.follower result.1 users.now
         (map P.told ports.old.items) (map P.told ports.new.items) result.0 }
     ensures count { vec_len ports.new ≡ vec_len ports.old }
 {

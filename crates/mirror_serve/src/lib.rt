@@ -2,8 +2,8 @@
 //! or the links of many ports by the pieces of the server's feed that are posted to it.
 #![tactic(auto)]
 
+mod kept_mirror;
 mod kept_ports;
-mod kept_run;
 mod link;
 mod one_mirror;
 mod ports;

@@ -3,7 +3,7 @@ ghost use Rattle.std.specs.Prelude.{map, string_bytes, Some};
 ghost use Rattle.osm_words.specs.Words.{mirror_reading_of, shown_mirror};
 ghost use Rattle.mirror_serve.specs.Run.{ComesTo, Runs};
 
-use crate::kept_run::run_listen_kept;
+use crate::kept_mirror::run_listen_kept;
 use crate::serve::{MirrorServer, run_listen};
 use journal_host::{Device, Journals};
 use osm_outside::{Host, Link, Outside};

@@ -1,32 +1,7 @@
--- What kept_serve shows of any machine's desks, at those of the map.
-use Rattle.std.proofs.Common.{◌≡◌, ℕ, ◌+◌, ◌<◌, ◌≤◌, zero, suc, Bool, true, false, List, [], ◌∷◌, length, map, take, get_or, sym, ap, ◌∙◌, subst, arith}
-use Rattle.std.specs.Prelude.{IfSome, slice_get}
-use Rattle.std.specs.List.{AllByRecursion, range_with_len}
-use Rattle.std.proofs.lemmas.List.{length-take-le}
-use Rattle.std.proofs.Math.Decide.{dec_le}
-use mathlib.Core.Logic.{dite}
-use mathlib.Core.List.{IsPrefix}
-use Rattle.osm_outside.specs.Port.{PortTold}
-use Rattle.osm_model.specs.declared.commands.Entry.{Entry}
-use Rattle.machine_law.specs.declared.tags.Tag.{Tag}
-use Rattle.hub_core.specs.Journal.{calls_of}
-use Rattle.journal_text.specs.Text.{text_of}
-use Rattle.map_machine.specs.Machine.{map_rules}
-use Rattle.user_table.specs.Users.{Users}
-use Rattle.snapshot_hub.specs.Known.{Known, returner}
-use Rattle.snapshot_hub.specs.Closed.{HasClosed}
-use Rattle.snapshot_hub.specs.Closings.{AreSeated}
-use Rattle.kept_entries.specs.Receipts.{AreKept}
-use Rattle.kept_entries.specs.declared.receipts.Receipt.{Receipt}
-use Rattle.link_workers.specs.declared.outcome.Outcome.{Outcome}
+-- What is kept and told, at the rows of the map.
 use Rattle.api_desk.specs.HubDesk.{map_row, map_rows_stay}
-use Rattle.desk_serve.specs.KeptPorts.{HaveKept}
 use Rattle.desk_serve.proofs.KeptJoined.{KeptChain, KeptStay}
-use Rattle.desk_serve.proofs.Sound.{PointsConsistent}
-use Rattle.kept_desk.specs.Kept.{AtKept}
 use Rattle.kept_desk.proofs.Told.{links_told, told_stay}
-use Rattle.kept_serve.specs.Ports.{ServesKeptPorts, AreMatched, EndsSo}
-use Rattle.kept_serve.proofs.Serving.{ReceiptsStay, first_one, first_ones, ports_kept}
 
 -- what one link and then another told by the same session is told together
 pub kept_chain : KeptChain map_row
@@ -35,53 +10,3 @@ kept_chain = links_told map_row map_rows_stay
 -- what was told on a front stands on each longer one, with more receipts
 pub kept_longer : KeptStay map_row
 kept_longer = told_stay map_row map_rows_stay
-
-too_many : (tag_of : Entry → Tag) (limit : ℕ) (journal : List Entry) (last : ℕ) → (suc last ≤ limit → ⊥) → AreSeated tag_of limit journal
-    → ((session : ℕ) → suc last ≡ session + 1 → 0 < calls_of tag_of session journal) → ⊥
-too_many tag_of limit journal last more seated least =
-    let past : limit ≤ last = omega (arith, more) in
-    let none : calls_of tag_of last journal ≡ 0 = seated last past in
-    let some : 0 < calls_of tag_of last journal = least last (omega arith) in omega (arith, none, some)
-
--- A journal has no more sessions than those that may have entries.
-pub few_sessions : (tag_of : Entry → Tag) (limit : ℕ) (journal : List Entry) (sessions : ℕ) → AreSeated tag_of limit journal
-    → ((session : ℕ) → sessions ≡ session + 1 → 0 < calls_of tag_of session journal) → sessions ≤ limit
-few_sessions tag_of limit journal zero seated least = omega arith
-few_sessions tag_of limit journal (suc last) seated least = dite (dec_le (suc last) limit) (λ le. le) (λ more. absurd (too_many tag_of limit journal last more seated least))
-
--- ---- a hub that began with a journal
-
--- what a session of that number knows of the journal that its hub began with
-abbrev pub begun_at : List Entry → ℕ → Known Entry
-begun_at J number = returner number J (calls_of map_rules.tag_of number J)
-
--- the first session has seen the whole journal
-pub front_of_first : (J : List Entry) (items : List (Known Entry)) (first : Known Entry) (front : List Entry)
-    → ((number : ℕ) → IfSome (slice_get items number) (λ s. s ≡ begun_at J number)) → 0 < length items
-    → first ≡ get_or items 0 first → front ≡ first.front → front ≡ J
-front_of_first J items first front each some is same = same ∙ ap (λ (k : Known Entry). k.front) (is ∙ first_one (begun_at J) items first each some)
-
--- the first receipt is for the whole journal
-pub first_had : (J front : List Entry) (had given : List Receipt) → front ≡ J → had ≡ given
-    → (r : Receipt) × (given ≡ r ∷ []) × (r.count ≡ length front) → (r : Receipt) × (had ≡ r ∷ []) × (r.count ≡ length J)
-first_had J front had given same is first = (first.0, is ∙ first.1, first.2 ∙ ap (λ (l : List Entry). length l) same)
-
-module _ {V : Type 0} (moment : V → ℕ) (left_since : V → ℕ → List ℕ → Type 0) (faults : V → ℕ) where
-  -- what `serve_kept_ports` says, by the sessions of its hub and by what came back from its workers
-  pub kept_ports : PointsConsistent map_rules → ReceiptsStay map_rules map_row text_of moment left_since
-      → (users : Users) (seats named : ℕ) (J : List Entry) (before after : List PortTold) (begun seated sessions : List (Known Entry)) (stopped : List (AtKept Entry))
-      (in_hand : List (List Receipt)) (had given : List Receipt) (held : List Entry) (device : V) (failed broken : Bool) (outcome : Outcome)
-      → 0 < length before → length before ≤ seats → seats ≡ named → length begun ≡ seats
-      → ((number : ℕ) → IfSome (slice_get begun number) (λ s. s ≡ begun_at J number)) → seated ≡ take (length before) begun
-      → map (λ s. s.desk.known) stopped ≡ sessions → map (λ s. s.receipts) stopped ≡ in_hand
-      → ((numbers : List ℕ) (K : List Entry) → seated ≡ map (begun_at K) numbers → HaveKept map_rules map_row users K numbers stopped before after failed)
-      → AllByRecursion (λ receipts. IsPrefix had receipts) in_hand → (r : Receipt) × (had ≡ r ∷ []) × (r.count ≡ length J)
-      → HasClosed map_rules named sessions → AreKept text_of moment left_since device held given
-      → (broken ≡ false → faults device ≡ 0) → (broken ≡ true → 0 < faults device) → EndsSo (AreMatched in_hand sessions held given) failed broken outcome
-      → ServesKeptPorts map_rules map_row text_of moment left_since faults users seats J device before after outcome
-  kept_ports consistent longer users seats named J before after begun seated sessions stopped in_hand had given held device failed broken outcome some enough same count each is known_are hands_are served begin first closed kept fine broke ends =
-      let long : length (take (length before) begun) ≡ length before = length-take-le (length before) begun (omega (arith, enough, count)) in
-      ports_kept map_rules map_row text_of moment left_since faults kept_chain kept_longer consistent longer users seats J before after stopped sessions in_hand had given held device failed broken outcome
-      some enough known_are hands_are
-      (served (range_with_len 0 (length before)) J (is ∙ first_ones (begun_at J) (length before) begun each long)) begin first
-      (subst (λ (n : ℕ). HasClosed map_rules n sessions) (sym same) closed) kept fine broke ends

@@ -4,7 +4,7 @@
 
 mod desk;
 mod ports;
-mod run;
+mod server;
 
 pub use desk::MapKeptDesk;
-pub use run::run_serve_kept;
+pub use server::run_serve_kept;

@@ -24,12 +24,12 @@ use api_desk::{HubDesk, MapHub, MapSession};
 use desk_serve::{points_are_consistent, serve_kept_link};
 use entry_file::EntryLines;
 use http_link::LinkEnd;
-use journal_file::Device;
+use hub_core::Book;
+use journal_file::{Device, JournalFile};
 use kept_desk::Keeper;
-use kept_entries::{Receipt, Shelf, Told, receipts_stay};
+use kept_entries::{Board, Receipt, Shelf, Told, receipts_stay};
 use kept_serve::{KeptBack, outcome_of, shelve};
 use link_workers::{Outcome, Service, Worker, any_failed, seat_all, serve_all, unseat_all};
-use map_journal::TakenUp;
 use map_machine::MapMachine;
 use osm_base::Memory;
 use osm_model::Entry;
@@ -88,7 +88,7 @@ pub struct KeptDesks<'a, N: HubName, K: HubName, V: Device, R: Wait + Drop, W: W
     users: &'a UserTable,
     routes: &'a Routes,
     shelf: &'a Mutex<Shelf<N, K, Entry, EntryLines, V>>,
-    told: &'a Mutex<Told<K>>,
+    board: &'a Board<K>,
     had: &'a Front<K, Receipt>,
 }
 
@@ -99,7 +99,7 @@ impl<'a, N: HubName, K: HubName, V: Device, R: Wait + Drop, W: Wait> KeptDesks<'
     {
         let desk = HubDesk::new(self.rt, self.hub, session, self.users, self.routes);
         let had = self.had.again();
-        let keeper = Keeper::new(self.rt, alloc, self.shelf, self.told, had);
+        let keeper = Keeper::new(self.rt, alloc, self.shelf, self.board, had);
         MapKeptDesk::new(desk, keeper)
     }
 }
@@ -208,8 +208,8 @@ fn serve_by_sessions<
     })
 }
 
-/// Serves the links of the ports by the first sessions of a hub that goes on from this journal, under
-/// the names of these seats and receipts, one worker a port, each in a thread of its own, until no port
+/// Serves the links of the ports by the first sessions of a hub that goes on from the journal of this
+/// book, under the names of these seats and receipts, one worker a port, each in a thread of its own, until no port
 /// has a link to come or accepting fails. Then it closes the hub. A reply is sent only once the file
 /// holds what it tells of. The ports come back in their order, and the file's device does.
 pub fn serve_kept_ports<
@@ -223,7 +223,8 @@ pub fn serve_kept_ports<
     alloc: Global,
     seats: Seats<Entry>,
     receipts: Opened<Receipt>,
-    taken: TakenUp<V>,
+    book: Book<MapMachine>,
+    file: JournalFile<V>,
     users: &UserTable,
     ports: &mut Vec<P>,
 ) -> (Outcome, V)
@@ -232,20 +233,19 @@ pub fn serve_kept_ports<
     requires receipts { receipts ≡ K.book }
     requires some { 0 < vec_len ports.old }
     requires count { vec_len ports.old ≤ seats.sessions }
-    requires own { AreSeated map_rules.tag_of N.sessions taken.journal }
-    requires text { taken.file.text ≡ text_of taken.journal }
-    ensures serves { ServesKeptPorts map_rules map_row text_of V.moment V.left_since V.faults users.now seats.sessions taken.journal result.1
+    requires own { AreSeated map_rules.tag_of N.sessions book }
+    requires text { file.text ≡ text_of book }
+    ensures serves { ServesKeptPorts map_rules map_row text_of V.moment V.left_since V.faults users.now seats.sessions book result.1
         (map P.told ports.old.items) (map P.told ports.new.items) result.0 }
     ensures count { vec_len ports.new ≡ vec_len ports.old }
 {
     // What the machine keeps, and what is kept of its journal.
     points_are_consistent::<MapMachine>();
     receipts_stay::<Entry, EntryLines, V>();
-    let TakenUp { journal, file } = taken;
     let Ok(routes) = Routes::new(alloc) else {
         return (Outcome::LacksMemory, file.into_device());
     };
-    let begun = MapHub::<N, NoGate, &R>::begin(alloc, rt, seats, NoGate, journal);
+    let begun = MapHub::<N, NoGate, &R>::begin(alloc, rt, seats, NoGate, book);
     let Ok((mut hub, mut sessions)) = begun else {
         return (Outcome::LacksMemory, file.into_device());
     };
@@ -255,7 +255,7 @@ pub fn serve_kept_ports<
         Ok(shelved) => shelved,
         Err(device) => return (Outcome::LacksMemory, device),
     };
-    let told = Mutex::new(Told::of(had.again(), shelf.front().len()));
+    let board = Board::new(Told::of(had.again(), shelf.front().len()));
     let shelf = Mutex::new(shelf);
     let desks = KeptDesks {
         rt,
@@ -263,7 +263,7 @@ pub fn serve_kept_ports<
         users,
         routes: &routes,
         shelf: &shelf,
-        told: &told,
+        board: &board,
         had: &had,
     };
     let served = serve_by_sessions(rt, alloc, &desks, sessions, ports);

@@ -60,6 +60,8 @@ impl<'a, C: Clock> Device for StoppingFile<'a, C> {
     ghost use Rattle.std.specs.Prelude.{length};
     ghost use Rattle.journal_file.specs.History.{seen_after, left_after, left_from, faults_in, counts_now, only_now};
 
+    const ROOM: usize = DiskFile::ROOM;
+
     ghost seen = { λ h. seen_after h.first h.calls };
 
     ghost may_leave = { λ h c. left_after h.first h.calls c };

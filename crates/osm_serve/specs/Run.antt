@@ -16,6 +16,8 @@ use Rattle.osm_serve.specs.Measure.{AreLines}
 use Rattle.osm_serve.specs.Export.{IsExport}
 use Rattle.osm_serve.specs.Replay.{Replays}
 use Rattle.osm_serve.specs.Tell.{Tells}
+use Rattle.kept_run.specs.Run.{LeavesFiles}
+use Rattle.notes_kept.specs.Run.{RunsServeNotesKept}
 use Rattle.osm_kept.specs.Run.{RunsServeKept}
 
 -- What serving links of the map comes to is told as for any machine, by the rules of the map and the rows of its desk: a list is sound
@@ -46,12 +48,6 @@ pub record RunsReplay (host host' : HostTold) (before after : Told) (status : �
   pub host_stays : host' ≡ host
   pub replays : Replays before after status
 
--- what words come to that name no file of a journal: none was asked for
-pub record LeavesFiles {F : Type 0} (comes_to : HostTold → HostTold → Told → Told → ℕ → Type 0) (journals journals' : JournalsTold F)
-    (host host' : HostTold) (before after : Told) (status : ℕ) : Type 0 where
-  pub files : journals' ≡ journals
-  pub comes : comes_to host host' before after status
-
 -- over what a file that a journal is kept in tells: the moments of its device, what a crash since one of them may leave, and how often a
 -- call has failed
 module _ {F : Type 0} (moment : F → ℕ) (left_since : F → ℕ → List ℕ → Type 0) (faults : F → ℕ) where
@@ -65,7 +61,8 @@ module _ {F : Type 0} (moment : F → ℕ) (left_since : F → ℕ → List ℕ 
   ComesTo (Some (export load)) = LeavesFiles (RunsExport load)
   ComesTo (Some replay) = LeavesFiles RunsReplay
   ComesTo (Some (notes users at)) = LeavesFiles (RunsNotes users at)
-  ComesTo (Some (serve_notes users address workers)) = LeavesFiles (RunsServeNotes users address workers)
+  ComesTo (Some (serve_notes users address workers None)) = LeavesFiles (RunsServeNotes users address workers)
+  ComesTo (Some (serve_notes users address workers (Some path))) = RunsServeNotesKept moment left_since faults users address workers path
 
   -- the same, or there was no memory for reading the words
   abbrev pub Runs : Option Reading → JournalsTold F → JournalsTold F → HostTold → HostTold → Told → Told → ℕ → Type 0

@@ -5,6 +5,7 @@
 
 mod export;
 mod link;
+mod listening;
 mod measure;
 mod pipe;
 mod play;

@@ -7,14 +7,14 @@ ghost use Rattle.osm_words.specs.Words.{HaveSessions, reading_of, shown};
 ghost use Rattle.osm_serve.specs.Run.{Runs, ComesTo};
 
 use crate::export::export;
+use crate::listening::{listen_for_notes, listen_for_the_map};
 use crate::measure::measure;
 use crate::replay::replay;
-use crate::serve::{MapServer, run_serve};
+use crate::serve::MapServer;
 use hub_core::Book;
 use journal_host::{Device, Journals};
 use map_machine::MapMachine;
-use notes_serve::{NotesServer, run_serve_notes};
-use osm_kept::run_serve_kept;
+use notes_serve::NotesServer;
 use osm_outside::{Host, Link, Outside};
 use osm_words::{Words, WordsFault, read_words};
 use server_frame::{Listening, run_standard};
@@ -51,12 +51,9 @@ fn run_words_over<H: Host, J: Journals, R: Threads + Wait + Sync, L: Link>(
                 address: listen,
                 workers,
             };
-            match journal {
-                None => run_serve(rt, alloc, users, listening, host, standard),
-                Some(path) => run_serve_kept(
-                    rt, alloc, users, listening, path, host, journals, standard,
-                ),
-            }
+            listen_for_the_map(
+                rt, alloc, users, listening, journal, host, journals, standard,
+            )
         }
         Words::Measure(load) => measure(alloc, book, load, standard),
         Words::Export(load) => export(alloc, book, load, standard),
@@ -68,12 +65,15 @@ fn run_words_over<H: Host, J: Journals, R: Threads + Wait + Sync, L: Link>(
             users,
             listen,
             workers,
+            journal,
         } => {
             let listening = Listening {
                 address: listen,
                 workers,
             };
-            run_serve_notes(rt, alloc, users, listening, host, standard)
+            listen_for_notes(
+                rt, alloc, users, listening, journal, host, journals, standard,
+            )
         }
     }
 }

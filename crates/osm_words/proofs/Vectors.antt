@@ -229,15 +229,16 @@ of_notes_by_the_clock : reading_of (codes "osm" ∷ codes "notes" ∷ codes "--u
 unfolding clap_on_literals
 of_notes_by_the_clock = refl
 
-of_notes_at_an_address : reading_of (codes "osm" ∷ codes "serve-notes" ∷ codes "--users=u" ∷ codes "--listen=a" ∷ codes "--workers=2" ∷ []) ≡ Some (serve_notes (codes "u") (codes "a") 2)
+of_notes_at_an_address : reading_of (codes "osm" ∷ codes "serve-notes" ∷ codes "--users=u" ∷ codes "--listen=a" ∷ codes "--workers=2" ∷ []) ≡ Some (serve_notes (codes "u") (codes "a") 2 None)
 unfolding clap_on_literals
 of_notes_at_an_address = refl
 
 of_notes_until_the_input_ends : reading_of (codes "osm" ∷ codes "serve-notes" ∷ codes "--users=u" ∷ codes "--listen=a" ∷ codes "--workers=2" ∷ codes "--until-input-ends" ∷ [])
-    ≡ Some (serve_notes (codes "u") (codes "a") 2)
+    ≡ Some (serve_notes (codes "u") (codes "a") 2 None)
 unfolding clap_on_literals
 of_notes_until_the_input_ends = refl
 
-no_journal_of_notes : reading_of (codes "osm" ∷ codes "serve-notes" ∷ codes "--users=u" ∷ codes "--listen=a" ∷ codes "--workers=2" ∷ codes "--journal=j" ∷ []) ≡ None
+journal_of_notes : reading_of (codes "osm" ∷ codes "serve-notes" ∷ codes "--users=u" ∷ codes "--listen=a" ∷ codes "--workers=2" ∷ codes "--journal=j" ∷ [])
+    ≡ Some (serve_notes (codes "u") (codes "a") 2 (Some (codes "j")))
 unfolding clap_on_literals
-no_journal_of_notes = refl
+journal_of_notes = refl

@@ -24,17 +24,15 @@ pipe_app name = with_rule (with_rule (plain name) (option (codes "users") true))
 abbrev pub ending : App → App
 ending app = with_rule app (flag (codes "until-input-ends"))
 
--- `NAME --users FILE --listen ADDRESS --workers N [--until-input-ends]`
-abbrev pub listen_app : Text → App
-listen_app name =
-    ending
+-- `NAME --users FILE --listen ADDRESS --workers N [--until-input-ends] [--journal FILE]`
+abbrev pub serve_app : Text → App
+serve_app name =
+    with_rule
+    (ending
     (with_rule
     (with_rule (with_rule (plain name) (option (codes "users") true)) (option (codes "listen") true))
-    (option (codes "workers") true))
-
--- `serve --users FILE --listen ADDRESS --workers N [--until-input-ends] [--journal FILE]`
-abbrev pub serve_app : App
-serve_app = with_rule (listen_app (codes "serve")) (option (codes "journal") false)
+    (option (codes "workers") true)))
+    (option (codes "journal") false)
 
 -- `NAME --seed N --sessions N --uploads N`
 abbrev pub load_app : Text → App

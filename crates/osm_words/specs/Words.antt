@@ -3,7 +3,7 @@ use Rattle.std.specs.Prelude.{◌≡◌, ◌<◌, ◌≤◌, ⊤, ℕ, Bool, tru
 use Rattle.std.specs.Option.{option_map, option_and_then}
 use Rattle.std.specs.List.{list_any}
 use Rattle.std.specs.Str.{bytes_eq}
-use Rattle.clap.specs.Words.{App, Row, Text, first_of}
+use Rattle.clap.specs.Words.{Row, Text, first_of}
 use Rattle.osm_base.specs.declared.limits.TheConstants.{SESSION_LIMIT}
 use Rattle.osm_words.specs.declared.words.TheConstants.{UPLOAD_LIMIT}
 use Rattle.osm_words.specs.declared.words.LoadOptions.{LoadOptions}
@@ -15,7 +15,7 @@ use Rattle.osm_words.specs.declared.words.WordsFault.{WordsFault}
 use Rattle.osm_words.specs.declared.words.WordsFault.TheVariants.{NoReading, Memory}
 use Rattle.osm_words.specs.Values.{is_set, text_of, number_in, fitting}
 use Rattle.osm_base.specs.Number.{whole_of}
-use Rattle.osm_words.specs.Commands.{pipe_app, listen_app, serve_app, load_app, mirror_app, plain, found}
+use Rattle.osm_words.specs.Commands.{pipe_app, serve_app, load_app, mirror_app, plain, found}
 
 -- a command of the program, with its options
 pub data Reading : Type 0 where
@@ -26,9 +26,9 @@ pub data Reading : Type 0 where
   measure : LoadOptions → Reading
   export : LoadOptions → Reading
   replay : Reading
-  -- as `pipe` and as `serve`, for the server of notes, which keeps no journal
+  -- as `pipe` and as `serve`, for the server of notes
   notes : Text → Option ℕ → Reading
-  serve_notes : Text → Text → ℕ → Reading
+  serve_notes : Text → Text → ℕ → Option Text → Reading
 
 -- what was read, without where it lies in memory
 abbrev pub shown : Words → Reading
@@ -38,7 +38,7 @@ shown (Measure load) = measure load
 shown (Export load) = export load
 shown Replay = replay
 shown (Notes users at) = notes users.now at
-shown (ServeNotes users listen workers) = serve_notes users.now listen.now workers
+shown (ServeNotes users listen workers journal) = serve_notes users.now listen.now workers (option_map (λ path. path.now) journal)
 
 -- ---- the options in what `clap` found
 
@@ -77,21 +77,13 @@ load_of rows =
 abbrev pub pipe_reading : Text → List Text → Option Reading
 pipe_reading name words = option_and_then pipe_of (found (pipe_app name) words)
 
--- of a server that listens, with the options that its command has
-abbrev pub listening_reading : App → List Text → Option Reading
-listening_reading app words = option_and_then serve_of (found app words)
-
-abbrev pub serve_reading : List Text → Option Reading
-serve_reading words = listening_reading serve_app words
-
--- of one that has no option for a journal
-abbrev pub unkept_reading : Text → List Text → Option Reading
-unkept_reading name words = listening_reading (listen_app name) words
+abbrev pub serve_reading : Text → List Text → Option Reading
+serve_reading name words = option_and_then serve_of (found (serve_app name) words)
 
 -- what serves the map, for notes
 abbrev pub of_notes : Reading → Reading
 of_notes (pipe users at) = notes users at
-of_notes (serve users listen workers journal) = serve_notes users listen workers
+of_notes (serve users listen workers journal) = serve_notes users listen workers journal
 of_notes other = other
 
 abbrev pub load_reading : Text → List Text → Option LoadOptions
@@ -104,12 +96,12 @@ replay_reading words = option_map (λ _. replay) (found (plain (codes "replay"))
 abbrev pub command_reading : Text → List Text → Option Reading
 command_reading name words =
     if bytes_eq name (codes "pipe") then pipe_reading (codes "pipe") words
-    else (if bytes_eq name (codes "serve") then serve_reading words
+    else (if bytes_eq name (codes "serve") then serve_reading (codes "serve") words
     else (if bytes_eq name (codes "measure") then option_map measure (load_reading (codes "measure") words)
     else (if bytes_eq name (codes "export") then option_map export (load_reading (codes "export") words)
     else (if bytes_eq name (codes "replay") then replay_reading words
     else (if bytes_eq name (codes "notes") then option_map of_notes (pipe_reading (codes "notes") words)
-    else (if bytes_eq name (codes "serve-notes") then option_map of_notes (unkept_reading (codes "serve-notes") words)
+    else (if bytes_eq name (codes "serve-notes") then option_map of_notes (serve_reading (codes "serve-notes") words)
     else None))))))
 
 -- behind the program's name
@@ -205,7 +197,7 @@ pub record HasWorkers (workers : ℕ) : Type 0 where
 -- the same of the load or the workers that are asked for, where they are
 abbrev pub HaveSessions : Words → Type 0
 HaveSessions (Serve users listen workers journal) = HasWorkers workers
-HaveSessions (ServeNotes users listen workers) = HasWorkers workers
+HaveSessions (ServeNotes users listen workers journal) = HasWorkers workers
 HaveSessions (Measure load) = HasSessions load
 HaveSessions (Export load) = HasSessions load
 HaveSessions other = ⊤

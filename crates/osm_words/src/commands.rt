@@ -1,7 +1,7 @@
 //! What `clap` is told of each command, and what it finds in words.
 ghost use Rattle.std.specs.Prelude.{◌≡◌, IfOk, map, string_bytes, true, false};
 ghost use Rattle.clap.specs.Words.{app_of, rule_of, with_rule, is_simple_and_free, kind_of};
-ghost use Rattle.osm_words.specs.Commands.{option, flag, plain, pipe_app, listen_app, serve_app, load_app, mirror_app, found};
+ghost use Rattle.osm_words.specs.Commands.{option, flag, plain, pipe_app, serve_app, load_app, mirror_app, found};
 ghost use Rattle.osm_words.specs.Found.{Finds, Tells};
 
 use crate::words::WordsFault;
@@ -65,22 +65,15 @@ pub fn pipe<'a>(alloc: Global, name: &'a str) -> Result<Command<'a>, AllocError>
     with_option(alloc, needed, "at", false)
 }
 
-/// `NAME --users FILE --listen ADDRESS --workers N [--until-input-ends]`.
-pub fn listen<'a>(alloc: Global, name: &'a str) -> Result<Command<'a>, AllocError>
-    ensures { IfOk result (λ command. app_of command ≡ listen_app name.entry.now) }
+/// `NAME --users FILE --listen ADDRESS --workers N [--until-input-ends] [--journal FILE]`.
+pub fn serve<'a>(alloc: Global, name: &'a str) -> Result<Command<'a>, AllocError>
+    ensures { IfOk result (λ command. app_of command ≡ serve_app name.entry.now) }
 {
     let named = with_option(alloc, plain(alloc, name), "users", true)?;
     let placed = with_option(alloc, named, "listen", true)?;
     let manned = with_option(alloc, placed, "workers", true)?;
-    with_flag(alloc, manned, "until-input-ends")
-}
-
-/// `serve --users FILE --listen ADDRESS --workers N [--until-input-ends] [--journal FILE]`.
-pub fn serve<'a>(alloc: Global) -> Result<Command<'a>, AllocError>
-    ensures { IfOk result (λ command. app_of command ≡ serve_app) }
-{
-    let needed = listen(alloc, "serve")?;
-    with_option(alloc, needed, "journal", false)
+    let ending = with_flag(alloc, manned, "until-input-ends")?;
+    with_option(alloc, ending, "journal", false)
 }
 
 /// `NAME --seed N --sessions N --uploads N`.

@@ -4,14 +4,12 @@
 //! help and version flags off; the definition is the matches that clap's own contract defines.
 //! `--` is tested before, since clap would take it. Values are checked by the program: numbers are
 //! digits alone, and what an address is the host says, not the words.
-ghost use Rattle.std.specs.Prelude.{◌≡◌, IfOk, map, string_bytes, true};
-ghost use Rattle.clap.specs.Words.{app_of, is_simple_and_free};
-ghost use Rattle.osm_words.specs.Words.{Gives, GivesLoad, GivesMirror, HasSessions, HaveSessions, HaveWorkers, reading_of, mirror_reading_of, until_input_ends, command_reading, of_notes, shown, pipe_reading, listening_reading, serve_reading, unkept_reading, load_reading, replay_reading, has_end_mark};
+ghost use Rattle.std.specs.Prelude.{◌≡◌, IfOk, map, string_bytes};
+ghost use Rattle.osm_words.specs.Words.{Gives, GivesLoad, GivesMirror, HasSessions, HaveSessions, HaveWorkers, reading_of, mirror_reading_of, until_input_ends, command_reading, of_notes, shown, pipe_reading, serve_reading, load_reading, replay_reading, has_end_mark};
 
-use crate::commands::{find, listen, load, mirror, pipe, plain, serve};
+use crate::commands::{find, load, mirror, pipe, plain, serve};
 use crate::matches::{load_of, mirror_of, pipe_of, serve_of};
 use crate::words::{LoadOptions, MirrorWords, Words, WordsFault};
-use clap::Command;
 use std::alloc::Global;
 
 fn read_pipe<'a>(alloc: Global, name: &'a str, words: &'a [String]) -> Result<Words<'a>, WordsFault>
@@ -22,33 +20,16 @@ fn read_pipe<'a>(alloc: Global, name: &'a str, words: &'a [String]) -> Result<Wo
     pipe_of(&matches).ok_or(WordsFault::NoReading)
 }
 
-/// The words of a server that listens, by the command that tells of its options.
-fn read_listening<'a>(command: Command<'a>, words: &'a [String]) -> Result<Words<'a>, WordsFault>
-    requires { is_simple_and_free (app_of command) ≡ true }
-    ensures gives { Gives (listening_reading (app_of command.entry) (map string_bytes words.entry.now)) result }
-    ensures sessions { IfOk result HaveSessions }
-{
-    let matches = find(command, words)?;
-    serve_of(&matches).ok_or(WordsFault::NoReading)
-}
-
-fn read_serve<'a>(alloc: Global, words: &'a [String]) -> Result<Words<'a>, WordsFault>
-    ensures gives { Gives (serve_reading (map string_bytes words.entry.now)) result }
-    ensures sessions { IfOk result HaveSessions }
-{
-    read_listening(serve(alloc)?, words)
-}
-
-/// The words of a server that listens and keeps no journal.
-fn read_unkept<'a>(
+fn read_serve<'a>(
     alloc: Global,
     name: &'a str,
     words: &'a [String],
 ) -> Result<Words<'a>, WordsFault>
-    ensures gives { Gives (unkept_reading name.entry.now (map string_bytes words.entry.now)) result }
+    ensures gives { Gives (serve_reading name.entry.now (map string_bytes words.entry.now)) result }
     ensures sessions { IfOk result HaveSessions }
 {
-    read_listening(listen(alloc, name)?, words)
+    let matches = find(serve(alloc, name)?, words)?;
+    serve_of(&matches).ok_or(WordsFault::NoReading)
 }
 
 fn read_load<'a>(
@@ -71,7 +52,7 @@ fn read_replay<'a>(alloc: Global, words: &'a [String]) -> Result<Words<'a>, Word
     Ok(Words::Replay)
 }
 
-/// The same of the server of notes, where it was read of that of the map. Notes are in no journal.
+/// The same of the server of notes, where it was read of that of the map.
 fn of_notes(words: Words<'_>) -> Words<'_>
     ensures shown { shown result ≡ of_notes (shown words.entry) }
     ensures sessions { HaveSessions words.entry → HaveSessions result }
@@ -82,11 +63,12 @@ fn of_notes(words: Words<'_>) -> Words<'_>
             users,
             listen,
             workers,
-            journal: _,
+            journal,
         } => Words::ServeNotes {
             users,
             listen,
             workers,
+            journal,
         },
         other => other,
     }
@@ -100,7 +82,7 @@ fn read_command<'a>(alloc: Global, name: &str, words: &'a [String]) -> Result<Wo
     if name == "pipe" {
         read_pipe(alloc, "pipe", words)
     } else if name == "serve" {
-        read_serve(alloc, words)
+        read_serve(alloc, "serve", words)
     } else if name == "measure" {
         Ok(Words::Measure(read_load(alloc, "measure", words)?))
     } else if name == "export" {
@@ -110,7 +92,7 @@ fn read_command<'a>(alloc: Global, name: &str, words: &'a [String]) -> Result<Wo
     } else if name == "notes" {
         Ok(of_notes(read_pipe(alloc, "notes", words)?))
     } else if name == "serve-notes" {
-        Ok(of_notes(read_unkept(alloc, "serve-notes", words)?))
+        Ok(of_notes(read_serve(alloc, "serve-notes", words)?))
     } else {
         Err(WordsFault::NoReading)
     }
@@ -139,9 +121,8 @@ pub fn until_input_ends(words: &[String]) -> bool
 /// `pipe` needs `users`, a path, and may have `at`. `serve` needs `users`, `listen`, an address, and
 /// `workers`, from 1 to 64, and may have `journal`, a path, and the flag `until-input-ends`, which has no value. `measure` and `export` need `seed`, `sessions` from 1 to 64, and
 /// `uploads`, at most 909 for each session. `replay` has no options. `notes` and `serve-notes` are
-/// `pipe` and `serve` of the server of notes, which has no `journal`. A path or an address is any
-/// text that isn't empty and doesn't begin with `-`. Numbers are digits alone, below 2^64. All other
-/// words have no reading.
+/// `pipe` and `serve` of the server of notes. A path or an address is any text that isn't empty and
+/// doesn't begin with `-`. Numbers are digits alone, below 2^64. All other words have no reading.
 pub fn read_words<'a>(alloc: Global, words: &'a [String]) -> Result<Words<'a>, WordsFault>
     ensures gives { Gives (reading_of (map string_bytes words.entry.now)) result }
     ensures sessions { IfOk result HaveSessions }

@@ -34,7 +34,7 @@ pub enum Words<'a> {
     },
     /// To serve the links that come to an address, as the host reads it, with the users of the text
     /// at that path and with so many workers, from 1 to `SESSION_LIMIT`. Where there is a path of a
-    /// journal, the map is the one that this file tells of, and each change is kept there.
+    /// journal, what is served is what this file tells of, and each change is kept there.
     Serve {
         users: &'a str,
         listen: &'a str,
@@ -52,11 +52,12 @@ pub enum Words<'a> {
         users: &'a str,
         at: Option<u64>,
     },
-    /// As `Serve`, for the server of notes, which keeps no journal.
+    /// As `Serve`, for the server of notes.
     ServeNotes {
         users: &'a str,
         listen: &'a str,
         workers: u32,
+        journal: Option<&'a str>,
     },
 }
 

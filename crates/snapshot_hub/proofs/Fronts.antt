@@ -44,3 +44,10 @@ module _ {S C Q P E K : Type 0} (rules : Rules S C Q P E K) where
     };
     seated = seated_entered rules.tag_of sessions (rules.tag_of e) xs (xs ++ e ∷ []) (Some (length xs)) next.2 (e, refl, refl, refl) h.seated;
   }
+
+  -- the beginning of such entries with the one that stands behind it
+  pub front_more : StaysConsistent rules → (sessions : ℕ) (entries xs : List E) (i : ℕ) (e : E) → i < length entries → e ≡ get_or entries i e
+      → IsFront rules sessions entries → xs ≡ take i entries → IsFront rules sessions xs → IsFront rules sessions (xs ++ e ∷ [])
+  front_more keeps sessions entries xs i e within is all begun kept =
+      let welcome : IsWelcome sessions (take i entries) (get_or entries i e) = welcome_at sessions entries i e within all in
+      front_push keeps sessions xs e kept (subst (λ (l : List E). IsWelcome sessions l e) (sym begun) (subst (λ (x : E). IsWelcome sessions (take i entries) x) (sym is) welcome))

@@ -10,11 +10,11 @@ ghost use Rattle.snapshot_hub.specs.Known.{returner, caught_up, owing};
 ghost use Rattle.snapshot_hub.specs.Closings.{AreSeated, IsFront};
 ghost use Rattle.snapshot_hub.specs.Commits.{count_of, IsEntered, IsCommitted};
 
-use crate::press::{Press, Publisher};
+use crate::press::Press;
 use crate::seats::Seats;
 use crate::session::Session;
 use crate::snapshot::Snapshot;
-use hub_core::{CountedJournal, Done, Judged};
+use hub_core::{Book, CountedJournal, Done, Judged};
 use machine_law::{Machine, Settled, Tag};
 use osm_base::{Memory, Steps};
 use shared_front::{Front, HubName};
@@ -22,11 +22,6 @@ use std::alloc::Global;
 use std::marker::Model;
 use std::sync::Wait;
 use std::sync::ledger::Ledger;
-
-// So many entries of the journal that a hub begins with are handed over before they are published.
-// Their copies are held until then, and until the second copy of the world takes them: few, since an
-// entry may be as large as an upload.
-const UNPUBLISHED: usize = 16;
 
 /// The journal, and the press that publishes it. Contracts see it as the journal and the part of it that is published.
 ///
@@ -58,70 +53,33 @@ impl<N: HubName, M: Machine, S: Snapshot<N, M>, R: Wait + Drop> Model for Held<N
     ghost invariant = { λ h. (h.entries ≡ h.press.journal) × AreSeated M.rules.tag_of N.sessions h.press.journal };
 }
 
-/// The held value of this journal, all of it published, under the name of these seats, and its
-/// sessions in the order of their numbers. Each takes up the calls that the journal has of it.
+/// The held value of the journal of this book, all of it published, under the name of these seats,
+/// and its sessions in the order of their numbers. Each takes up the calls that the journal has of it.
 pub fn begin<N: HubName, M: Machine, S: Snapshot<N, M>, R: Wait + Drop>(
     alloc: Global,
     rt: R,
     seats: Seats<M::Entry>,
-    journal: CountedJournal<M>,
+    book: Book<M>,
 ) -> Result<(Held<N, M, S, R>, Vec<Session<N, M, S>>), Memory>
     requires named { seats.opened ≡ N.book }
     requires seated { seats.sessions ≡ N.sessions }
-    requires own { AreSeated M.rules.tag_of N.sessions journal }
-    ensures held { IfOk result (λ r. r.0 ≡ edition journal journal) }
+    requires own { AreSeated M.rules.tag_of N.sessions book }
+    ensures held { IfOk result (λ r. r.0 ≡ edition book book) }
     ensures count { IfOk result (λ r. length r.1.items ≡ seats.sessions) }
     ensures back { IfOk result (λ r. (number : ℕ) → IfSome (slice_get r.1.items number)
-        (λ s. s ≡ returner number journal (calls_of M.rules.tag_of number journal))) }
+        (λ s. s ≡ returner number book (calls_of M.rules.tag_of number book))) }
 {
     let Seats { opened, sessions } = seats;
-    let (tail, front) = opened.named::<N>();
-    let mut press = Press::new(alloc, rt, tail, front, sessions as usize)?;
+    let (journal, world) = book.into_parts();
     let entries = journal.journal();
-    print_all(alloc, &mut press, entries)?;
+    let seat = opened.named::<N>();
+    let press = Press::begin(alloc, rt, seat, entries, world, sessions as usize)?;
     let sessions = returning(alloc, &press, &journal, sessions)?;
     let held = Held {
         entries: journal,
         press,
     };
     Ok((held, sessions))
-}
-
-// Has an empty press take these entries, and publishes them.
-fn print_all<N: HubName, M: Machine, S: Snapshot<N, M>, R: Wait + Drop>(
-    alloc: Global,
-    press: &mut Press<N, M, S, R>,
-    entries: &[M::Entry],
-) -> Result<(), Memory>
-    requires empty { press.old.journal ≡ [] }
-    requires kept { IsFront M.rules N.sessions entries.now }
-    ensures { OnOk result (press.new ≡ edition entries.now entries.now) }
-{
-    offer_all::<M, Press<N, M, S, R>>(alloc, press, entries)?;
-    press.publish()?;
-    Ok(())
-}
-
-// Offers these entries to an outlet that holds none yet, each by a copy of its own. The outlet is any
-// publisher: of a loop over the press itself a check can't tell.
-fn offer_all<M: Machine, O: Publisher<M::Entry>>(
-    alloc: Global,
-    outlet: &mut O,
-    entries: &[M::Entry],
-) -> Result<(), Memory>
-    requires none { O.holds outlet.old ≡ Some [] }
-    requires welcome { (at : O) (place : ℕ) (other : M.Entry) → place < length entries.now → O.holds at ≡ Some (take place entries.now)
-        → O.welcomes at (get_or entries.now place other) }
-    ensures { OnOk result (O.holds outlet.new ≡ Some entries.now) }
-{
-    for (place, entry) in entries.iter().enumerate() {
-        if place % UNPUBLISHED == 0 {
-            outlet.publish_held()?;
-        }
-        let copy = M::copy(alloc, entry)?;
-        outlet.offer(copy)?;
-    }
-    Ok(())
 }
 
 // Sessions that take up the calls of a journal that the press has, in the order of their numbers.

@@ -1,6 +1,7 @@
 //! Where entries are added to the journal, and published.
-ghost use Rattle.std.specs.Prelude.{◌≡◌, ◌++◌, [], ◌<◌, ◌^◌, None, IfOk, OnOk, MatchResult};
+ghost use Rattle.std.specs.Prelude.{◌≡◌, ◌++◌, ◌∷◌, [], ◌<◌, ◌^◌, None, IfOk, OnOk, MatchResult};
 ghost use Rattle.left_right.specs.Handles.{published, pending};
+ghost use Rattle.machine_law.specs.Rules.{replay};
 ghost use Rattle.snapshot_hub.specs.Closings.{IsFront};
 ghost use Rattle.snapshot_hub.specs.Editions.{edition, listed};
 
@@ -17,13 +18,6 @@ use std::sync::Wait;
 
 /// The most entries that a journal takes.
 const MOST: u64 = 1 << 62;
-
-/// An outlet that publishes what it holds when it is told to.
-pub(crate) trait Publisher<E: Drop>: Outlet<E> {
-    /// Publishes what it holds. `Memory` leaves that too.
-    fn publish_held(&mut self) -> Result<(), Memory>
-        ensures { Self.holds self.new ≡ Self.holds self.old };
-}
 
 /// The end of the journal, and the writer of the copies. Contracts see it as the journal and the part
 /// of it that is published.
@@ -52,20 +46,25 @@ impl<N: HubName, M: Machine, S: Snapshot<N, M>, R: Wait + Drop> Model for Press<
 }
 
 impl<N: HubName, M: Machine, S: Snapshot<N, M>, R: Wait + Drop> Press<N, M, S, R> {
-    /// An empty journal, with room for so many readers.
-    pub fn new(
+    /// A journal of this world, all of it published, with room for so many readers. The world is that
+    /// of the first copy, and the second follows entry by entry.
+    pub fn begin(
         alloc: Global,
         rt: R,
-        tail: Tail<N, M::Entry>,
-        front: Front<N, M::Entry>,
+        seat: (Tail<N, M::Entry>, Front<N, M::Entry>),
+        entries: &[M::Entry],
+        world: M::World,
         readers: usize,
     ) -> Result<Press<N, M, S, R>, Memory>
         requires readers { (0 < readers) × (readers < 2 ^ 32) }
-        requires empty { front ≡ [] }
-        ensures { IfOk result (λ p. p ≡ edition [] []) }
+        requires empty { seat.1 ≡ [] }
+        requires kept { IsFront M.rules N.sessions entries.now }
+        requires world { M.state world ≡ replay M.rules entries.now }
+        ensures { IfOk result (λ p. p ≡ edition entries.now entries.now) }
     {
-        let first = S::empty(alloc, &front);
-        let second = S::empty(alloc, &front);
+        let (tail, mut front) = seat;
+        let second = followed::<N, M, S>(alloc, &tail, &mut front, entries)?;
+        let first = S::of_world(alloc, world, &front);
         let writer = WriteHandle::new(alloc, rt, first, second, readers)?;
         Ok(Press {
             tail,
@@ -147,11 +146,43 @@ impl<N: HubName, M: Machine, S: Snapshot<N, M>, R: Wait + Drop> Outlet<M::Entry>
     ghost keeps_itself = { λ press. refl };
 }
 
-impl<N: HubName, M: Machine, S: Snapshot<N, M>, R: Wait + Drop> Publisher<M::Entry>
-    for Press<N, M, S, R> {
-    fn publish_held(&mut self) -> Result<(), Memory> {
-        self.publish()
+// A copy that followed these entries, each by a copy of its own, and the front of them.
+fn followed<N: HubName, M: Machine, S: Snapshot<N, M>>(
+    alloc: Global,
+    tail: &Tail<N, M::Entry>,
+    front: &mut Front<N, M::Entry>,
+    entries: &[M::Entry],
+) -> Result<S, Memory>
+    requires empty { front.old ≡ [] }
+    requires kept { IsFront M.rules N.sessions entries.now }
+    ensures front { OnOk result (front.new ≡ entries.now) }
+    ensures copy { IfOk result (λ copy. S.entries copy ≡ entries.now) }
+{
+    let mut copy = S::empty(alloc, front);
+    for entry in entries {
+        follow_one::<N, M, S>(alloc, tail, front, &mut copy, entry)?;
     }
+    Ok(copy)
+}
+
+// Has a copy follow one entry more, with its front.
+fn follow_one<N: HubName, M: Machine, S: Snapshot<N, M>>(
+    alloc: Global,
+    tail: &Tail<N, M::Entry>,
+    front: &mut Front<N, M::Entry>,
+    copy: &mut S,
+    entry: &M::Entry,
+) -> Result<(), Memory>
+    requires same { S.entries copy.old ≡ front.old }
+    requires kept { IsFront M.rules N.sessions (front.old ++ entry.now ∷ []) }
+    ensures front { OnOk result (front.new ≡ front.old ++ entry.now ∷ []) }
+    ensures copy { OnOk result (S.entries copy.new ≡ front.old ++ entry.now ∷ []) }
+{
+    if front.len() >= MOST || !front.add(tail, entry) {
+        return Err(Memory);
+    }
+    let own = M::copy(alloc, entry)?;
+    copy.advance(own, front)
 }
 
 // Lets the writer have the step that waits. With `Memory` it waits on.

@@ -1,6 +1,7 @@
 //! The copies that are published.
 ghost use Rattle.std.specs.Prelude.{◌≡◌, ◌++◌, ◌∷◌, [], ◌==◌, ◌+◌, IsTrue, true, List, length, IfOk, MatchResult, if◌then◌else◌};
 ghost use Rattle.machine_law.specs.Rules.{replay};
+ghost use Rattle.snapshot_hub.specs.Closings.{IsFront};
 ghost use Rattle.snapshot_hub.specs.Follow.{follow};
 
 use crate::snapshot::Snapshot;
@@ -108,6 +109,26 @@ impl<N: HubName, M: Machine> Snapshot<N, M> for Shown<N, M> {
             alloc,
             world: M::empty(alloc),
             front: front.again(),
+        }
+    }
+
+    fn of_world(alloc: Global, world: M::World, front: &Front<N, M::Entry>) -> Shown<N, M> {
+        Shown {
+            alloc,
+            world,
+            front: front.again(),
+        }
+    }
+
+    fn advance(&mut self, entry: M::Entry, front: &Front<N, M::Entry>) -> Result<(), Memory>
+        requires ends { (before : List M.Entry) × (front.now ≡ before ++ entry ∷ []) }
+        requires kept { IsFront M.rules N.sessions front.now }
+        ensures { MatchResult result (λ _. self.new ≡ follow M.rules self.old front.now) (λ _. self.new ≡ self.old) }
+    {
+        let next = Step::new(entry, front);
+        match self.take(next) {
+            Ok(()) => Ok(()),
+            Err(_) => Err(Memory),
         }
     }
 

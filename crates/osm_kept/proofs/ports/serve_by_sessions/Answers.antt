@@ -14,7 +14,7 @@ use Rattle.desk_serve.specs.Kept.{KeepsLink}
 use Rattle.desk_serve.proofs.Working.{sessions_back, ports_back}
 use Rattle.desk_serve.proofs.KeptWorking.{have_kept}
 use Rattle.kept_serve.proofs.Working.{seen_back, starts_are, numbers_count, had_in_hand}
-use Rattle.osm_kept.proofs.Serving.{begun_at}
+use Rattle.kept_serve.proofs.Begun.{begun_at}
 use Rattle.osm_kept.proofs.ports.serve_by_sessions.Goals as goal
 
 pub returns-clause-served : goal.returns-clause-served
@@ -39,8 +39,8 @@ returns-clause-served g c =
           have_kept map_rules map_row serves (λ (d : AtKept Entry). d) (λ old new before after end h. h) users J had told numbers c.in_ok-desks.desks.items c.args.ports.now.items
           c.unseat_all.new.ports.items new stopped c.any_failed-failed.result
           (map-id c.in_ok-desks.desks.items ∙ (c.in_ok-desks.ensures
-          ∙ starts_are (λ s. s) (λ k. at_kept (at_desk users k) 0 had) (begun_at J) c.args.sessions.items numbers (map-id c.args.sessions.items ∙ known)))
-          (omega (arith, numbers_count (λ s. s) (begun_at J) c.args.sessions.items numbers (map-id c.args.sessions.items ∙ known), c.requires, c.args.sessions.ok, c.args.ports.now.ok))
+          ∙ starts_are (λ s. s) (λ k. at_kept (at_desk users k) 0 had) (begun_at map_rules J) c.args.sessions.items numbers (map-id c.args.sessions.items ∙ known)))
+          (omega (arith, numbers_count (λ s. s) (begun_at map_rules J) c.args.sessions.items numbers (map-id c.args.sessions.items ∙ known), c.requires, c.args.sessions.ok, c.args.ports.now.ok))
           (subst (λ l. AllWork serves told l new) (c.as_mut_slice.ensures.value ∙ c.in_ok-workers.ensures.workers) c.serve_desks.ensures)
           refl ports
           (c.any_failed-failed.ensures ∙ ap (λ l. list_any (λ w. w.failed) l) (c.as_slice.ensures.value ∙ take_at new _ _ count)),

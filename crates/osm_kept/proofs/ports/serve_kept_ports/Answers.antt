@@ -2,20 +2,23 @@ use Rattle.std.proofs.Common.{◌≡◌, ℕ, ◌<◌, List, length, map, take, 
 use Rattle.std.proofs.lemmas.List.{length-map}
 use Rattle.journal_text.specs.Text.{text_of}
 use Rattle.kept_entries.specs.Receipts.{AreKept}
-use Rattle.osm_kept.proofs.Serving.{front_of_first, first_had, kept_ports}
+use Rattle.api_desk.specs.HubDesk.{map_row}
+use Rattle.map_machine.specs.Machine.{map_rules}
+use Rattle.kept_serve.proofs.Begun.{front_of_first, first_had, kept_ports}
+use Rattle.osm_kept.proofs.Serving.{kept_chain, kept_longer}
 use Rattle.osm_kept.proofs.ports.serve_kept_ports.Goals as goal
 
 pub shelve-requires-clause-text : goal.shelve-requires-clause-text
 shelve-requires-clause-text g c =
     let sessions = c.in-Ok-begun.sessions.items in
     let some : 0 < length sessions = omega (arith, c.in-Ok-begun.ensures.count, c.requires.count, c.requires.some) in
-    let front = front_of_first c.args.taken.journal sessions c.index.result.now c.again-front.result c.in-Ok-begun.ensures.back some
+    let front = front_of_first map_rules c.args.book sessions c.index.result.now c.again-front.result c.in-Ok-begun.ensures.back some
     c.index.ensures (c.again-front.ensures ∙ c.front.ensures) in
     c.requires.text ∙ ap text_of (sym front)
 
 pub returns-clause-serves : goal.returns-clause-serves
 returns-clause-serves g c =
-    let J = c.args.taken.journal in
+    let J = c.args.book in
     let told = g.P.PortOutside.told in
     let before = map told c.args.ports.now.items in
     let after = map told c.serve_by_sessions-served.new.ports.items in
@@ -27,9 +30,10 @@ returns-clause-serves g c =
     let long : length before ≡ length c.args.ports.now.items = length-map c.args.ports.now.items told in
     let same : c.len.result ≡ length before = omega (arith, c.len.ensures, long, c.args.ports.now.ok) in
     let some : 0 < length begun = omega (arith, c.in-Ok-begun.ensures.count, c.requires.count, c.requires.some) in
-    let front = front_of_first J begun c.index.result.now c.again-front.result c.in-Ok-begun.ensures.back some
+    let front = front_of_first map_rules J begun c.index.result.now c.again-front.result c.in-Ok-begun.ensures.back some
     c.index.ensures (c.again-front.ensures ∙ c.front.ensures) in
-    kept_ports g.V.Device.moment g.V.Device.left_since g.V.Device.faults c.points_are_consistent.ensures c.receipts_stay.ensures
+    kept_ports map_rules map_row text_of g.V.Device.moment g.V.Device.left_since g.V.Device.faults kept_chain kept_longer
+    c.points_are_consistent.ensures c.receipts_stay.ensures
     c.args.users.now c.args.seats.sessions g.N.HubName.sessions J before after begun c.truncate.new.self.items back.sessions.items served.0
     back.receipts.items c.in-Ok-shelve.shelved.1 shelf.receipts shelf.entries device back.failed shelf.broken c.outcome_of-outcome.result
     (omega (arith, long, c.requires.some, c.args.ports.now.ok)) (omega (arith, long, c.requires.count, c.args.ports.now.ok))

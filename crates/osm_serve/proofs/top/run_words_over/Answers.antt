@@ -28,7 +28,7 @@ pub returns-in-Notes : goal.returns-in-Notes
 returns-in-Notes g c = rw c.in-Notes.is (record { files = refl; comes = c.run_standard-in-Notes.ensures })
 
 pub returns-in-ServeNotes : goal.returns-in-ServeNotes
-returns-in-ServeNotes g c = rw c.in-ServeNotes.is (record { files = refl; comes = c.run_serve_notes.ensures })
+returns-in-ServeNotes g c = rw c.in-ServeNotes.is c.listen_for_notes.ensures
 
-pub returns-in-None : goal.returns-in-None
-returns-in-None g c = rw c.in-Serve.is (rw c.in-None.is (record { files = refl; comes = c.run_serve.ensures }))
+pub returns-in-Serve : goal.returns-in-Serve
+returns-in-Serve g c = rw c.in-Serve.is c.listen_for_the_map.ensures

@@ -1,0 +1,6 @@
+mod Behind
+mod Causes
+mod Cuts
+mod Exits
+mod InParts
+mod Moments

@@ -1,0 +1,4 @@
+pub mod OneLine
+pub mod Parts
+pub mod Restarts
+pub mod TakenUp

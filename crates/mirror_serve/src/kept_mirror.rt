@@ -1,0 +1,118 @@
+//! A mirror whose entries are kept in a file, as what a program runs.
+ghost use Rattle.std.specs.Prelude.{◌≡◌, map, vec_len, IfErr, IfOk};
+ghost use Rattle.journal_text.specs.Text.{text_of};
+ghost use Rattle.kept_text.specs.declared.faults.TextFault.{TextFault};
+ghost use Rattle.osm_model.specs.Journal.{IsLegal};
+ghost use Rattle.mirror_serve.specs.Mirrors.{MirrorsKeptPorts};
+ghost use Rattle.mirror_serve.specs.Run.{RunsListenKept};
+
+use crate::kept_ports::{Taken, mirror_kept_ports};
+use entry_file::{EntryLines, keep_all};
+use journal_file::{Device, JournalFile};
+use journal_follower::Follower;
+use journal_host::Journals;
+use kept_run::{Begun, KeptJournal, begin_kept};
+use kept_text::{EntryJudge, TextFault};
+use link_workers::Outcome;
+use map_machine::BookKeeper;
+use osm_model::Entry;
+use osm_outside::{Host, Link, Outside, Port, PortOutside};
+use server_frame::{Listening, close_ports};
+use shared_front::Opened;
+use std::alloc::Global;
+use std::marker::Brand;
+use std::sync::Wait;
+use std::thread::Threads;
+use user_table::UserTable;
+
+/// How the entries of a mirror are taken up.
+pub struct MirrorJournal;
+
+impl EntryJudge<Entry> for MirrorJournal {
+    ghost use Rattle.osm_model.specs.Journal.{IsLegal};
+
+    type Journal = Follower;
+
+    ghost entries = { λ follower. follower };
+
+    ghost is_legal = { λ entries. IsLegal entries };
+
+    fn judge(alloc: Global, read: Vec<Entry>) -> Result<Follower, TextFault>
+        ensures kept { IfOk result (λ follower. follower ≡ read.items) }
+        ensures legal { IfOk result (λ _. IsLegal read.items) }
+        ensures refused { IfErr result (λ fault. fault ≡ TextFault.NoJournal → IsLegal read.items → ⊥) }
+    {
+        let mut keeper = BookKeeper::new(alloc);
+        match keep_all(alloc, read, &mut keeper) {
+            Ok(()) => Ok(Follower::of(keeper)),
+            Err(fault) => Err(fault),
+        }
+    }
+}
+
+impl KeptJournal<Entry> for MirrorJournal {
+    ghost use Rattle.std.specs.Prelude.{⊤};
+
+    type Text = EntryLines;
+
+    ghost fits = { λ _. ⊤ };
+
+    fn fits(_journal: &Follower) -> bool {
+        true
+    }
+}
+
+/// Serves the links of each port by a mirror that goes on from that file.
+fn serve_handed<V: Device + Drop + Send, R: Threads + Wait + Sync, P: Port + Drop + Send>(
+    rt: &R,
+    alloc: Global,
+    users: &UserTable,
+    taken: Taken<V>,
+    ports: &mut Vec<P>,
+) -> (Outcome, V)
+    requires { taken.file.text ≡ text_of taken.follower }
+    ensures serves { MirrorsKeptPorts V.moment V.left_since V.faults taken.follower result.1 users.now
+        (map P.told ports.old.items) (map P.told ports.new.items) result.0 }
+    ensures count { vec_len ports.new ≡ vec_len ports.old }
+{
+    let opened = Opened::new();
+    let receipts = Opened::new();
+    mirror_kept_ports::<Brand, Brand, V, R, P>(rt, alloc, taken, opened, receipts, users, ports)
+}
+
+/// Takes up the entries in the file at that path, reads the users of the text at theirs, and serves the
+/// links of ports at that address. A reply is sent only once the file holds what it tells of.
+pub fn run_listen_kept<H: Host, J: Journals, R: Threads + Wait + Sync, L: Link>(
+    rt: &R,
+    alloc: Global,
+    users: &str,
+    listening: Listening<'_>,
+    path: &str,
+    host: &mut H,
+    journals: &mut J,
+    standard: &L,
+) -> u8
+    ensures { RunsListenKept J.File.moment J.File.left_since J.File.faults users.now listening.entry.address.now listening.entry.workers path.now
+        (J.told journals.old) (J.told journals.new) (H.told host.old) (H.told host.new) (L.told standard.now) (L.told standard.now) result }
+{
+    match begin_kept::<R, Entry, MirrorJournal, H, J>(
+        rt, alloc, users, listening, path, host, journals,
+    ) {
+        Ok(begun) => {
+            let Begun {
+                journal,
+                file,
+                users,
+                mut ports,
+            } = begun;
+            let taken = Taken {
+                follower: journal,
+                file,
+            };
+            let (outcome, device) = serve_handed(rt, alloc, &users, taken, &mut ports);
+            journals.back(device);
+            close_ports(host, ports, outcome)
+        }
+        Err(status) => status,
+    }
+}

@@ -1,0 +1,12 @@
+use Rattle.notes_core.specs.Machine.{note_rules}
+use Rattle.notes_desk.specs.Desk.{note_row, note_rows_stay}
+use Rattle.kept_desk.specs.Kept.{kept_by}
+use Rattle.kept_desk.proofs.Kept.{allowed_still}
+use Rattle.notes_kept.proofs.desk.NotesKeptDeskDesk.may_tell.Goals as goal
+
+pub returns-clause-allowed : goal.returns-clause-allowed
+returns-clause-allowed g c =
+    rw (← c.self.view_is)
+    (λ before message moment reply allowed.
+    allowed_still note_rules note_row note_rows_stay before (kept_by c.self.inside.desk c.self.inside.keeper) (kept_by c.keep.new.desk c.keep.new.keeper)
+    message moment reply c.keep.ensures.session c.keep.ensures.stays c.keep.ensures.receipts allowed)

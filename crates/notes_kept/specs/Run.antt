@@ -1,0 +1,26 @@
+-- What a run of the server of notes comes to whose journal is kept in a file.
+use Rattle.std.specs.Prelude.{ℕ, List}
+use Rattle.osm_base.specs.declared.limits.TheConstants.{SESSION_LIMIT}
+use Rattle.osm_outside.specs.Told.{Told}
+use Rattle.osm_outside.specs.Host.{HostTold}
+use Rattle.journal_host.specs.Told.{JournalsTold}
+use Rattle.kept_run.specs.Run.{Serving, RunsKept}
+use Rattle.kept_serve.specs.Ports.{ServesKeptPorts}
+use Rattle.notes_text.specs.Line.{IsEntry}
+use Rattle.notes_text.specs.Text.{text_of, IsLegal}
+use Rattle.notes_core.specs.Machine.{note_rules}
+use Rattle.notes_core.specs.declared.commands.NoteEntry.{NoteEntry}
+use Rattle.notes_desk.specs.Desk.{note_row}
+use Rattle.snapshot_hub.specs.Closings.{AreSeated}
+
+-- over what a file that a journal is kept in tells: the moments of its device, what a crash since one of them may leave, and how often a
+-- call has failed
+module _ {F : Type 0} (moment : F → ℕ) (left_since : F → ℕ → List ℕ → Type 0) (faults : F → ℕ) where
+  -- The ports were served by a hub of notes that began with this journal, kept in this file as it was at last.
+  abbrev pub ServesFrom : Serving NoteEntry F
+  ServesFrom journal file users before after outcome =
+      (seats : ℕ) × ServesKeptPorts note_rules note_row text_of moment left_since faults users seats journal file before after outcome
+
+  -- what `serve-notes` with a journal comes to
+  abbrev pub RunsServeNotesKept : List ℕ → List ℕ → ℕ → List ℕ → JournalsTold F → JournalsTold F → HostTold → HostTold → Told → Told → ℕ → Type 0
+  RunsServeNotesKept = RunsKept moment left_since faults text_of IsEntry IsLegal (AreSeated note_rules.tag_of SESSION_LIMIT) ServesFrom

@@ -1,0 +1,137 @@
+//! Many workers over a hub of notes whose journal is kept in a file.
+ghost use Rattle.std.specs.Prelude.{◌≡◌, ◌<◌, ◌≤◌, ℕ, List, map, vec_len, IfOk, OnErr};
+ghost use Rattle.std.specs.List.{AllByRecursion};
+ghost use mathlib.Core.List.{IsPrefix};
+ghost use Rattle.hub_core.specs.Journal.{calls_of};
+ghost use Rattle.notes_core.specs.Machine.{note_rules};
+ghost use Rattle.notes_core.specs.declared.commands.NoteEntry.{NoteEntry};
+ghost use Rattle.notes_desk.specs.Desk.{note_row};
+ghost use Rattle.snapshot_hub.specs.Known.{returner};
+ghost use Rattle.snapshot_hub.specs.Closings.{AreSeated};
+ghost use Rattle.kept_desk.specs.Kept.{AtKept};
+ghost use Rattle.desk_serve.specs.KeptPorts.{HaveKept};
+ghost use Rattle.kept_serve.specs.Ports.{ServesKeptPorts};
+
+use crate::desk::NotesKeptDesk;
+use crate::makers::NotesKeptDesks;
+use desk_serve::points_are_consistent;
+use hub_core::Book;
+use journal_file::{Device, JournalFile};
+use kept_entries::{Board, Lines, Receipt, Told, receipts_stay};
+use kept_serve::{KeptBack, outcome_of, serve_kept_by, shelve};
+use link_workers::Outcome;
+use notes_core::{NoteEntry, NotesMachine};
+use notes_desk::{NotesHub, NotesSession};
+use osm_base::Memory;
+use osm_outside::{NoGate, Port, PortOutside};
+use shared_front::{HubName, Opened};
+use snapshot_hub::{Seats, Shown};
+use std::alloc::Global;
+use std::sync::{Mutex, Wait};
+use std::thread::Threads;
+use user_table::UserTable;
+
+/// Serves the links of each port by the session of its number, one worker a port, each in a thread of
+/// its own. The sessions and receipts come back in their order. Want of memory leaves the ports as
+/// they were.
+fn serve_by_sessions<
+    'a,
+    N: HubName + Send + Sync,
+    K: HubName + Send + Sync,
+    T: Lines<NoteEntry> + Send,
+    V: Device + Send,
+    Q: Wait + Drop + Send + Sync,
+    R: Threads + Wait + Sync,
+    P: Port + Drop + Send,
+>(
+    rt: &R,
+    alloc: Global,
+    maker: &NotesKeptDesks<'a, N, K, T, V, Q, R>,
+    sessions: Vec<NotesSession<N>>,
+    ports: &mut Vec<P>,
+) -> Result<KeptBack<NotesSession<N>, K>, Memory>
+    requires { vec_len sessions ≡ vec_len ports.old }
+    ensures served { IfOk result (λ r. (stopped : List (AtKept NoteEntry))
+        × (map (λ s. s.desk.known) stopped ≡ r.sessions.items) × (map (λ s. s.receipts) stopped ≡ r.receipts.items)
+        × ((numbers : List ℕ) (J : List NoteEntry) → sessions.items ≡ map (λ n. returner n J (calls_of note_rules.tag_of n J)) numbers
+        → HaveKept note_rules note_row maker.now.users.now J numbers stopped (map P.told ports.old.items) (map P.told ports.new.items) r.failed)) }
+    ensures had { IfOk result (λ r. AllByRecursion (λ receipts. IsPrefix maker.now.had.now receipts) r.receipts.items) }
+    ensures left { IfOk result (λ r. vec_len r.sessions ≡ vec_len sessions) }
+    ensures count { IfOk result (λ r. vec_len ports.new ≡ vec_len ports.old) }
+    ensures err { OnErr result (ports.new.items ≡ ports.old.items) }
+{
+    serve_kept_by::<
+        NotesMachine,
+        K,
+        NotesKeptDesk<'a, N, K, T, V, Q, R>,
+        NotesKeptDesks<'a, N, K, T, V, Q, R>,
+        R,
+        P,
+    >(rt, alloc, maker, sessions, ports)
+}
+
+/// Serves the links of the ports by the first sessions of a hub that goes on from the journal of this
+/// book, under the names of these seats and receipts, one worker a port, each in a thread of its own, until no port
+/// has a link to come or accepting fails. Then it closes the hub. A reply is sent only once the file
+/// holds what it tells of. The ports come back in their order, and the file's device does.
+pub fn serve_kept_ports<
+    N: HubName + Send + Sync,
+    K: HubName + Send + Sync,
+    T: Lines<NoteEntry> + Send,
+    V: Device + Drop + Send,
+    R: Threads + Wait + Sync,
+    P: Port + Drop + Send,
+>(
+    rt: &R,
+    alloc: Global,
+    seats: Seats<NoteEntry>,
+    receipts: Opened<Receipt>,
+    book: Book<NotesMachine>,
+    file: JournalFile<V>,
+    users: &UserTable,
+    ports: &mut Vec<P>,
+) -> (Outcome, V)
+    requires named { seats.opened ≡ N.book }
+    requires seated { seats.sessions ≡ N.sessions }
+    requires receipts { receipts ≡ K.book }
+    requires some { 0 < vec_len ports.old }
+    requires count { vec_len ports.old ≤ seats.sessions }
+    requires own { AreSeated note_rules.tag_of N.sessions book }
+    requires text { file.text ≡ T.text book }
+    ensures serves { ServesKeptPorts note_rules note_row T.text V.moment V.left_since V.faults users.now seats.sessions book result.1
+        (map P.told ports.old.items) (map P.told ports.new.items) result.0 }
+    ensures count { vec_len ports.new ≡ vec_len ports.old }
+{
+    // What the machine keeps, and what is kept of its journal.
+    points_are_consistent::<NotesMachine>();
+    receipts_stay::<NoteEntry, T, V>();
+    let begun = NotesHub::<N, NoGate, &R>::begin(alloc, rt, seats, NoGate, book);
+    let Ok((mut hub, mut sessions)) = begun else {
+        return (Outcome::LacksMemory, file.into_device());
+    };
+    let front = sessions[0].front().again();
+    sessions.truncate(ports.len());
+    let (shelf, had) = match shelve::<N, K, NoteEntry, T, V>(alloc, file, front, receipts) {
+        Ok(shelved) => shelved,
+        Err(device) => return (Outcome::LacksMemory, device),
+    };
+    let board = Board::new(Told::of(had.again(), shelf.front().len()));
+    let shelf = Mutex::new(shelf);
+    let maker = NotesKeptDesks {
+        rt,
+        hub: &hub,
+        users,
+        shelf: &shelf,
+        board: &board,
+        had: &had,
+    };
+    let served = serve_by_sessions(rt, alloc, &maker, sessions, ports);
+    let shelf = shelf.into_inner();
+    let Ok(back) = served else {
+        return (Outcome::LacksMemory, shelf.into_device());
+    };
+    shelf.law();
+    let outcome = outcome_of(&back, &shelf);
+    hub.close_with(back.sessions);
+    (outcome, shelf.into_device())
+}

@@ -1,0 +1,9 @@
+mod Complete
+mod Coordinates
+mod Found
+mod Hearing
+mod Legal
+mod LinesRead
+mod PlainLine
+mod Sent
+mod Whole
