@@ -14,7 +14,7 @@ use Rattle.osm_base.specs.declared.keys.Key.{Key}
 use Rattle.osm_base.specs.declared.keys.Kind.{Kind}
 use Rattle.osm_base.specs.declared.keys.Kind.TheVariants.{Node}
 use Rattle.osm_base.proofs.KeyOrder.{kind_eq-same, key_eq-same, key_eq-refl, key_eq-sym}
-use Rattle.osm_element.specs.Elements.{key, history, content_of, position, position_in, refs_in, refs_of}
+use Rattle.osm_element.specs.Elements.{key, history, content_of, position, position_in, refs_in, refs_of, uses}
 use Rattle.osm_element.specs.declared.contents.Content.{Content}
 use Rattle.osm_element.specs.declared.elements.Elements.{Elements}
 use Rattle.osm_element.specs.Version.{Version}
@@ -24,7 +24,7 @@ use Rattle.osm_model.specs.Past.{was_made, elements_by, is_last_shown}
 use Rattle.osm_model.specs.PastMap.{is_in, lists_one, nodes_in, users_among}
 use Rattle.tile_grid.specs.declared.cells.Cell.{Cell}
 use Rattle.tile_grid.specs.Cell.{cell_of, touches}
-use Rattle.tile_grid.specs.Grid.{times}
+use Rattle.tile_grid.specs.Grid.{times_ever}
 use Rattle.tile_grid.specs.Tile.{Held}
 use Rattle.rising_lists.specs.Ids.{lists_id}
 use Rattle.indexed_map.specs.Ever.{ever, has_used, has_lain, IsPlacedEver}
@@ -135,12 +135,12 @@ node-listed ids x = lists_node_mapped ids x ∙ ⊎_elim (λ t. same t ids ∙ a
 -- the nodes in an area, among those that ever lay in a cell that it touches
 pub nodes-found :
     (touched : (a : Area) (p : Position) → IsArea a.left a.bottom a.right a.top → area_holds a p ≡ true → touches a (cell_of p) ≡ true)
-    (placed : (E : Elements) (g : List (List Held)) (c : Cell) (n : ℕ) → IsPlacedEver E g → has_lain E c n ≡ true → 0 < times g c n)
+    (placed : (E : Elements) (g : List (List Held)) (c : Cell) (n : ℕ) → IsPlacedEver E g → has_lain E c n ≡ true → 0 < times_ever g c n)
     (t : ℕ) (E : Elements) (g : List (List Held)) (a : Area) (near : List ℕ)
     → IsArea a.left a.bottom a.right a.top
     → IsPlacedEver E g
     → IsStrictlyIncreasing near
-    → ((c : Cell) (n : ℕ) → touches a c ≡ true → 0 < times g c n → lists_id near n ≡ true)
+    → ((c : Cell) (n : ℕ) → touches a c ≡ true → 0 < times_ever g c n → lists_id near n ≡ true)
     → filter (λ k. is_last_shown (elements_by t E) k && is_in (elements_by t E) a k) (map (key Node) near) ≡ nodes_in (elements_by t E) a
 nodes-found touched placed t E g a near is ever_there up all =
     kind-filter-are F Node (is_in F a) (map (key Node) near) (nodes-rising near (AllPairs-from_increasing near up))
@@ -248,25 +248,39 @@ of-kind kind (k ∷ ks) x =
     apart true q r = refl
     apart false q r = refl
 
--- a key, and those that ever listed it
+-- who lists a key now listed it once
+uses-used : (E : Elements) (a b : Key) → uses E a b ≡ true → has_used E a b ≡ true
+uses-used E a b now = along (lists_key (refs_of E a) b) (not (key_eq a b)) (last-held (λ held. lists_key (refs_in held) b) (history E a) refl) now
+  where
+    along : (p q : Bool) → (p ≡ true → ever (λ held. lists_key (refs_in held) b) E a ≡ true) → p && q ≡ true → ever (λ held. lists_key (refs_in held) b) E a && q ≡ true
+    along true q held both = ap (λ (p : Bool). p && q) (held refl) ∙ both
+    along false q held both = cc
+
+-- a key, those that list it, and those that did
 pub candidates-added :
-    (E : Elements) (kind : Kind) (used : Key) (users was between now : List Key)
-    → ((x : Key) → lists_key users x ≡ has_used E x used)
-    → ((x : Key) → lists_key between x ≡ lists_key was x || (kind_eq used.kind kind && key_eq used x))
-    → ((x : Key) → lists_key now x ≡ lists_key between x || list_any (λ k. kind_eq k.kind kind && key_eq k x) users)
+    (E : Elements) (kind : Kind) (used : Key) (users past was own between now : List Key)
+    → ((x : Key) → lists_key users x ≡ uses E x used)
+    → ((x : Key) → lists_key past x ≡ has_used E x used && not (uses E x used))
+    → ((x : Key) → lists_key own x ≡ lists_key was x || (kind_eq used.kind kind && key_eq used x))
+    → ((x : Key) → lists_key between x ≡ lists_key own x || list_any (λ k. kind_eq k.kind kind && key_eq k x) users)
+    → ((x : Key) → lists_key now x ≡ lists_key between x || list_any (λ k. kind_eq k.kind kind && key_eq k x) past)
     → (x : Key)
     → lists_key now x ≡ lists_key was x || is_candidate E kind used x
-candidates-added E kind used users was between now told one more x =
-    more x
-    ∙ ap (λ (b : Bool). b || list_any (λ k. kind_eq k.kind kind && key_eq k x) users) (one x)
-    ∙ ap (λ (b : Bool). (lists_key was x || (kind_eq used.kind kind && key_eq used x)) || b) (of-kind kind users x ∙ ap (λ (b : Bool). kind_eq x.kind kind && b) (told x))
-    ∙ ap (λ (b : Bool). (lists_key was x || b) || (kind_eq x.kind kind && has_used E x used)) (same-kind kind used x)
-    ∙ grouped (lists_key was x) (kind_eq x.kind kind) (key_eq used x) (has_used E x used)
+candidates-added E kind used users past was own between now listed gone one more rest x =
+    rest x
+    ∙ ap (λ (b : Bool). b || list_any (λ k. kind_eq k.kind kind && key_eq k x) past) (more x)
+    ∙ ap (λ (b : Bool). (lists_key own x || list_any (λ k. kind_eq k.kind kind && key_eq k x) users) || b) (of-kind kind past x ∙ ap (λ (b : Bool). kind_eq x.kind kind && b) (gone x))
+    ∙ ap (λ (b : Bool). (lists_key own x || b) || (kind_eq x.kind kind && (has_used E x used && not (uses E x used)))) (of-kind kind users x ∙ ap (λ (b : Bool). kind_eq x.kind kind && b) (listed x))
+    ∙ ap (λ (b : Bool). (b || (kind_eq x.kind kind && uses E x used)) || (kind_eq x.kind kind && (has_used E x used && not (uses E x used)))) (one x ∙ ap (λ (b : Bool). lists_key was x || b) (same-kind kind used x))
+    ∙ grouped (lists_key was x) (kind_eq x.kind kind) (key_eq used x) (uses E x used) (has_used E x used) (uses-used E x used)
   where
-    grouped : (w k u h : Bool) → (w || (k && u)) || (k && h) ≡ w || (k && (u || h))
-    grouped true k u h = refl
-    grouped false true u h = refl
-    grouped false false u h = refl
+    grouped : (w k u n h : Bool) → (n ≡ true → h ≡ true) → ((w || (k && u)) || (k && n)) || (k && (h && not n)) ≡ w || (k && (u || h))
+    grouped true k u n h held = refl
+    grouped false false u n h held = refl
+    grouped false true true n h held = refl
+    grouped false true false true h held = sym (held refl)
+    grouped false true false false true held = refl
+    grouped false true false false false held = refl
 
 -- the candidates of one key more of a list
 pub candidates-more :

@@ -32,7 +32,7 @@ pub fn nodes_in(alloc: Global, world: &World, at: u64, within: &Box7) -> Result<
 {
     boxes_touch_what_they_hold();
     nodes_that_lay_there_are_placed();
-    let near = world.grid_ever().rows_of(alloc, within)?;
+    let near = world.grid().rows_ever_of(alloc, within)?;
     let found = nodes_among(alloc, ordered(world), at, within, near.as_slice())?;
     Ok(found)
 }
@@ -173,8 +173,10 @@ fn add_users(world: &World, kind: Kind, used: Key, found: &mut Vec<Key>) -> Resu
         ≡ lists_key found.old.items x || is_candidate (state_of world.now).elements kind used x) }
 {
     add_key(kind, used, found)?;
-    let users = world.users_ever(used);
+    let users = world.users(used);
     add_of_kind(kind, users.items(), found)?;
+    let past = world.users_past(used);
+    add_of_kind(kind, past.items(), found)?;
     Ok(())
 }
 

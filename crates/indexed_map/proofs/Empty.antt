@@ -12,10 +12,10 @@ use Rattle.osm_element.specs.Elements.{no_elements, key, histories, history, pos
 use Rattle.osm_element.proofs.Pushed.{last_content}
 use Rattle.osm_element.proofs.Used.{known}
 use Rattle.history_store.specs.Store.{Stored, empty, free, free_list}
-use Rattle.reverse_refs.specs.Users.{UserRows, users_in, free_in}
+use Rattle.reverse_refs.specs.Users.{UserRows, users_in, past_in, free_in}
 use Rattle.tile_grid.specs.declared.cells.Cell.{Cell}
 use Rattle.tile_grid.specs.Tile.{Held}
-use Rattle.tile_grid.specs.Grid.{times, free_at}
+use Rattle.tile_grid.specs.Grid.{times, times_ever, free_at}
 use Rattle.indexed_map.specs.Ever.{times_brought}
 use Rattle.indexed_map.specs.Indexed.{IsMap, Notes, stand}
 use Rattle.indexed_map.specs.Placed.{lies}
@@ -42,22 +42,22 @@ no_room k = along (k.id == 0) k.kind
     along false Relation = refl
 
 pub empty_map :
-    (s : Stored) (u v : UserRows) (g h : List (List Held)) (notes : Notes)
+    (s : Stored) (u : UserRows) (g : List (List Held)) (notes : Notes)
     → s ≡ empty
     → ((k : Key) → users_in u k ≡ [])
+    → ((k : Key) → past_in u k ≡ [])
     → ((k : Key) → free_in u k ≡ 0)
     → ((c : Cell) (n : ℕ) → times g c n ≡ 0)
     → ((p : Position) → free_at g p ≡ 0)
-    → ((k : Key) → users_in v k ≡ [])
-    → ((k : Key) → free_in v k ≡ 0)
-    → ((c : Cell) (n : ℕ) → times h c n ≡ 0)
-    → ((p : Position) → free_at h p ≡ 0)
-    → IsMap (stand s u g v h) notes
-empty_map s u v g h notes is no_users no_uses no_nodes no_cells none_ever no_uses_ever no_nodes_ever no_cells_ever = subst (λ (x : Stored). IsMap (stand x u g v h) notes) (sym is) (record {
-  indexed = record { holds = λ a b. ap (λ (ks : List Key). lists_key ks a) (no_users b) ∙ sym (ap (λ (vs : List Version). lists_key (refs_in (last_content vs)) b && not (key_eq a b)) (no_history a)) };
+    → ((c : Cell) (n : ℕ) → times_ever g c n ≡ 0)
+    → IsMap (stand s u g) notes
+empty_map s u g notes is no_users no_past no_uses no_nodes no_cells no_nodes_ever = subst (λ (x : Stored). IsMap (stand x u g) notes) (sym is) (record {
+  indexed = record {
+    holds = λ a b. ap (λ (ks : List Key). lists_key ks a) (no_users b) ∙ sym (ap (λ (vs : List Version). lists_key (refs_in (last_content vs)) b && not (key_eq a b)) (no_history a));
+    past = λ a b. ap (λ (ks : List Key). lists_key ks a) (no_past b)
+        ∙ sym (ap (λ (vs : List Version). (list_any (λ held. lists_key (refs_in held) b) (map (λ (v : Version). v.content) vs) && not (key_eq a b)) && not (lists_key (refs_in (last_content vs)) b && not (key_eq a b))) (no_history a));
+  };
   placed = record { holds = λ c n. no_nodes c n ∙ sym (ap (λ (vs : List Version). if lies c (option_and_then position_in (last_content vs)) then 1 else 0) (no_history (key Node n))) };
-  indexed_ever = record { holds = λ a b. ap (λ (ks : List Key). lists_key ks a) (none_ever b) ∙ sym (ap (λ (vs : List Version). list_any (λ held. lists_key (refs_in held) b) (map (λ (v : Version). v.content) vs) && not (key_eq a b)) (no_history a)) };
   placed_ever = record { holds = λ c n. no_nodes_ever c n ∙ sym (ap (λ (vs : List Version). times_brought c None (map (λ (v : Version). v.content) vs)) (no_history (key Node n))) };
-  spared = record { users = λ b. omega (arith, no_uses b); cells = λ p. omega (arith, no_cells p) };
-  noted = record { versions = λ k out. no_room k; users = λ b out. no_uses b; cells = λ p out. no_cells p; users_ever = λ b out. no_uses_ever b; cells_ever = λ p out. no_cells_ever p };
+  noted = record { versions = λ k out. no_room k; users = λ b out. no_uses b; cells = λ p out. no_cells p };
 })

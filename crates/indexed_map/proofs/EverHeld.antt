@@ -2,9 +2,9 @@
 use Rattle.std.proofs.Common.{◌≡◌, ℕ, zero, suc, ◌+◌, ◌-◌, ◌<◌, ◌≤◌, Bool, true, false, ◌&&◌, ◌||◌, ⊎_elim, List, [], ◌∷◌, ◌++◌, length, map, take, get_or, Option, Some, None, refl, sym, ap, ◌∙◌, arith}
 use Rattle.std.specs.Prelude.{not, ◌==◌, if◌then◌else◌, option_and_then, slice_get, slice_set}
 use Rattle.std.specs.List.{list_any}
-use Rattle.std.specs.Option.{option_map_or, option_or}
+use Rattle.std.specs.Option.{ForSome, option_map_or, option_or}
 use Rattle.std.proofs.lemmas.Bool.Decides.{nat_tests}
-use Rattle.std.proofs.lemmas.Bool.{cases_Bool, eqb-true, false≢true}
+use Rattle.std.proofs.lemmas.Bool.{cases_Bool, and_from, eq-eqb, eqb-true, false≢true}
 use Rattle.std.proofs.lemmas.List.{take_more}
 use Rattle.std.proofs.lemmas.List.Folds.{list_any-append}
 use Rattle.osm_base.specs.Key.{kind_eq, key_eq, lists_key}
@@ -12,7 +12,7 @@ use Rattle.osm_base.specs.Place.{Position}
 use Rattle.osm_base.specs.declared.keys.Kind.{Kind}
 use Rattle.osm_base.specs.declared.keys.Kind.TheVariants.{Node}
 use Rattle.osm_base.specs.declared.keys.Key.{Key}
-use Rattle.osm_base.proofs.KeyOrder.{kind_eq-same, key_eq-same, key_eq-refl, key_eq-sym}
+use Rattle.osm_base.proofs.KeyOrder.{kind_eq-same, key_eq-same}
 use Rattle.osm_element.specs.declared.contents.Content.{Content}
 use Rattle.osm_element.specs.Version.{Version}
 use Rattle.osm_element.specs.declared.elements.Elements.{Elements}
@@ -21,14 +21,13 @@ use Rattle.osm_element.specs.Later.{contents}
 use Rattle.osm_element.proofs.Pushed.{history-push, last_content}
 use Rattle.osm_element.proofs.Later.{history-mark, given_some}
 use Rattle.changeset_core.specs.Changeset.{new_position}
-use Rattle.reverse_refs.specs.Users.{UserRows, users_in}
 use Rattle.tile_grid.specs.declared.cells.Cell.{Cell}
-use Rattle.tile_grid.specs.Grid.{times}
+use Rattle.tile_grid.specs.Cell.{cell_of}
+use Rattle.tile_grid.specs.Grid.{times, times_ever}
 use Rattle.tile_grid.specs.Tile.{Held}
-use Rattle.indexed_map.specs.Ever.{ever, has_used, has_lain, last_place, place_ever, times_brought, IsIndexedEver, IsPlacedEver}
-use Rattle.indexed_map.specs.Indexed.{IsListOf}
+use Rattle.indexed_map.specs.Ever.{ever, has_used, has_lain, last_place, place_ever, times_brought, IsPlacedEver}
 use Rattle.indexed_map.specs.Placed.{lies, share_cell}
-use Rattle.indexed_map.proofs.Together.{none-entered, apart}
+use Rattle.indexed_map.proofs.Together.{together}
 
 abbrev ones : Bool → ℕ
 ones b = if b then 1 else 0
@@ -73,47 +72,25 @@ ever-push test E k a v counted reached = ap (list_any test) (contents-push E k a
         ∙ ap (λ (b : Bool). ever test E k || b) (or-false (test v.content))
     along false = refl
 
-pub indexed_ever :
-    (E : Elements) (u new : UserRows) (k : Key) (v : Version) (listed : List Key)
+-- what an element used it has used still
+pub used-push :
+    (E : Elements) (k a b : Key) (v : Version)
     → 0 < k.id
     → k.id ≤ next_id E k.kind
-    → IsIndexedEver E u
-    → IsListOf v.content listed
-    → ((a b : Key) → lists_key (users_in new b) a ≡ (lists_key listed b && (key_eq k a && not (key_eq k b))) || lists_key (users_in u b) a)
-    → IsIndexedEver (push_version E k v) new
-indexed_ever E u new k v listed counted reached was list begins = record {
-  holds = λ a b. begins a b
-      ∙ ap (λ (p : Bool). (lists_key listed b && (key_eq k a && not (key_eq k b))) || p) (was.holds a b)
-      ∙ ap (λ (p : Bool). (p && (key_eq k a && not (key_eq k b))) || has_used E a b) (list.same b)
-      ∙ at a b
-      ∙ ap (λ (p : Bool). p && not (key_eq a b)) (sym (ever-push (λ held. lists_key (refs_in held) b) E k a v counted reached));
-}
+    → has_used E a b ≡ true
+    → has_used (push_version E k v) a b ≡ true
+used-push E k a b v counted reached had =
+    let test : Option (Content ℕ) → Bool = λ content. lists_key (refs_in content) b in
+    ap (λ (p : Bool). p && not (key_eq a b)) (ever-push test E k a v counted reached)
+    ∙ along (key_eq a k) (ever test E a) (ever test E k) (test v.content) (key_eq a b) (λ t. ap (ever test E) (key_eq-same a k t)) had
   where
-    own : (l o s : Bool) → (l && (true && not s)) || (o && not s) ≡ (o || l) && not s
-    own true true true = refl
-    own true true false = refl
-    own true false s = or-false (not s)
-    own false true s = refl
-    own false false s = refl
+    more : (h x s : Bool) → h && not s ≡ true → (h || x) && not s ≡ true
+    more true x s held = held
+    more false x s held = absurd (false≢true held)
 
-    others : (l s p : Bool) → (l && (false && not s)) || p ≡ p
-    others true s p = refl
-    others false s p = refl
-
-    at : (a b : Key)
-        → (lists_key (refs_in v.content) b && (key_eq k a && not (key_eq k b))) || has_used E a b
-        ≡ (if key_eq a k then ever (λ held. lists_key (refs_in held) b) E k || lists_key (refs_in v.content) b else ever (λ held. lists_key (refs_in held) b) E a) && not (key_eq a b)
-    at a b = ⊎_elim
-        (λ t. let here : k ≡ a = key_eq-same k a t in
-        ap (λ (x : Key). (lists_key (refs_in v.content) b && (key_eq k x && not (key_eq k b))) || has_used E x b) (sym here)
-        ∙ ap (λ (p : Bool). (lists_key (refs_in v.content) b && (p && not (key_eq k b))) || has_used E k b) (key_eq-refl k)
-        ∙ own (lists_key (refs_in v.content) b) (ever (λ held. lists_key (refs_in held) b) E k) (key_eq k b)
-        ∙ ap (λ (p : Bool). (if p then ever (λ held. lists_key (refs_in held) b) E k || lists_key (refs_in v.content) b else ever (λ held. lists_key (refs_in held) b) E k) && not (key_eq k b)) (sym (key_eq-refl k))
-        ∙ ap (λ (x : Key). (if key_eq x k then ever (λ held. lists_key (refs_in held) b) E k || lists_key (refs_in v.content) b else ever (λ held. lists_key (refs_in held) b) E x) && not (key_eq x b)) here)
-        (λ f. ap (λ (p : Bool). (lists_key (refs_in v.content) b && (p && not (key_eq k b))) || has_used E a b) f
-        ∙ others (lists_key (refs_in v.content) b) (key_eq k b) (has_used E a b)
-        ∙ ap (λ (p : Bool). (if p then ever (λ held. lists_key (refs_in held) b) E k || lists_key (refs_in v.content) b else ever (λ held. lists_key (refs_in held) b) E a) && not (key_eq a b)) (sym (key_eq-sym a k ∙ f)))
-        (cases_Bool (key_eq k a))
+    along : (p h own x s : Bool) → (p ≡ true → h ≡ own) → h && not s ≡ true → (if p then own || x else h) && not s ≡ true
+    along true h own x s same held = ap (λ (q : Bool). (q || x) && not s) (sym (same refl)) ∙ more h x s held
+    along false h own x s same held = held
 
 -- -- where a node came
 
@@ -143,7 +120,7 @@ placed_more :
     → 0 < k.id
     → k.id ≤ next_id E k.kind
     → IsPlacedEver E g₀
-    → ((c : Cell) (n : ℕ) → times g₁ c n ≡ times g₀ c n + (if (lies c (new_position v.content) && not (lies c (place_ever E k))) && (n == k.id) then 1 else 0))
+    → ((c : Cell) (n : ℕ) → times_ever g₁ c n ≡ times_ever g₀ c n + (if (lies c (new_position v.content) && not (lies c (place_ever E k))) && (n == k.id) then 1 else 0))
     → IsPlacedEver (push_version E k v) g₁
 placed_more E g₀ g₁ k v is_node counted reached was step = record { holds = λ c n. holds c n ∙ sym (ap (times_brought c None) (contents-push E k (key Node n) v counted reached)) }
   where
@@ -161,63 +138,43 @@ placed_more E g₀ g₁ k v is_node counted reached was step = record { holds = 
     and-false true = refl
     and-false false = refl
 
-    holds : (c : Cell) (n : ℕ) → times g₁ c n ≡ times_brought c None (if key_eq (key Node n) k then contents E k ++ v.content ∷ [] else contents E (key Node n))
+    holds : (c : Cell) (n : ℕ) → times_ever g₁ c n ≡ times_brought c None (if key_eq (key Node n) k then contents E k ++ v.content ∷ [] else contents E (key Node n))
     holds c n =
         ⊎_elim
         (λ yes. let here : key Node n ≡ k = ap (λ (m : ℕ). key Node m) (eqb-true n k.id yes) ∙ ap (λ (kind : Kind). key kind k.id) (sym kinds) in
-        let before : times g₀ c n ≡ times_brought c None (contents E k) = was.holds c n ∙ ap (λ (x : Key). times_brought c None (contents E x)) here in
+        let before : times_ever g₀ c n ≡ times_brought c None (contents E k) = was.holds c n ∙ ap (λ (x : Key). times_brought c None (contents E x)) here in
         let more : ones ((lies c (new_position v.content) && not (lies c (place_ever E k))) && (n == k.id)) ≡ ones (lies c (new_position v.content) && not (lies c (place_ever E k)))
         = ap (λ (b : Bool). ones ((lies c (new_position v.content) && not (lies c (place_ever E k))) && b)) yes ∙ ap ones (and-true (lies c (new_position v.content) && not (lies c (place_ever E k)))) in
-        let sum : times g₁ c n ≡ times_brought c None (contents E k) + ones (lies c (new_position v.content) && not (lies c (place_ever E k))) = omega (arith, step c n, before, more) in
+        let sum : times_ever g₁ c n ≡ times_brought c None (contents E k) + ones (lies c (new_position v.content) && not (lies c (place_ever E k))) = omega (arith, step c n, before, more) in
         sum
         ∙ sym (brought-push c None (contents E k) v.content)
         ∙ ap (λ (b : Bool). times_brought c None (if b then contents E k ++ v.content ∷ [] else contents E (key Node n))) (sym (same_key n ∙ yes)))
         (λ no. let none : ones ((lies c (new_position v.content) && not (lies c (place_ever E k))) && (n == k.id)) ≡ 0
         = ap (λ (b : Bool). ones ((lies c (new_position v.content) && not (lies c (place_ever E k))) && b)) no ∙ ap ones (and-false (lies c (new_position v.content) && not (lies c (place_ever E k)))) in
-        let same : times g₁ c n ≡ times g₀ c n = omega (arith, step c n, none) in
+        let same : times_ever g₁ c n ≡ times_ever g₀ c n = omega (arith, step c n, none) in
         same
         ∙ was.holds c n
         ∙ ap (λ (b : Bool). times_brought c None (if b then contents E k ++ v.content ∷ [] else contents E (key Node n))) (sym (same_key n ∙ no)))
         (cases_Bool (n == k.id))
 
--- it comes into a cell in which it didn't lie last
-pub placed_anew :
-    (E : Elements) (g₀ g₁ : List (List Held)) (k : Key) (v : Version) (last to : Option Position)
+-- it comes from another cell, or back into the one in which it lay last
+pub moved_ever :
+    (E : Elements) (g₀ g₁ g₂ : List (List Held)) (k : Key) (v : Version) (last to : Option Position)
     → kind_eq k.kind Node ≡ true
     → 0 < k.id
     → k.id ≤ next_id E k.kind
     → IsPlacedEver E g₀
     → last ≡ place_ever E k
     → to ≡ new_position v.content
-    → share_cell last to ≡ false
-    → ((c : Cell) (n : ℕ) → times g₁ c n ≡ times g₀ c n + (if lies c to && (n == k.id) then 1 else 0))
-    → IsPlacedEver (push_version E k v) g₁
-placed_anew E g₀ g₁ k v last to is_node counted reached was last_is to_is other put =
-    placed_more E g₀ g₁ k v is_node counted reached was
-    (λ c n. let same : ones (lies c to && (n == k.id)) ≡ ones ((lies c (new_position v.content) && not (lies c (place_ever E k))) && (n == k.id))
-    = ap (λ (b : Bool). ones (b && (n == k.id))) (sym (apart last to other c))
-    ∙ ap (λ (o : Option Position). ones ((lies c o && not (lies c last)) && (n == k.id))) to_is
+    → ((c : Cell) (n : ℕ) → times_ever g₁ c n ≡ times_ever g₀ c n)
+    → ((c : Cell) (n : ℕ) → times_ever g₂ c n ≡ times_ever g₁ c n + (if (lies c to && not (lies c last)) && (n == k.id) then 1 else 0))
+    → IsPlacedEver (push_version E k v) g₂
+moved_ever E g₀ g₁ g₂ k v last to is_node counted reached was last_is to_is left arrived =
+    placed_more E g₀ g₂ k v is_node counted reached was
+    (λ c n. let same : ones ((lies c to && not (lies c last)) && (n == k.id)) ≡ ones ((lies c (new_position v.content) && not (lies c (place_ever E k))) && (n == k.id))
+    = ap (λ (o : Option Position). ones ((lies c o && not (lies c last)) && (n == k.id))) to_is
     ∙ ap (λ (o : Option Position). ones ((lies c (new_position v.content) && not (lies c o)) && (n == k.id))) last_is in
-    omega (arith, put c n, same))
-
--- it stays in the cell in which it lay last
-pub placed_still :
-    (E : Elements) (g : List (List Held)) (k : Key) (v : Version) (last to : Option Position)
-    → kind_eq k.kind Node ≡ true
-    → 0 < k.id
-    → k.id ≤ next_id E k.kind
-    → IsPlacedEver E g
-    → last ≡ place_ever E k
-    → to ≡ new_position v.content
-    → share_cell last to ≡ true
-    → IsPlacedEver (push_version E k v) g
-placed_still E g k v last to is_node counted reached was last_is to_is shared =
-    placed_more E g g k v is_node counted reached was
-    (λ c n. let none : ones ((lies c (new_position v.content) && not (lies c (place_ever E k))) && (n == k.id)) ≡ 0
-    = ap (λ (o : Option Position). ones ((lies c (new_position v.content) && not (lies c o)) && (n == k.id))) (sym last_is)
-    ∙ ap (λ (o : Option Position). ones ((lies c o && not (lies c last)) && (n == k.id))) (sym to_is)
-    ∙ ap (λ (b : Bool). ones (b && (n == k.id))) (none-entered last to shared c) in
-    omega (arith, none))
+    omega (arith, left c n, arrived c n, same))
 
 -- ways and relations lie in no cell
 pub placed_other :
@@ -261,11 +218,54 @@ brought-there c before (h ∷ hs) out some =
     still None f = out
     still (Some p) f = f
 
+lies-brought : (c : Cell) (before : Option Position) (hs : List (Option (Content ℕ))) → lies c before ≡ false → lies c (last_place before hs) ≡ true → 0 < times_brought c before hs
+lies-brought c before [] out there = absurd (false≢true (sym out ∙ there))
+lies-brought c before (h ∷ hs) out there =
+    ⊎_elim
+    (λ t. let one : ones (lies c (new_position h) && not (lies c before)) ≡ 1
+    = ap (λ (b : Bool). ones (b && not (lies c before))) t ∙ ap (λ (b : Bool). ones (not b)) out in
+    omega (arith, one))
+    (λ f. let later : 0 < times_brought c (option_or (new_position h) before) hs
+    = lies-brought c (option_or (new_position h) before) hs (still (new_position h) f) there in
+    omega (arith, later))
+    (cases_Bool (lies c (new_position h)))
+  where
+    still : (o : Option Position) → lies c o ≡ false → lies c (option_or o before) ≡ false
+    still None f = out
+    still (Some p) f = f
+
+-- a node that left the cells in which it lay may come back into the one in which it lay last
+pub may_come_back :
+    (E : Elements) (g₀ g₁ : List (List Held)) (k : Key) (from last to : Option Position)
+    → kind_eq k.kind Node ≡ true
+    → IsPlacedEver E g₀
+    → last ≡ place_ever E k
+    → ((c : Cell) → times g₀ c k.id ≡ (if lies c from then 1 else 0))
+    → ((c : Cell) (n : ℕ) → times g₁ c n + (if lies c from && (n == k.id) then 1 else 0) ≡ times g₀ c n)
+    → ((c : Cell) (n : ℕ) → times_ever g₁ c n ≡ times_ever g₀ c n)
+    → share_cell last to ≡ true
+    → ForSome to (λ p. times g₁ (cell_of p) k.id < times_ever g₁ (cell_of p) k.id)
+may_come_back E g₀ g₁ k from last to is_node was last_is stood left kept shared p is =
+    let c : Cell = cell_of p in
+    let here : lies c (Some p) ≡ true = and_from _ _ (eq-eqb c.row c.row refl) (eq-eqb c.column c.column refl) in
+    let there : lies c (place_ever E k) ≡ true
+    = ap (lies c) (sym last_is) ∙ together last to shared c ∙ ap (lies c) is ∙ here in
+    let node : key Node k.id ≡ k = ap (λ (kind : Kind). key kind k.id) (sym (kind_eq-same k.kind Node is_node)) in
+    let brought : 0 < times_brought c None (contents E k) = lies-brought c None (contents E k) refl there in
+    let ever : times_ever g₀ c k.id ≡ times_brought c None (contents E k) = was.holds c k.id ∙ ap (λ (x : Key). times_brought c None (contents E x)) node in
+    let itself : k.id == k.id ≡ true = eq-eqb k.id k.id refl in
+    let gone : ones (lies c from && (k.id == k.id)) ≡ ones (lies c from) = ap (λ (b : Bool). ones (lies c from && b)) itself ∙ ap ones (and-true (lies c from)) in
+    omega (arith, brought, ever, gone, stood c, left c k.id, kept c k.id)
+  where
+    and-true : (b : Bool) → b && true ≡ b
+    and-true true = refl
+    and-true false = refl
+
 pub lain-placed :
     (E : Elements) (g : List (List Held)) (c : Cell) (n : ℕ)
     → IsPlacedEver E g
     → has_lain E c n ≡ true
-    → 0 < times g c n
+    → 0 < times_ever g c n
 lain-placed E g c n was lain = omega (arith, was.holds c n, brought-there c None (contents E (key Node n)) refl lain)
 
 -- -- a mark
@@ -308,10 +308,8 @@ contents-mark E k a n m some made =
     (λ f. ap (λ (b : Bool). map (λ (v : Version). v.content) (if b then mark_in (history E k) n m else history E a)) f)
     (cases_Bool (key_eq a k))
 
-pub marked_ever : (E : Elements) (u : UserRows) (k : Key) (n : ℕ) (m : Option ℕ) → 0 < n → n ≤ count E k → IsIndexedEver E u → IsIndexedEver (mark E k n m) u
-marked_ever E u k n m some made was = record {
-  holds = λ a b. was.holds a b ∙ ap (λ (p : Bool). p && not (key_eq a b)) (ap (list_any (λ held. lists_key (refs_in held) b)) (sym (contents-mark E k a n m some made)));
-}
+pub used-mark : (E : Elements) (k a b : Key) (n : ℕ) (m : Option ℕ) → 0 < n → n ≤ count E k → has_used (mark E k n m) a b ≡ has_used E a b
+used-mark E k a b n m some made = ap (λ (hs : List (Option (Content ℕ))). list_any (λ held. lists_key (refs_in held) b) hs && not (key_eq a b)) (contents-mark E k a n m some made)
 
 pub marked_placed_ever : (E : Elements) (g : List (List Held)) (k : Key) (n : ℕ) (m : Option ℕ) → 0 < n → n ≤ count E k → IsPlacedEver E g → IsPlacedEver (mark E k n m) g
 marked_placed_ever E g k n m some made was = record {
@@ -376,3 +374,26 @@ lay-last E k c = along (length (history E k) == 0) refl
     along false some there =
         let more : length (history E k) - 1 + 1 ≡ length (history E k) = grind (arith, nat_tests) in
         lies-last c None (history E k) (length (history E k) - 1) more there
+
+-- it stays in its cell
+pub stayed_ever :
+    (E : Elements) (g : List (List Held)) (k : Key) (v : Version) (from to : Option Position)
+    → kind_eq k.kind Node ≡ true
+    → 0 < k.id
+    → k.id ≤ next_id E k.kind
+    → IsPlacedEver E g
+    → from ≡ position E k
+    → to ≡ new_position v.content
+    → share_cell from to ≡ true
+    → IsPlacedEver (push_version E k v) g
+stayed_ever E g k v from to is_node counted reached was from_is to_is shared =
+    placed_more E g g k v is_node counted reached was
+    (λ c n. let none : ones ((lies c (new_position v.content) && not (lies c (place_ever E k))) && (n == k.id)) ≡ 0
+    = ap (λ (o : Option Position). ones ((lies c o && not (lies c (place_ever E k))) && (n == k.id))) (sym to_is)
+    ∙ ap (λ (b : Bool). ones ((b && not (lies c (place_ever E k))) && (n == k.id))) (sym (together from to shared c))
+    ∙ ap (λ (b : Bool). ones (b && (n == k.id))) (lain (lies c from) (lies c (place_ever E k)) (λ here. lay-last E k c (ap (lies c) (sym from_is) ∙ here))) in
+    omega (arith, none))
+  where
+    lain : (now last : Bool) → (now ≡ true → last ≡ true) → now && not last ≡ false
+    lain true last h = ap not (h refl)
+    lain false last h = refl

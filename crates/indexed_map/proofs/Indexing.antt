@@ -1,9 +1,8 @@
 -- The indexes after an element has a version more, a mark, or room.
-use Rattle.std.proofs.Common.{◌≡◌, ℕ, ◌+◌, ◌<◌, ◌≤◌, Bool, true, false, ◌&&◌, ◌||◌, ⊎_elim, List, Option, refl, sym, ap, ◌∙◌, subst, arith}
+use Rattle.std.proofs.Common.{◌≡◌, ℕ, ◌<◌, ◌≤◌, Bool, true, false, ◌&&◌, ◌||◌, ⊎_elim, List, Option, refl, sym, ap, ◌∙◌, subst, arith}
 use Rattle.std.specs.Prelude.{not, if◌then◌else◌, option_and_then}
 use Rattle.std.specs.List.{list_any}
-use Rattle.std.specs.Option.{ForSome}
-use Rattle.std.proofs.lemmas.Bool.{cases_Bool, false≢true}
+use Rattle.std.proofs.lemmas.Bool.{cases_Bool}
 use Rattle.osm_base.specs.Key.{key_eq, lists_key}
 use Rattle.osm_base.specs.declared.keys.Key.{Key}
 use Rattle.osm_base.proofs.KeyOrder.{key_eq-same, key_eq-refl, key_eq-sym}
@@ -16,15 +15,16 @@ use Rattle.osm_element.proofs.Later.{content-mark, given_some}
 use Rattle.osm_base.specs.Place.{Position}
 use Rattle.osm_base.specs.declared.keys.Kind.TheVariants.{Node}
 use Rattle.osm_element.specs.Elements.{key, position_in}
-use Rattle.reverse_refs.specs.Users.{UserRows, users_in, free_in}
+use Rattle.reverse_refs.specs.Users.{UserRows, users_in, past_in, free_in}
 use Rattle.history_store.specs.Store.{free}
 use Rattle.tile_grid.specs.declared.cells.Cell.{Cell}
-use Rattle.tile_grid.specs.Grid.{times, free_at, same_cell}
+use Rattle.tile_grid.specs.Grid.{times, times_ever, free_at, same_cell}
 use Rattle.tile_grid.specs.Tile.{Held}
-use Rattle.indexed_map.specs.Ever.{IsIndexedEver, IsPlacedEver}
+use Rattle.indexed_map.specs.Ever.{has_used, IsPlacedEver}
 use Rattle.indexed_map.specs.Indexed.{Stand, Notes, IsBare, IsIndexed, IsListOf, IsMap, IsNoted}
 use Rattle.indexed_map.specs.Placed.{lies, IsPlaced}
-use Rattle.indexed_map.proofs.EverHeld.{uses-ever}
+use Rattle.indexed_map.proofs.EverHeld.{used-mark}
+use Rattle.indexed_map.proofs.Past.{past-push}
 
 uses_in : Option (Content ℕ) → Key → Key → Bool
 uses_in content a b = lists_key (refs_in content) b && not (key_eq a b)
@@ -37,8 +37,11 @@ pub indexed :
     → IsListOf v.content listed
     → ((a b : Key) → lists_key (users_in between b) a ≡ lists_key (users_in u b) a && not (lists_key (refs_of E k) b && (key_eq k a && not (lists_key listed b))))
     → ((a b : Key) → lists_key (users_in new b) a ≡ (lists_key listed b && (key_eq k a && not (key_eq k b))) || lists_key (users_in between b) a)
+    → ((a b : Key) → lists_key (past_in between b) a ≡ lists_key (past_in u b) a || (lists_key (users_in u b) a && (lists_key (refs_of E k) b && (key_eq k a && not (lists_key listed b)))))
+    → ((a b : Key) → lists_key (past_in new b) a ≡ lists_key (past_in between b) a && not (lists_key listed b && (key_eq k a && not (key_eq k b))))
     → IsIndexed (push_version E k v) new
-indexed E u between new k v listed counted reached was list ends begins = record {
+indexed E u between new k v listed counted reached was list ends begins leaves returns = record {
+  past = past-push E u between new k v listed counted reached was list leaves returns;
   holds = λ a b. begins a b
       ∙ ap (λ (p : Bool). (lists_key listed b && (key_eq k a && not (key_eq k b))) || p) (ends a b ∙ ap (λ (p : Bool). p && not (lists_key (refs_of E k) b && (key_eq k a && not (lists_key listed b)))) (was.holds a b))
       ∙ at a b;
@@ -87,6 +90,9 @@ marked E u k n m some made was =
     let given = given_some E k (omega (arith, some, made)) in
     record {
       holds = λ a b. was.holds a b ∙ ap (λ (c : Option (Content ℕ)). lists_key (refs_in c) b && not (key_eq a b)) (sym (content-mark E k a n m given.0 given.1));
+      past = λ a b. was.past a b
+          ∙ ap (λ (p : Bool). p && not (uses E a b)) (sym (used-mark E k a b n m some made))
+          ∙ ap (λ (c : Option (Content ℕ)). has_used (mark E k n m) a b && not (lists_key (refs_in c) b && not (key_eq a b))) (sym (content-mark E k a n m given.0 given.1));
     }
 
 pub marked_placed :
@@ -109,37 +115,25 @@ pub noting :
     → IsMap w n
     → v.elements ≡ w.elements
     → ((b : Key) → users_in v.users b ≡ users_in w.users b)
+    → ((b : Key) → past_in v.users b ≡ past_in w.users b)
     → ((c : Cell) (id : ℕ) → times v.cells c id ≡ times w.cells c id)
-    → ((b : Key) → users_in v.users_ever b ≡ users_in w.users_ever b)
-    → ((c : Cell) (id : ℕ) → times v.cells_ever c id ≡ times w.cells_ever c id)
-    → ((b : Key) → free_in v.users b + free_in w.users_ever b ≤ free_in w.users b + free_in v.users_ever b)
-    → ((p : Position) → free_at v.cells p + free_at w.cells_ever p ≤ free_at w.cells p + free_at v.cells_ever p)
+    → ((c : Cell) (id : ℕ) → times_ever v.cells c id ≡ times_ever w.cells c id)
     → ((k : Key) → lists_key m.versions k ≡ false → (lists_key n.versions k ≡ false) × (free v.versions k ≡ free w.versions k))
     → ((b : Key) → lists_key m.users b ≡ false → (lists_key n.users b ≡ false) × (free_in v.users b ≡ free_in w.users b))
     → ((p : Position) → list_any (same_cell p) m.cells ≡ false → (list_any (same_cell p) n.cells ≡ false) × (free_at v.cells p ≡ free_at w.cells p))
-    → ((b : Key) → lists_key m.users b ≡ false → free_in v.users_ever b ≡ free_in w.users_ever b)
-    → ((p : Position) → list_any (same_cell p) m.cells ≡ false → free_at v.cells_ever p ≡ free_at w.cells_ever p)
     → IsMap v m
-noting w v n m was same users nodes users_ever nodes_ever more_users more_cells versions awaited entered awaited_ever entered_ever =
+noting w v n m was same users past nodes nodes_ever versions awaited entered =
     let I : Elements → Type 0 = λ E. IsIndexed E v.users in
     let P : Elements → Type 0 = λ E. IsPlaced E v.cells in
-    let J : Elements → Type 0 = λ E. IsIndexedEver E v.users_ever in
-    let Q : Elements → Type 0 = λ E. IsPlacedEver E v.cells_ever in
+    let Q : Elements → Type 0 = λ E. IsPlacedEver E v.cells in
     record {
-      indexed = subst I (sym same) (record { holds = λ a b. ap (λ (ks : List Key). lists_key ks a) (users b) ∙ was.indexed.holds a b });
+      indexed = subst I (sym same) (record { holds = λ a b. ap (λ (ks : List Key). lists_key ks a) (users b) ∙ was.indexed.holds a b; past = λ a b. ap (λ (ks : List Key). lists_key ks a) (past b) ∙ was.indexed.past a b });
       placed = subst P (sym same) (record { holds = λ c id. nodes c id ∙ was.placed.holds c id });
-      indexed_ever = subst J (sym same) (record { holds = λ a b. ap (λ (ks : List Key). lists_key ks a) (users_ever b) ∙ was.indexed_ever.holds a b });
       placed_ever = subst Q (sym same) (record { holds = λ c id. nodes_ever c id ∙ was.placed_ever.holds c id });
-      spared = record {
-        users = λ b. omega (arith, more_users b, was.spared.users b);
-        cells = λ p. omega (arith, more_cells p, was.spared.cells p);
-      };
       noted = record {
         versions = λ k out. (versions k out).1 ∙ was.noted.versions k (versions k out).0;
         users = λ b out. (awaited b out).1 ∙ was.noted.users b (awaited b out).0;
         cells = λ p out. (entered p out).1 ∙ was.noted.cells p (entered p out).0;
-        users_ever = λ b out. awaited_ever b out ∙ was.noted.users_ever b (awaited b out).0;
-        cells_ever = λ p out. entered_ever p out ∙ was.noted.cells_ever p (entered p out).0;
       };
     }
 
@@ -152,28 +146,23 @@ pub emptied :
     → places ≡ n.cells
     → v.elements ≡ w.elements
     → ((b : Key) → users_in v.users b ≡ users_in w.users b)
+    → ((b : Key) → past_in v.users b ≡ past_in w.users b)
     → ((c : Cell) (id : ℕ) → times v.cells c id ≡ times w.cells c id)
     → ((k : Key) → free v.versions k ≡ (if lists_key versions k then 0 else free w.versions k))
     → ((b : Key) → free_in v.users b ≡ (if lists_key awaited b then 0 else free_in w.users b))
     → ((p : Position) → free_at v.cells p ≡ (if list_any (same_cell p) places then 0 else free_at w.cells p))
-    → ((b : Key) → users_in v.users_ever b ≡ users_in w.users_ever b)
-    → ((c : Cell) (id : ℕ) → times v.cells_ever c id ≡ times w.cells_ever c id)
-    → ((b : Key) → free_in v.users_ever b ≡ (if lists_key awaited b then 0 else free_in w.users_ever b))
-    → ((p : Position) → free_at v.cells_ever p ≡ (if list_any (same_cell p) places then 0 else free_at w.cells_ever p))
+    → ((c : Cell) (id : ℕ) → times_ever v.cells c id ≡ times_ever w.cells c id)
     → IsBare v × IsMap v m
-emptied w v n m versions awaited places was vs us cs same users nodes no_versions no_users no_cells users_ever nodes_ever none_awaited none_entered =
+emptied w v n m versions awaited places was vs us cs same users past nodes no_versions no_users no_cells nodes_ever =
     let I : Elements → Type 0 = λ E. IsIndexed E v.users in
     let P : Elements → Type 0 = λ E. IsPlaced E v.cells in
-    let J : Elements → Type 0 = λ E. IsIndexedEver E v.users_ever in
-    let Q : Elements → Type 0 = λ E. IsPlacedEver E v.cells_ever in (
-      record { versions = bare_versions; users = bare_users; cells = bare_cells; users_ever = bare_users_ever; cells_ever = bare_cells_ever },
+    let Q : Elements → Type 0 = λ E. IsPlacedEver E v.cells in (
+      record { versions = bare_versions; users = bare_users; cells = bare_cells },
       record {
-        indexed = subst I (sym same) (record { holds = λ a b. ap (λ (ks : List Key). lists_key ks a) (users b) ∙ was.indexed.holds a b });
+        indexed = subst I (sym same) (record { holds = λ a b. ap (λ (ks : List Key). lists_key ks a) (users b) ∙ was.indexed.holds a b; past = λ a b. ap (λ (ks : List Key). lists_key ks a) (past b) ∙ was.indexed.past a b });
         placed = subst P (sym same) (record { holds = λ c id. nodes c id ∙ was.placed.holds c id });
-        indexed_ever = subst J (sym same) (record { holds = λ a b. ap (λ (ks : List Key). lists_key ks a) (users_ever b) ∙ was.indexed_ever.holds a b });
         placed_ever = subst Q (sym same) (record { holds = λ c id. nodes_ever c id ∙ was.placed_ever.holds c id });
-        spared = record { users = λ b. omega (arith, bare_users b); cells = λ p. omega (arith, bare_cells p) };
-        noted = record { versions = λ k out. bare_versions k; users = λ b out. bare_users b; cells = λ p out. bare_cells p; users_ever = λ b out. bare_users_ever b; cells_ever = λ p out. bare_cells_ever p };
+        noted = record { versions = λ k out. bare_versions k; users = λ b out. bare_users b; cells = λ p out. bare_cells p };
       },
     )
   where
@@ -190,12 +179,6 @@ emptied w v n m versions awaited places was vs us cs same users nodes no_version
     bare_cells : (p : Position) → free_at v.cells p ≡ 0
     bare_cells p = nothing (list_any (same_cell p) places) (free_at v.cells p) (free_at w.cells p) (no_cells p) (λ out. was.noted.cells p (ap (λ (l : List Position). list_any (same_cell p) l) (sym cs) ∙ out))
 
-    bare_users_ever : (b : Key) → free_in v.users_ever b ≡ 0
-    bare_users_ever b = nothing (lists_key awaited b) (free_in v.users_ever b) (free_in w.users_ever b) (none_awaited b) (λ out. was.noted.users_ever b (ap (λ (l : List Key). lists_key l b) (sym us) ∙ out))
-
-    bare_cells_ever : (p : Position) → free_at v.cells_ever p ≡ 0
-    bare_cells_ever p = nothing (list_any (same_cell p) places) (free_at v.cells_ever p) (free_at w.cells_ever p) (none_entered p) (λ out. was.noted.cells_ever p (ap (λ (l : List Position). list_any (same_cell p) l) (sym cs) ∙ out))
-
 -- promises are used
 pub noted_less :
     (w v : Stand) (n : Notes)
@@ -203,56 +186,12 @@ pub noted_less :
     → ((k : Key) → free v.versions k ≤ free w.versions k)
     → ((b : Key) → free_in v.users b ≤ free_in w.users b)
     → ((p : Position) → free_at v.cells p ≤ free_at w.cells p)
-    → ((b : Key) → free_in v.users_ever b ≤ free_in w.users_ever b)
-    → ((p : Position) → free_at v.cells_ever p ≤ free_at w.cells_ever p)
     → IsNoted v n
-noted_less w v n was versions users cells users_ever cells_ever = record {
+noted_less w v n was versions users cells = record {
   versions = λ k out. nothing (free w.versions k) (free v.versions k) (was.versions k out) (versions k);
   users = λ b out. nothing (free_in w.users b) (free_in v.users b) (was.users b out) (users b);
   cells = λ p out. nothing (free_at w.cells p) (free_at v.cells p) (was.cells p out) (cells p);
-  users_ever = λ b out. nothing (free_in w.users_ever b) (free_in v.users_ever b) (was.users_ever b out) (users_ever b);
-  cells_ever = λ p out. nothing (free_at w.cells_ever p) (free_at v.cells_ever p) (was.cells_ever p out) (cells_ever p);
 }
   where
     nothing : (n m : ℕ) → n ≡ 0 → m ≤ n → m ≡ 0
     nothing n m e le = omega (arith, e, le)
-
--- -- what has room now has room in the indexes of all versions
-
-abbrev ones : Bool → ℕ
-ones b = if b then 1 else 0
-
-pub spared_cell : (at : Option Position) (g h : List (List Held)) → ((p : Position) → free_at g p ≤ free_at h p) → ForSome at (λ p. 0 < free_at g p) → ForSome at (λ p. 0 < free_at h p)
-spared_cell at g h less room p is = omega (arith, less p, room p is)
-
--- who is a user still was one ever
-pub still_ever :
-    (E : Elements) (u between v : UserRows) (k b : Key) (rest : Bool)
-    → IsIndexed E u
-    → IsIndexedEver E v
-    → lists_key (users_in between b) k ≡ lists_key (users_in u b) k && rest
-    → lists_key (users_in between b) k ≡ true
-    → lists_key (users_in v b) k ≡ true
-still_ever E u between v k b rest was ever ends there =
-    ever.holds k b ∙ uses-ever E k b (sym (was.holds k b) ∙ first (lists_key (users_in u b) k) rest (sym ends ∙ there))
-  where
-    first : (p q : Bool) → p && q ≡ true → p ≡ true
-    first true q h = refl
-    first false q h = cc
-
-pub still_spared :
-    (l s u v : Bool) (u₀ u₁ v₀ v₁ : ℕ)
-    → (u ≡ true → v ≡ true)
-    → u₁ + ones (l && (s && not u)) ≡ u₀
-    → v₁ + ones (l && (s && not v)) ≡ v₀
-    → u₀ ≤ v₀
-    → u₁ ≤ v₁
-still_spared l s u v u₀ u₁ v₀ v₁ ever spent_now spent_ever less = omega (arith, fewer l s u v ever, spent_now, spent_ever, less)
-  where
-    fewer : (l s u v : Bool) → (u ≡ true → v ≡ true) → ones (l && (s && not v)) ≤ ones (l && (s && not u))
-    fewer true true true true ever = omega arith
-    fewer true true true false ever = absurd (false≢true (ever refl))
-    fewer true true false true ever = omega arith
-    fewer true true false false ever = omega arith
-    fewer true false u v ever = omega arith
-    fewer false s u v ever = omega arith

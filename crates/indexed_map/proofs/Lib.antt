@@ -1,6 +1,9 @@
 mod Indexing
 mod UseSteps
+mod Known
 mod Moved
 mod Empty
 mod EverHeld
 mod Together
+mod Past
+mod PastSteps

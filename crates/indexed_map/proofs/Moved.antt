@@ -27,6 +27,18 @@ placed n p e =
     let one : n ≡ 1 = e ∙ ap (λ (b : Bool). if b then 1 else 0) here in
     omega (arith, one)
 
+-- a node stands once in the cell in which it lies, and in no other
+pub stood_once :
+    (E : Elements) (g : List (List Held)) (k : Key) (from : Option Position)
+    → kind_eq k.kind Node ≡ true
+    → IsPlaced E g
+    → from ≡ position E k
+    → (c : Cell)
+    → times g c k.id ≡ (if lies c from then 1 else 0)
+stood_once E g k from is_node cells from_is c =
+    let node : key Node k.id ≡ k = ap (λ (kind : Kind). key kind k.id) (sym (kind_eq-same k.kind Node is_node)) in
+    cells.holds c k.id ∙ ap (λ (o : Option Position). if lies c o then 1 else 0) (ap (position E) node ∙ sym from_is)
+
 position-push :
     (E : Elements) (k a : Key) (v : Version)
     → 0 < k.id

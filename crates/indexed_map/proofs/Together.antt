@@ -1,7 +1,7 @@
 -- Positions in one cell.
-use Rattle.std.proofs.Common.{◌≡◌, ℕ, Bool, true, false, ◌&&◌, ⊎_elim, Option, Some, None, refl, sym, ap, ◌∙◌}
+use Rattle.std.proofs.Common.{◌≡◌, ℕ, Bool, true, false, ◌&&◌, Option, Some, None, refl, sym, ap, ◌∙◌}
 use Rattle.std.specs.Prelude.{◌==◌, not}
-use Rattle.std.proofs.lemmas.Bool.{cases_Bool, eqb-true}
+use Rattle.std.proofs.lemmas.Bool.{eqb-true}
 use Rattle.osm_base.specs.Place.{Position}
 use Rattle.tile_grid.specs.declared.cells.Cell.{Cell}
 use Rattle.tile_grid.specs.Cell.{cell_of, cell_eq}
@@ -33,22 +33,3 @@ none-entered from to shared c = ap (λ (b : Bool). b && not (lies c from)) (sym 
     never : (b : Bool) → b && not b ≡ false
     never true = refl
     never false = refl
-
--- in whatever cell the second lies, the first doesn't
-pub apart : (from to : Option Position) → share_cell from to ≡ false → (c : Cell) → lies c to && not (lies c from) ≡ lies c to
-apart None to other c = and-true (lies c to)
-  where
-    and-true : (b : Bool) → b && true ≡ b
-    and-true true = refl
-    and-true false = refl
-apart (Some p) None other c = refl
-apart (Some p) (Some q) other c =
-    ⊎_elim
-    (λ t. let none : lies c (Some q) ≡ false = ap (λ (d : Cell). cell_eq d (cell_of q)) (cell_same c (cell_of p) t) ∙ other in
-    ap (λ (b : Bool). b && not (lies c (Some p))) none ∙ sym none)
-    (λ f. ap (λ (b : Bool). lies c (Some q) && not b) f ∙ and-true (lies c (Some q)))
-    (cases_Bool (lies c (Some p)))
-  where
-    and-true : (b : Bool) → b && true ≡ b
-    and-true true = refl
-    and-true false = refl

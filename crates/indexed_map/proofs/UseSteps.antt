@@ -7,9 +7,10 @@ use Rattle.std.proofs.lemmas.List.Folds.{list_any_more}
 use Rattle.std.proofs.lemmas.List.Sums.{count_by_more_yes, count_by_more_no, sum_by-take-le}
 use Rattle.osm_base.specs.Key.{key_eq, lists_key, insert_key, without_key}
 use Rattle.osm_base.specs.declared.keys.Key.{Key}
+use Rattle.osm_base.proofs.Halves.{listed-somewhere}
 use Rattle.osm_base.proofs.KeyOrder.{key_eq-same, key_eq-refl, key_eq-sym}
 use Rattle.osm_base.proofs.KeyLists.{lists-insert, lists-without}
-use Rattle.reverse_refs.specs.Users.{UserRows, users_in, free_in}
+use Rattle.reverse_refs.specs.Users.{UserRows, users_in, past_in, knows, free_in}
 use Rattle.indexed_map.specs.Indexed.{times_listed}
 
 -- -- uses end
@@ -184,52 +185,80 @@ begins_next listed i d old now next user within so_far begins a b =
 
 -- -- the room that uses take
 
-abbrev ones : Bool → ℕ
+abbrev pub ones : Bool → ℕ
 ones b = if b then 1 else 0
 
+-- one that left comes back
+pub spent_back :
+    (old : UserRows) (user used b : Key) (next : ℕ)
+    → lists_key (past_in old used) user ≡ true
+    → next ≡ free_in old b
+    → next + ones (key_eq b used && not (lists_key (past_in old b) user)) ≡ free_in old b
+spent_back old user used b next there same =
+    let none : ones (key_eq b used && not (lists_key (past_in old b) user)) ≡ 0
+    = both (key_eq b used) (lists_key (past_in old b) user) (λ t. ap (λ (k : Key). lists_key (past_in old k) user) (key_eq-same b used t) ∙ there) in
+    omega (arith, none, same)
+  where
+    both : (t p : Bool) → (t ≡ true → p ≡ true) → ones (t && not p) ≡ 0
+    both true p left = ap (λ (q : Bool). ones (not q)) (left refl)
+    both false p left = refl
+
+-- one that never was there takes a place
 pub spent_added :
-    (old new : UserRows) (user used b : Key)
+    (old : UserRows) (user used b : Key) (next : ℕ)
     → 0 < free_in old used
+    → lists_key (past_in old used) user ≡ false
+    → next ≡ (if key_eq b used then free_in old b - 1 else free_in old b)
+    → next + ones (key_eq b used && not (lists_key (past_in old b) user)) ≡ free_in old b
+spent_added old user used b next some absent took =
+    both (key_eq b used) (lists_key (past_in old b) user)
+    (λ t. ap (λ (k : Key). lists_key (past_in old k) user) (key_eq-same b used t) ∙ absent)
+    (λ t. subst (λ (k : Key). 0 < free_in old k) (sym (key_eq-same b used t)) some)
+    took
+  where
+    both : (t p : Bool) → (t ≡ true → p ≡ false) → (t ≡ true → 0 < free_in old b) → next ≡ (if t then free_in old b - 1 else free_in old b) → next + ones (t && not p) ≡ free_in old b
+    both true p out more e = let one : ones (not p) ≡ 1 = ap (λ (q : Bool). ones (not q)) (out refl) in omega (arith, one, more refl, e)
+    both false p out more e = omega (arith, e)
+
+-- one that comes takes a place, unless it was there before
+pub spent_come :
+    (old : UserRows) (user used b : Key) (next : ℕ)
     → key_eq user used ≡ false
     → lists_key (users_in old used) user ≡ false
-    → free_in new b ≡ (if key_eq b used then free_in old b - 1 else free_in old b)
-    → free_in new b + ones (key_eq used b && (not (key_eq user b) && not (lists_key (users_in old b) user))) ≡ free_in old b
-spent_added old new user used b some other absent took =
-    ⊎_elim
-    (λ t. let here : used ≡ b = key_eq-same used b t in
-    let less : free_in new b ≡ free_in old b - 1 = took ∙ ap (λ (p : Bool). if p then free_in old b - 1 else free_in old b) (key_eq-sym b used ∙ t) in
-    let some_here : 0 < free_in old b = subst (λ (k : Key). 0 < free_in old k) here some in
-    let one : ones (key_eq used b && (not (key_eq user b) && not (lists_key (users_in old b) user))) ≡ 1
-    = ap (λ (p : Bool). ones (p && (not (key_eq user b) && not (lists_key (users_in old b) user)))) t
-    ∙ ap (λ (p : Bool). ones (not p && not (lists_key (users_in old b) user))) (ap (key_eq user) (sym here) ∙ other)
-    ∙ ap (λ (p : Bool). ones (not p)) (ap (λ (k : Key). lists_key (users_in old k) user) (sym here) ∙ absent) in
-    omega (arith, less, some_here, one))
-    (λ f. let same : free_in new b ≡ free_in old b = took ∙ ap (λ (p : Bool). if p then free_in old b - 1 else free_in old b) (key_eq-sym b used ∙ f) in
-    let none : ones (key_eq used b && (not (key_eq user b) && not (lists_key (users_in old b) user))) ≡ 0
-    = ap (λ (p : Bool). ones (p && (not (key_eq user b) && not (lists_key (users_in old b) user)))) f in
-    omega (arith, same, none))
-    (cases_Bool (key_eq used b))
+    → next + ones (key_eq b used && not (lists_key (past_in old b) user)) ≡ free_in old b
+    → next + ones (key_eq used b && (not (key_eq user b) && not (knows old b user))) ≡ free_in old b
+spent_come old user used b next other absent took =
+    let same : ones (key_eq used b && (not (key_eq user b) && not (knows old b user))) ≡ ones (key_eq b used && not (lists_key (past_in old b) user)) =
+    ap (λ (p : Bool). ones (p && (not (key_eq user b) && not (knows old b user)))) (key_eq-sym used b)
+    ∙ both (key_eq b used) (key_eq user b) (lists_key (users_in old b) user) (lists_key (past_in old b) user)
+    (λ t. ap (key_eq user) (key_eq-same b used t) ∙ other)
+    (λ t. ap (λ (k : Key). lists_key (users_in old k) user) (key_eq-same b used t) ∙ absent) in
+    omega (arith, same, took)
+  where
+    both : (t s o p : Bool) → (t ≡ true → s ≡ false) → (t ≡ true → o ≡ false) → ones (t && (not s && not (o || p))) ≡ ones (t && not p)
+    both true s o p apart out = ap (λ (q : Bool). ones (not q && not (o || p))) (apart refl) ∙ ap (λ (q : Bool). ones (not (q || p))) (out refl)
+    both false s o p apart out = refl
 
 -- it doesn't use itself
-pub spent_itself : (old : UserRows) (user used b : Key) → key_eq user used ≡ true → free_in old b + ones (key_eq used b && (not (key_eq user b) && not (lists_key (users_in old b) user))) ≡ free_in old b
+pub spent_itself : (old : UserRows) (user used b : Key) → key_eq user used ≡ true → free_in old b + ones (key_eq used b && (not (key_eq user b) && not (knows old b user))) ≡ free_in old b
 spent_itself old user used b same =
-    let none : ones (key_eq used b && (not (key_eq user b) && not (lists_key (users_in old b) user))) ≡ 0 =
+    let none : ones (key_eq used b && (not (key_eq user b) && not (knows old b user))) ≡ 0 =
     ⊎_elim
-    (λ t. ap (λ (p : Bool). ones (p && (not (key_eq user b) && not (lists_key (users_in old b) user)))) t
-    ∙ ap (λ (p : Bool). ones (not p && not (lists_key (users_in old b) user))) (ap (key_eq user) (sym (key_eq-same used b t)) ∙ same))
-    (λ f. ap (λ (p : Bool). ones (p && (not (key_eq user b) && not (lists_key (users_in old b) user)))) f)
+    (λ t. ap (λ (p : Bool). ones (p && (not (key_eq user b) && not (knows old b user)))) t
+    ∙ ap (λ (p : Bool). ones (not p && not (knows old b user))) (ap (key_eq user) (sym (key_eq-same used b t)) ∙ same))
+    (λ f. ap (λ (p : Bool). ones (p && (not (key_eq user b) && not (knows old b user)))) f)
     (cases_Bool (key_eq used b))
     in
     omega (arith, none)
 
 -- it was a user already
-pub spent_already : (old : UserRows) (user used b : Key) → lists_key (users_in old used) user ≡ true → free_in old b + ones (key_eq used b && (not (key_eq user b) && not (lists_key (users_in old b) user))) ≡ free_in old b
+pub spent_already : (old : UserRows) (user used b : Key) → lists_key (users_in old used) user ≡ true → free_in old b + ones (key_eq used b && (not (key_eq user b) && not (knows old b user))) ≡ free_in old b
 spent_already old user used b there =
-    let none : ones (key_eq used b && (not (key_eq user b) && not (lists_key (users_in old b) user))) ≡ 0 =
+    let none : ones (key_eq used b && (not (key_eq user b) && not (knows old b user))) ≡ 0 =
     ⊎_elim
-    (λ t. ap (λ (p : Bool). ones (key_eq used b && (not (key_eq user b) && not p))) (ap (λ (k : Key). lists_key (users_in old k) user) (sym (key_eq-same used b t)) ∙ there)
+    (λ t. ap (λ (p : Bool). ones (key_eq used b && (not (key_eq user b) && not (p || lists_key (past_in old b) user)))) (ap (λ (k : Key). lists_key (users_in old k) user) (sym (key_eq-same used b t)) ∙ there)
     ∙ nothing (key_eq used b) (not (key_eq user b)))
-    (λ f. ap (λ (p : Bool). ones (p && (not (key_eq user b) && not (lists_key (users_in old b) user)))) f)
+    (λ f. ap (λ (p : Bool). ones (p && (not (key_eq user b) && not (knows old b user)))) f)
     (cases_Bool (key_eq used b))
     in
     omega (arith, none)
@@ -242,16 +271,16 @@ spent_already old user used b there =
 pub spent_next :
     (listed : List Key) (i : ℕ) (d b : Key) (old now next : UserRows) (user : Key)
     → i < length listed
-    → lists_key (users_in now b) user ≡ (lists_key (take i listed) b && (key_eq user user && not (key_eq user b))) || lists_key (users_in old b) user
-    → free_in now b + ones (lists_key (take i listed) b && (not (key_eq user b) && not (lists_key (users_in old b) user))) ≡ free_in old b
-    → free_in next b + ones (key_eq (get_or listed i d) b && (not (key_eq user b) && not (lists_key (users_in now b) user))) ≡ free_in now b
-    → free_in next b + ones (lists_key (take (i + 1) listed) b && (not (key_eq user b) && not (lists_key (users_in old b) user))) ≡ free_in old b
+    → knows now b user ≡ (lists_key (take i listed) b && (key_eq user user && not (key_eq user b))) || knows old b user
+    → free_in now b + ones (lists_key (take i listed) b && (not (key_eq user b) && not (knows old b user))) ≡ free_in old b
+    → free_in next b + ones (key_eq (get_or listed i d) b && (not (key_eq user b) && not (knows now b user))) ≡ free_in now b
+    → free_in next b + ones (lists_key (take (i + 1) listed) b && (not (key_eq user b) && not (knows old b user))) ≡ free_in old b
 spent_next listed i d b old now next user within there so_far step =
     let P = lists_key (take i listed) b in
     let K = key_eq (get_or listed i d) b in
     let S = key_eq user b in
-    let O = lists_key (users_in old b) user in
-    let told : ones (K && (not S && not (lists_key (users_in now b) user))) ≡ ones (K && (not S && not ((P && not S) || O)))
+    let O = knows old b user in
+    let told : ones (K && (not S && not (knows now b user))) ≡ ones (K && (not S && not ((P && not S) || O)))
     = ap (λ (p : Bool). ones (K && (not S && not p))) (there ∙ ap (λ (p : Bool). (P && (p && not S)) || O) (key_eq-refl user)) in
     let more : ones (lists_key (take (i + 1) listed) b && (not S && not O)) ≡ ones ((P || K) && (not S && not O))
     = ap (λ (p : Bool). ones (p && (not S && not O))) (list_any_more (λ (x : Key). key_eq x b) listed i d within) in
@@ -287,6 +316,13 @@ pub times_before : (ks : List Key) (i : ℕ) (d : Key) → i < length ks → tim
 times_before ks i d within =
     let f : Key → Bool = λ x. key_eq (get_or ks i d) x in
     omega (arith, count_by_more_yes f ks i d within (key_eq-refl (get_or ks i d)), sum_by-take-le (λ x. cond (f x) 1 0) ks (i + 1))
+
+-- one that is listed is counted
+pub listed_times : (ks : List Key) (b : Key) → lists_key ks b ≡ true → 0 < times_listed ks b
+listed_times ks b there =
+    let at = listed-somewhere ks b b there in
+    let here : times_listed ks (get_or ks at.0 b) ≡ times_listed ks b = ap (times_listed ks) at.2 in
+    omega (arith, here, times_before ks at.0 b at.1)
 
 -- -- promises taken back
 

@@ -11,9 +11,8 @@ use Rattle.osm_element.specs.Later.{contents}
 use Rattle.osm_element.specs.declared.contents.Content.{Content}
 use Rattle.osm_element.specs.declared.elements.Elements.{Elements}
 use Rattle.changeset_core.specs.Changeset.{new_position}
-use Rattle.reverse_refs.specs.Users.{UserRows, users_in}
 use Rattle.tile_grid.specs.declared.cells.Cell.{Cell}
-use Rattle.tile_grid.specs.Grid.{times}
+use Rattle.tile_grid.specs.Grid.{times_ever}
 use Rattle.tile_grid.specs.Tile.{Held}
 use Rattle.indexed_map.specs.Placed.{lies}
 
@@ -28,10 +27,6 @@ has_used E a b = ever (λ held. lists_key (refs_in held) b) E a && not (key_eq a
 -- some version of a node lies in the cell
 abbrev pub has_lain : Elements → Cell → ℕ → Bool
 has_lain E c n = ever (λ held. lies c (new_position held)) E (key Node n)
-
--- the rows hold all elements of which some version lists each of them
-pub record IsIndexedEver (E : Elements) (u : UserRows) : Type 0 where
-  pub holds : (a b : Key) → lists_key (users_in u b) a ≡ has_used E a b
 
 -- where a node lay last with some contents, which lay at a position before them, if at any
 abbrev pub last_place : Option Position → List (Option (Content ℕ)) → Option Position
@@ -48,6 +43,6 @@ times_brought c before (held ∷ later) =
 abbrev pub place_ever : Elements → Key → Option Position
 place_ever E k = last_place None (contents E k)
 
--- each node is placed in a cell for each version that lies there, unless the version with a position before it does, and nothing else is
+-- each node was placed in a cell once for each version that lies there, unless the version with a position before it does, and nothing else was
 pub record IsPlacedEver (E : Elements) (g : List (List Held)) : Type 0 where
-  pub holds : (c : Cell) (n : ℕ) → times g c n ≡ times_brought c None (contents E (key Node n))
+  pub holds : (c : Cell) (n : ℕ) → times_ever g c n ≡ times_brought c None (contents E (key Node n))

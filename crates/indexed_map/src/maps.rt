@@ -1,18 +1,17 @@
 //! The elements with their users and their cells, kept in step.
-ghost use Rattle.std.specs.Prelude.{◌≡◌, ◌^◌, ◌+◌, ◌<◌, ◌≤◌, if◌then◌else◌, OnOk};
+ghost use Rattle.std.specs.Prelude.{◌≡◌, true, ◌^◌, ◌+◌, ◌<◌, ◌≤◌, ◌&&◌, not, if◌then◌else◌, OnOk};
 ghost use Rattle.osm_base.specs.Key.{key_eq, lists_key, IsRising};
 ghost use Rattle.osm_base.specs.Place.{Position};
 ghost use Rattle.osm_base.specs.declared.keys.Key.{Key};
-ghost use Rattle.osm_element.specs.Elements.{no_elements, next_id, count, is_visible, users, push_version, mark};
+ghost use Rattle.osm_element.specs.Elements.{no_elements, next_id, count, is_visible, uses, users, push_version, mark};
 ghost use Rattle.changeset_core.specs.Changeset.{new_position, touched_area};
 ghost use Rattle.history_store.specs.Store.{free};
 ghost use Rattle.reverse_refs.specs.Users.{free_in};
 ghost use Rattle.tile_grid.specs.Grid.{free_at};
 ghost use Rattle.indexed_map.specs.Ever.{has_used, IsPlacedEver};
-ghost use Rattle.indexed_map.specs.Indexed.{is_unused, times_listed, IsListOf, HasRoom, IsBare};
+ghost use Rattle.indexed_map.specs.Indexed.{is_unused, times_new, IsListOf, HasRoom, IsBare};
 ghost use Rattle.indexed_map.specs.Placed.{enters, IsPlaced};
 
-use crate::ever::place_ever;
 use crate::moves::move_node;
 use crate::promises::{
     forget_places, forget_uses, forget_versions, promise_place, promise_uses, promise_version,
@@ -27,16 +26,14 @@ use std::alloc::Global;
 use std::marker::Model;
 use tile_grid::Grid;
 
-/// The elements, who uses them, and where the visible nodes lie; besides who ever used them, and
-/// where nodes ever lay, from which nothing is taken out. `promised`, `awaited` and `entered` list
-/// what was promised versions, users and nodes since the last `forget_all`.
+/// The elements, who uses them and who did, and where the visible nodes lie, and those that left lay.
+/// `promised`, `awaited` and `entered` list what was promised versions, users and nodes since the last
+/// `forget_all`.
 #[derive(Drop)]
 pub struct IndexedMap {
     store: Store,
     users: UserIndex,
     grid: Grid,
-    users_ever: UserIndex,
-    grid_ever: Grid,
     promised: Vec<Key>,
     awaited: Vec<Key>,
     entered: Vec<Coord>,
@@ -47,9 +44,9 @@ impl Model for IndexedMap {
 
     ghost Value = { Stand };
 
-    ghost view = { λ m. stand m.store m.users m.grid m.users_ever m.grid_ever };
+    ghost view = { λ m. stand m.store m.users m.grid };
 
-    ghost invariant = { λ m. IsMap (stand m.store m.users m.grid m.users_ever m.grid_ever) (record { versions = m.promised.items; users = m.awaited.items; cells = m.entered.items }) };
+    ghost invariant = { λ m. IsMap (stand m.store m.users m.grid) (record { versions = m.promised.items; users = m.awaited.items; cells = m.entered.items }) };
 }
 
 impl IndexedMap {
@@ -61,14 +58,10 @@ impl IndexedMap {
         let store = Store::new(alloc);
         let users = UserIndex::new(alloc);
         let grid = Grid::new(alloc);
-        let users_ever = UserIndex::new(alloc);
-        let grid_ever = Grid::new(alloc);
         IndexedMap {
             store,
             users,
             grid,
-            users_ever,
-            grid_ever,
             promised: Vec::new(alloc),
             awaited: Vec::new(alloc),
             entered: Vec::new(alloc),
@@ -89,26 +82,20 @@ impl IndexedMap {
         self.users.users(key)
     }
 
-    /// The visible nodes by their cells.
+    /// The nodes by their cells: the visible ones where they lie, and all where a version of them lies.
     pub fn grid(&self) -> &Grid
-        ensures { IsPlaced self.now.elements result.now }
+        ensures placed { IsPlaced self.now.elements result.now }
+        ensures ever { IsPlacedEver self.now.elements result.now }
     {
         &self.grid
     }
 
-    /// The elements of which some version lists this one, in order.
-    pub fn users_ever(&self, key: Key) -> UserList<'_>
+    /// The elements of which only earlier versions list this one, in order.
+    pub fn users_past(&self, key: Key) -> UserList<'_>
         ensures rising { IsRising result }
-        ensures each { (user : Key) → lists_key result user ≡ has_used self.now.elements user key }
+        ensures each { (user : Key) → lists_key result user ≡ has_used self.now.elements user key && not (uses self.now.elements user key) }
     {
-        self.users_ever.users(key)
-    }
-
-    /// All nodes by the cells in which a version of them lies.
-    pub fn grid_ever(&self) -> &Grid
-        ensures { IsPlacedEver self.now.elements result.now }
-    {
-        &self.grid_ever
+        self.users.past(key)
     }
 
     /// The id that the next element of the kind gets.
@@ -149,8 +136,8 @@ impl IndexedMap {
         touched_area(self, key, new)
     }
 
-    /// Promises room for one more version of an element, for uses of what is `listed`, and for the
-    /// place where the version puts it.
+    /// Promises room for one more version of an element, for uses of what is `listed` and no version
+    /// of it lists so far, and for the place where the version puts it.
     pub fn promise(
         &mut self,
         alloc: Global,
@@ -161,24 +148,12 @@ impl IndexedMap {
         requires { 0 < key.id }
         ensures same { self.new.elements ≡ self.old.elements }
         ensures versions { OnOk result ((k : Key) → free self.new.versions k ≡ free self.old.versions k + (if key_eq k key then 1 else 0)) }
-        ensures users { OnOk result ((b : Key) → free_in self.new.users b ≡ free_in self.old.users b + times_listed listed.now b) }
+        ensures users { OnOk result ((b : Key) → free_in self.new.users b ≡ free_in self.old.users b + times_new self.old.elements key listed.now b) }
         ensures cells { OnOk result ((p : Position) → free_at self.new.cells p ≡ free_at self.old.cells p + (if enters p at then 1 else 0)) }
     {
         promise_version(alloc, &mut self.store, key, &mut self.promised)?;
-        promise_uses(
-            alloc,
-            &mut self.users,
-            &mut self.users_ever,
-            listed,
-            &mut self.awaited,
-        )?;
-        promise_place(
-            alloc,
-            &mut self.grid,
-            &mut self.grid_ever,
-            at,
-            &mut self.entered,
-        )
+        promise_uses(alloc, &mut self.users, key, listed, &mut self.awaited)?;
+        promise_place(alloc, &mut self.grid, at, &mut self.entered)
     }
 
     /// Takes back all that is promised.
@@ -187,12 +162,8 @@ impl IndexedMap {
         ensures bare { IsBare self.new }
     {
         forget_versions(&mut self.store, self.promised.as_slice());
-        let awaited = self.awaited.as_slice();
-        forget_uses(&mut self.users, awaited);
-        forget_uses(&mut self.users_ever, awaited);
-        let entered = self.entered.as_slice();
-        forget_places(&mut self.grid, entered);
-        forget_places(&mut self.grid_ever, entered);
+        forget_uses(&mut self.users, self.awaited.as_slice());
+        forget_places(&mut self.grid, self.entered.as_slice());
         self.promised.clear();
         self.awaited.clear();
         self.entered.clear();
@@ -216,15 +187,14 @@ impl IndexedMap {
         requires room { HasRoom self.old key listed.now (new_position version.content) }
         ensures elements { self.new.elements ≡ push_version self.old.elements key version }
         ensures versions { (k : Key) → free self.new.versions k + (if key_eq k key then 1 else 0) ≡ free self.old.versions k }
-        ensures users { (b : Key) → free_in self.old.users b ≤ free_in self.new.users b + times_listed listed.now b }
+        ensures users { (b : Key) → free_in self.old.users b ≤ free_in self.new.users b + times_new self.old.elements key listed.now b }
         ensures cells { (p : Position)
             → free_at self.old.cells p ≤ free_at self.new.cells p + (if enters p (new_position version.content) then 1 else 0) }
+        ensures ever { (a b : Key) → has_used self.old.elements a b ≡ true → has_used self.new.elements a b ≡ true }
     {
         move_node(&self.store, &mut self.grid, key, &version);
-        place_ever(&self.store, &mut self.grid_ever, key, &version);
         end_uses(&self.store, &mut self.users, key, listed);
         begin_uses(&mut self.users, key, listed);
-        begin_uses(&mut self.users_ever, key, listed);
         self.store.push_version(key, version);
     }
 }

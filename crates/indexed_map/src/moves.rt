@@ -1,12 +1,17 @@
 //! A node that goes from cell to cell.
-ghost use Rattle.std.specs.Prelude.{◌≡◌, ◌==◌, ◌&&◌, not, ℕ, ◌+◌, ◌<◌, ◌≤◌, if◌then◌else◌};
+//!
+//! A node that leaves a cell stays behind those that lie there, as one that lay there. So where it
+//! comes back into the cell that it left last, as one does that is made visible again in its place,
+//! it needs no room; and in each cell it stands once for each time that it came from another.
+ghost use Rattle.std.specs.Prelude.{◌≡◌, ◌==◌, ◌&&◌, not, true, None, ℕ, ◌+◌, ◌<◌, ◌≤◌, map, if◌then◌else◌};
 ghost use Rattle.std.specs.Option.{ForSome};
-ghost use Rattle.osm_base.specs.Key.{kind_eq};
 ghost use Rattle.osm_base.specs.Place.{Position};
-ghost use Rattle.osm_element.specs.Elements.{next_id, position, push_version};
+ghost use Rattle.osm_element.specs.Elements.{next_id, push_version};
 ghost use Rattle.changeset_core.specs.Changeset.{new_position};
+ghost use Rattle.tile_grid.specs.Cell.{cell_of};
 ghost use Rattle.tile_grid.specs.declared.cells.Cell.{Cell};
-ghost use Rattle.tile_grid.specs.Grid.{times, free_at, same_cell};
+ghost use Rattle.tile_grid.specs.Grid.{times, times_ever, free_at, same_cell};
+ghost use Rattle.indexed_map.specs.Ever.{last_place, IsPlacedEver};
 ghost use Rattle.indexed_map.specs.Placed.{lies, enters, share_cell, IsPlaced};
 
 use history_store::Store;
@@ -14,22 +19,24 @@ use osm_base::{Coord, Key, Kind};
 use osm_element::{Content, Version};
 use tile_grid::{Cell, Grid};
 
-/// Takes a node out of the cell of a position, if there is one.
+/// A node leaves the cell of a position, if there is one.
 fn leave(grid: &mut Grid, id: u64, from: Option<Coord>)
     requires { (c : Cell) → times grid.old c id ≡ (if lies c from then 1 else 0) }
     ensures nodes { (c : Cell) (n : ℕ) → times grid.new c n + (if lies c from && (n == id) then 1 else 0) ≡ times grid.old c n }
+    ensures ever { (c : Cell) (n : ℕ) → times_ever grid.new c n ≡ times_ever grid.old c n }
     ensures room { (p : Position) → free_at grid.new p ≡ free_at grid.old p }
 {
     match from {
-        Some(at) => grid.take_out(id, at),
+        Some(at) => grid.leave(id, at),
         None => {}
     }
 }
 
 /// Places a node in the cell of a position, if there is one.
-pub fn enter(grid: &mut Grid, id: u64, to: Option<Coord>)
+fn enter(grid: &mut Grid, id: u64, to: Option<Coord>)
     requires { ForSome to (λ p. 0 < free_at grid.old p) }
     ensures nodes { (c : Cell) (n : ℕ) → times grid.new c n ≡ times grid.old c n + (if lies c to && (n == id) then 1 else 0) }
+    ensures ever { (c : Cell) (n : ℕ) → times_ever grid.new c n ≡ times_ever grid.old c n + (if lies c to && (n == id) then 1 else 0) }
     ensures room { (p : Position) → free_at grid.new p + (if enters p to then 1 else 0) ≡ free_at grid.old p }
 {
     match to {
@@ -38,8 +45,52 @@ pub fn enter(grid: &mut Grid, id: u64, to: Option<Coord>)
     }
 }
 
+/// A node comes back into the cell of a position, if there is one.
+fn come_back(grid: &mut Grid, id: u64, to: Option<Coord>)
+    requires { ForSome to (λ p. times grid.old (cell_of p) id < times_ever grid.old (cell_of p) id) }
+    ensures nodes { (c : Cell) (n : ℕ) → times grid.new c n ≡ times grid.old c n + (if lies c to && (n == id) then 1 else 0) }
+    ensures ever { (c : Cell) (n : ℕ) → times_ever grid.new c n ≡ times_ever grid.old c n }
+    ensures room { (p : Position) → free_at grid.new p ≡ free_at grid.old p }
+{
+    match to {
+        Some(at) => grid.come_back(id, at),
+        None => {}
+    }
+}
+
+/// A node that stands in no cell comes into that of a position, in which it may have lain last.
+fn arrive(grid: &mut Grid, id: u64, last: Option<Coord>, to: Option<Coord>)
+    requires room { ForSome to (λ p. 0 < free_at grid.old p) }
+    requires left { share_cell last to ≡ true → ForSome to (λ p. times grid.old (cell_of p) id < times_ever grid.old (cell_of p) id) }
+    ensures nodes { (c : Cell) (n : ℕ) → times grid.new c n ≡ times grid.old c n + (if lies c to && (n == id) then 1 else 0) }
+    ensures ever { (c : Cell) (n : ℕ) → times_ever grid.new c n
+        ≡ times_ever grid.old c n + (if (lies c to && not (lies c last)) && (n == id) then 1 else 0) }
+    ensures room { (p : Position) → free_at grid.new p + (if enters p to && not (enters p last) then 1 else 0) ≡ free_at grid.old p }
+{
+    if share_cell(&last, &to) {
+        come_back(grid, id, to);
+    } else {
+        enter(grid, id, to);
+    }
+}
+
+/// Where the last of some versions lies that has a position. A deletion has none, and none follows
+/// another, so it looks at two of them.
+fn last_place(versions: &[Version]) -> Option<Coord>
+    ensures { result ≡ last_place None (map (λ v. v.content) versions.now) }
+{
+    let mut place = versions.len();
+    while place > 0 {
+        place -= 1;
+        if let Some(at) = new_position(&versions[place]) {
+            return Some(at);
+        }
+    }
+    None
+}
+
 /// Where a version places its node.
-pub fn new_position(version: &Version) -> Option<Coord>
+fn new_position(version: &Version) -> Option<Coord>
     ensures { result ≡ new_position version.now.content }
 {
     match version.content() {
@@ -49,7 +100,7 @@ pub fn new_position(version: &Version) -> Option<Coord>
 }
 
 /// Whether both are positions, in one cell.
-pub fn share_cell(from: &Option<Coord>, to: &Option<Coord>) -> bool
+fn share_cell(from: &Option<Coord>, to: &Option<Coord>) -> bool
     ensures { result ≡ share_cell from.now to.now }
 {
     match (from, to) {
@@ -72,18 +123,20 @@ pub fn move_node(store: &Store, grid: &mut Grid, key: Key, version: &Version)
     requires counted { 0 < key.id }
     requires follows { key.id ≤ next_id store.now.elements key.kind }
     requires placed { IsPlaced store.now.elements grid.old }
+    requires ever { IsPlacedEver store.now.elements grid.old }
     requires room { ForSome (new_position version.now.content) (λ p. 0 < free_at grid.old p) }
     ensures placed { IsPlaced (push_version store.now.elements key version.now) grid.new }
-    ensures spent { (p : Position) → free_at grid.new p + (if kind_eq key.kind Kind.Node
-        && (enters p (new_position version.now.content) && not (enters p (position store.now.elements key))) then 1 else 0)
-        ≡ free_at grid.old p }
+    ensures ever { IsPlacedEver (push_version store.now.elements key version.now) grid.new }
+    ensures room { (p : Position) → free_at grid.old p ≤ free_at grid.new p + (if enters p (new_position version.now.content) then 1 else 0) }
+    ensures no_more { (p : Position) → free_at grid.new p ≤ free_at grid.old p }
 {
     if key.kind.is(Kind::Node) {
         let from = store.place_of(key);
         let to = new_position(version);
         if !share_cell(&from, &to) {
             leave(grid, key.id, from);
-            enter(grid, key.id, to);
+            let last = last_place(store.history(key));
+            arrive(grid, key.id, last, to);
         }
     }
 }

@@ -1,28 +1,31 @@
 //! Uses of elements that begin and end with a version.
 ghost use Rattle.std.specs.Prelude.{◌≡◌, false, ◌+◌, ◌<◌, ◌≤◌, ◌&&◌, ◌||◌, not, if◌then◌else◌, option_copied};
 ghost use Rattle.std.specs.List.{list_any};
-ghost use Rattle.osm_base.specs.Key.{key_eq, lists_key, IsRising};
+ghost use Rattle.osm_base.specs.Key.{key_eq, lists_key, insert_key, without_key, IsRising};
 ghost use Rattle.osm_base.specs.declared.keys.Key.{Key};
 ghost use Rattle.osm_element.specs.Elements.{key, key_of_member, refs, refs_of, content_of};
-ghost use Rattle.reverse_refs.specs.Users.{users_in, free_in};
-ghost use Rattle.indexed_map.specs.Indexed.{times_listed};
+ghost use Rattle.reverse_refs.specs.Users.{users_in, past_in, knows, free_in};
+ghost use Rattle.indexed_map.specs.Indexed.{times_unknown};
 
 use history_store::Store;
 use osm_base::{Key, Kind, is_listed};
 use osm_element::{Content, Member};
 use reverse_refs::{Pair, UserIndex};
 
-/// An element no longer uses another, unless that is still listed.
+/// An element no longer uses another, unless that is still listed. It stays among those that did.
 fn end_use(users: &mut UserIndex, user: Key, used: Key, listed: &[Key])
     requires { IsRising listed.now }
     ensures users { (a b : Key)
         → lists_key (users_in users.new b) a
         ≡ lists_key (users_in users.old b) a && not (key_eq used b && (key_eq user a && not (lists_key listed.now b))) }
+    ensures past { (a b : Key)
+        → lists_key (past_in users.new b) a
+        ≡ lists_key (past_in users.old b) a || (lists_key (users_in users.old b) a && (key_eq used b && (key_eq user a && not (lists_key listed.now b)))) }
     ensures room { (b : Key) → free_in users.new b ≡ free_in users.old b }
 {
     let pair = Pair { user, used };
     if !is_listed(listed, used) && users.has(pair) {
-        users.take_out(pair);
+        users.leave(pair);
     }
 }
 
@@ -30,6 +33,8 @@ fn end_node_uses(users: &mut UserIndex, user: Key, nodes: &[u64], listed: &[Key]
     requires { IsRising listed.now }
     ensures users { (a b : Key) → lists_key (users_in users.new b) a ≡ lists_key (users_in users.old b) a && not (list_any
         (λ id. key_eq (key Kind.Node id) b) nodes.now && (key_eq user a && not (lists_key listed.now b))) }
+    ensures past { (a b : Key) → lists_key (past_in users.new b) a ≡ lists_key (past_in users.old b) a || (lists_key (users_in users.old b) a && (list_any
+        (λ id. key_eq (key Kind.Node id) b) nodes.now && (key_eq user a && not (lists_key listed.now b)))) }
     ensures room { (b : Key) → free_in users.new b ≡ free_in users.old b }
 {
     for id in nodes {
@@ -45,6 +50,8 @@ fn end_member_uses(users: &mut UserIndex, user: Key, members: &[Member<u64>], li
     requires { IsRising listed.now }
     ensures users { (a b : Key) → lists_key (users_in users.new b) a ≡ lists_key (users_in users.old b) a && not (list_any
         (λ m. key_eq (key_of_member m) b) members.now && (key_eq user a && not (lists_key listed.now b))) }
+    ensures past { (a b : Key) → lists_key (past_in users.new b) a ≡ lists_key (past_in users.old b) a || (lists_key (users_in users.old b) a && (list_any
+        (λ m. key_eq (key_of_member m) b) members.now && (key_eq user a && not (lists_key listed.now b)))) }
     ensures room { (b : Key) → free_in users.new b ≡ free_in users.old b }
 {
     for member in members {
@@ -59,6 +66,9 @@ fn end_uses_in(users: &mut UserIndex, user: Key, content: &Content<u64>, listed:
     ensures users { (a b : Key)
         → lists_key (users_in users.new b) a
         ≡ lists_key (users_in users.old b) a && not (lists_key (refs content.now) b && (key_eq user a && not (lists_key listed.now b))) }
+    ensures past { (a b : Key)
+        → lists_key (past_in users.new b) a
+        ≡ lists_key (past_in users.old b) a || (lists_key (users_in users.old b) a && (lists_key (refs content.now) b && (key_eq user a && not (lists_key listed.now b)))) }
     ensures room { (b : Key) → free_in users.new b ≡ free_in users.old b }
 {
     match content {
@@ -74,6 +84,9 @@ pub fn end_uses(store: &Store, users: &mut UserIndex, user: Key, listed: &[Key])
     ensures users { (a b : Key)
         → lists_key (users_in users.new b) a
         ≡ lists_key (users_in users.old b) a && not (lists_key (refs_of store.now.elements user) b && (key_eq user a && not (lists_key listed.now b))) }
+    ensures past { (a b : Key)
+        → lists_key (past_in users.new b) a
+        ≡ lists_key (past_in users.old b) a || (lists_key (users_in users.old b) a && (lists_key (refs_of store.now.elements user) b && (key_eq user a && not (lists_key listed.now b)))) }
     ensures room { (b : Key) → free_in users.new b ≡ free_in users.old b }
 {
     if let Some(content) = current_content(store, user) {
@@ -91,31 +104,51 @@ pub fn current_content(store: &Store, key: Key) -> Option<&Content<u64>>
     }
 }
 
-/// An element uses another, which may be itself or used already.
-fn begin_use(users: &mut UserIndex, user: Key, used: Key)
-    requires { 0 < free_in users.old used }
-    ensures users { (a b : Key)
-        → lists_key (users_in users.new b) a ≡ (key_eq used b && (key_eq user a && not (key_eq user b))) || lists_key (users_in users.old b) a }
-    ensures room { (b : Key) → free_in users.old b ≤ free_in users.new b + (if key_eq b used then 1 else 0) }
-    ensures no_more { (b : Key) → free_in users.new b ≤ free_in users.old b }
-    ensures spent { (b : Key) → free_in users.new b + (if key_eq used b && (not (key_eq user b) && not (lists_key (users_in users.old b) user))
-        then 1 else 0) ≡ free_in users.old b }
+/// One that doesn't use an element comes to use it: again, as one that left it does without room, or
+/// for the first time.
+fn come(users: &mut UserIndex, pair: Pair)
+    requires absent { lists_key (users_in users.old pair.used) pair.user ≡ false }
+    requires room { lists_key (past_in users.old pair.used) pair.user ≡ false → 0 < free_in users.old pair.used }
+    ensures users { (b : Key)
+        → users_in users.new b ≡ (if key_eq b pair.used then insert_key (users_in users.old b) pair.user else users_in users.old b) }
+    ensures past { (b : Key)
+        → past_in users.new b ≡ (if key_eq b pair.used then without_key (past_in users.old b) pair.user else past_in users.old b) }
+    ensures spent { (b : Key)
+        → free_in users.new b + (if key_eq b pair.used && not (lists_key (past_in users.old b) pair.user) then 1 else 0) ≡ free_in users.old b }
 {
-    let pair = Pair { user, used };
-    if !user.is(used) && !users.has(pair) {
+    if users.had(pair) {
+        users.come_back(pair);
+    } else {
         users.add(pair);
     }
 }
 
-/// An element uses what is listed, itself left out.
+/// An element uses another, which may be itself or used already.
+fn begin_use(users: &mut UserIndex, user: Key, used: Key)
+    requires { knows users.old used user ≡ false → 0 < free_in users.old used }
+    ensures users { (a b : Key)
+        → lists_key (users_in users.new b) a ≡ (key_eq used b && (key_eq user a && not (key_eq user b))) || lists_key (users_in users.old b) a }
+    ensures past { (a b : Key)
+        → lists_key (past_in users.new b) a ≡ lists_key (past_in users.old b) a && not (key_eq used b && (key_eq user a && not (key_eq user b))) }
+    ensures spent { (b : Key) → free_in users.new b + (if key_eq used b && (not (key_eq user b) && not (knows users.old b user)) then 1 else 0)
+        ≡ free_in users.old b }
+{
+    let pair = Pair { user, used };
+    if !user.is(used) && !users.has(pair) {
+        come(users, pair);
+    }
+}
+
+/// An element uses what is listed, itself left out. Room is spent on what it didn't use before.
 pub fn begin_uses(users: &mut UserIndex, user: Key, listed: &[Key])
-    requires { (b : Key) → times_listed listed.now b ≤ free_in users.old b }
+    requires { (b : Key) → times_unknown users.old user listed.now b ≤ free_in users.old b }
     ensures users { (a b : Key)
         → lists_key (users_in users.new b) a
         ≡ (lists_key listed.now b && (key_eq user a && not (key_eq user b))) || lists_key (users_in users.old b) a }
-    ensures room { (b : Key) → free_in users.old b ≤ free_in users.new b + times_listed listed.now b }
-    ensures no_more { (b : Key) → free_in users.new b ≤ free_in users.old b }
-    ensures spent { (b : Key) → free_in users.new b + (if lists_key listed.now b && (not (key_eq user b) && not (lists_key (users_in users.old b) user))
+    ensures past { (a b : Key)
+        → lists_key (past_in users.new b) a
+        ≡ lists_key (past_in users.old b) a && not (lists_key listed.now b && (key_eq user a && not (key_eq user b))) }
+    ensures spent { (b : Key) → free_in users.new b + (if lists_key listed.now b && (not (key_eq user b) && not (knows users.old b user))
         then 1 else 0) ≡ free_in users.old b }
 {
     for used in listed {

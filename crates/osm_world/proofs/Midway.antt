@@ -1,8 +1,8 @@
 -- An upload is under way: what was laid by serves what is left of it.
-use Rattle.std.proofs.Common.{◌≡◌, ℕ, ◌+◌, ◌-◌, ◌<◌, ◌≤◌, Bool, true, refl, List, [], ◌∷◌, ◌++◌, length, drop, sym, ap, ◌∙◌, subst, arith, None}
+use Rattle.std.proofs.Common.{◌≡◌, ℕ, ◌+◌, ◌-◌, ◌<◌, ◌≤◌, Bool, true, false, refl, List, [], ◌∷◌, ◌++◌, length, drop, sym, ap, ◌∙◌, subst, arith, None}
 use Rattle.std.specs.Prelude.{Option, if◌then◌else◌}
 use Rattle.std.specs.Option.{ForSome}
-use Rattle.std.proofs.lemmas.Bool.{eq-eqb, and_from}
+use Rattle.std.proofs.lemmas.Bool.{eq-eqb, and_from, false≢true}
 use Rattle.osm_base.specs.Key.{key_eq}
 use Rattle.osm_base.specs.Place.{Area, Position}
 use Rattle.osm_base.specs.Row.{Row}
@@ -19,7 +19,8 @@ use Rattle.history_store.specs.Store.{free}
 use Rattle.reverse_refs.specs.Users.{free_in}
 use Rattle.tile_grid.specs.Cell.{cell_of}
 use Rattle.tile_grid.specs.Grid.{free_at, same_cell}
-use Rattle.indexed_map.specs.Indexed.{Stand, HasRoom, times_listed}
+use Rattle.indexed_map.specs.Ever.{has_used}
+use Rattle.indexed_map.specs.Indexed.{Stand, HasRoom, times_listed, times_new}
 use Rattle.indexed_map.specs.Placed.{enters}
 use Rattle.osm_world.specs.Beds.{first_ids, content_of_op, place_of_op, makes, version_of_op, AreBedsOf, made, begun, entered}
 use Rattle.osm_world.specs.World.{Runs}
@@ -37,7 +38,7 @@ pub record IsMidway (E : Elements) (r : ChangesetRecord) (c t : ℕ) (all : List
   pub beds : AreBedsOf row.items (first_ids w.elements) rest bs
   pub keys : length rest ≤ row.free
   pub versions : (k : Key) → made bs k ≤ free w.versions k
-  pub users : (b : Key) → begun bs b ≤ free_in w.users b
+  pub users : (b : Key) → begun w.elements bs b ≤ free_in w.users b
   pub cells : (p : Position) → entered rest p ≤ free_at w.cells p
   pub work : length rest ≤ kept.free
   pub going : Goes E r c t all w.elements kept.kept area rest row.items
@@ -49,7 +50,7 @@ pub first :
     → AreBedsOf [] (first_ids w.elements) all beds
     → length all ≤ keys.free
     → ((k : Key) → made beds k ≤ free w.versions k)
-    → ((b : Key) → begun beds b ≤ free_in w.users b)
+    → ((b : Key) → begun w.elements beds b ≤ free_in w.users b)
     → ((p : Position) → entered all p ≤ free_at w.cells p)
     → length all ≤ kept.free
     → IsMidway w.elements kept.kept c t all w kept None keys (drop (length keys.items) beds) rest
@@ -98,16 +99,29 @@ pub room_for :
     → rest ≡ o ∷ ops
     → beds ≡ b ∷ bs
     → ((k : Key) → made beds k ≤ free w.versions k)
-    → ((x : Key) → begun beds x ≤ free_in w.users x)
+    → ((x : Key) → begun w.elements beds x ≤ free_in w.users x)
     → ((p : Position) → entered rest p ≤ free_at w.cells p)
     → HasRoom w b.key b.listed (place_of_op o)
 room_for w b bs beds o ops rest here bed versions users cells = record {
   version = let own : made beds b.key ≡ 1 + made bs b.key
       = ap (λ (l : List Bed). made l b.key) bed ∙ ap (λ (p : Bool). (if p then 1 else 0) + made bs b.key) (key_eq-refl b.key) in
       omega (arith, own, versions b.key);
-  users = λ x. let own : begun beds x ≡ times_listed b.listed x + begun bs x = ap (λ (l : List Bed). begun l x) bed in omega (arith, own, users x);
+  users = λ x. let own : begun w.elements beds x ≡ times_new w.elements b.key b.listed x + begun w.elements bs x = ap (λ (l : List Bed). begun w.elements l x) bed in omega (arith, own, users x);
   cell = cell_for w o ops (subst (λ (l : List Op). (p : Position) → entered l p ≤ free_at w.cells p) here cells);
 }
+
+-- what was used is used still by some version, so what is begun grows less
+begun_less : (E F : Elements) (bs : List Bed) (x : Key) → ((a b : Key) → has_used E a b ≡ true → has_used F a b ≡ true) → begun F bs x ≤ begun E bs x
+begun_less E F [] x ever = omega arith
+begun_less E F (b ∷ bs) x ever =
+    let less : times_new F b.key b.listed x ≤ times_new E b.key b.listed x = new_less (has_used E b.key x) (has_used F b.key x) (times_listed b.listed x) (ever b.key x) in
+    let later : begun F bs x ≤ begun E bs x = begun_less E F bs x ever in
+    omega (arith, less, later)
+  where
+    new_less : (p q : Bool) (n : ℕ) → (p ≡ true → q ≡ true) → (if q then 0 else n) ≤ (if p then 0 else n)
+    new_less p true n still = omega arith
+    new_less true false n still = absurd (false≢true (still refl))
+    new_less false false n still = omega arith
 
 -- after the next operation
 pub next :
@@ -120,18 +134,19 @@ pub next :
     → touched ≡ (if makes w.elements b.key o then touched_area w.elements b.key (content_of_op keys.items o) else None)
     → wide ≡ join_areas area touched
     → ((k : Key) → free w.versions k ≤ free v.versions k + (if key_eq k b.key then 1 else 0))
-    → ((x : Key) → free_in w.users x ≤ free_in v.users x + times_listed b.listed x)
+    → ((x : Key) → free_in w.users x ≤ free_in v.users x + times_new w.elements b.key b.listed x)
     → ((p : Position) → free_at w.cells p ≤ free_at v.cells p + (if enters p (place_of_op o) then 1 else 0))
+    → ((x y : Key) → has_used w.elements x y ≡ true → has_used v.elements x y ≡ true)
     → kept.free ≤ entered_in.free + 1
     → IsMidway E r c t all v entered_in wide more bs ops
-next E r c t all w v kept entered_in area wide touched keys more b bs o ops accepted mid pushed elements entered_is touches widened versions users cells work =
+next E r c t all w v kept entered_in area wide touched keys more b bs o ops accepted mid pushed elements entered_is touches widened versions users cells ever work =
     let on = λ (final : Progress) (runs : Runs E c t all final). goes_on E r c t all final w.elements v.elements kept.kept entered_in.kept area wide touched o ops keys.items b (mid.going final runs) mid.beds.0 elements entered_is touches widened in
     let N : Row Key → Type 0 = λ more. IsMidway E r c t all v entered_in wide more bs ops in
     subst N (sym pushed) (record {
       beds = beds_next keys.items w.elements v.elements o ops b bs mid.beds (on accepted.0 accepted.1).ids;
       keys = omega (arith, mid.keys);
       versions = λ k. omega (arith, mid.versions k, versions k);
-      users = λ x. omega (arith, mid.users x, users x);
+      users = λ x. omega (arith, mid.users x, users x, begun_less w.elements v.elements bs x ever);
       cells = λ p. omega (arith, mid.cells p, cells p);
       work = omega (arith, mid.work, work);
       going = λ final runs. (on final runs).going;

@@ -18,7 +18,7 @@ use Rattle.osm_model.specs.Names.{member_with_id}
 use Rattle.history_store.specs.Store.{free}
 use Rattle.reverse_refs.specs.Users.{free_in}
 use Rattle.tile_grid.specs.Grid.{free_at}
-use Rattle.indexed_map.specs.Indexed.{Stand, times_listed}
+use Rattle.indexed_map.specs.Indexed.{Stand, times_new}
 use Rattle.indexed_map.specs.Placed.{enters}
 use Rattle.osm_world.specs.Beds.{first_ids, place_of_op, IsBedOf, AreBedsOf, made, begun, entered}
 use Rattle.osm_world.specs.declared.beds.Bed.{Bed}
@@ -62,9 +62,9 @@ pub made_more : (bs : List Bed) (b : Bed) (k : Key) → made (bs ++ b ∷ []) k 
 made_more [] b k = omega arith
 made_more (c ∷ bs) b k = let h = made_more bs b k in omega (arith, h)
 
-pub begun_more : (bs : List Bed) (b : Bed) (x : Key) → begun (bs ++ b ∷ []) x ≡ begun bs x + times_listed b.listed x
-begun_more [] b x = omega arith
-begun_more (c ∷ bs) b x = let h = begun_more bs b x in omega (arith, h)
+pub begun_more : (E : Elements) (bs : List Bed) (b : Bed) (x : Key) → begun E (bs ++ b ∷ []) x ≡ begun E bs x + times_new E b.key b.listed x
+begun_more E [] b x = omega arith
+begun_more E (c ∷ bs) b x = let h = begun_more E bs b x in omega (arith, h)
 
 -- what was laid by for the operations before a place, and what is promised for it
 pub record IsPlanned (E : Elements) (w : Stand) (ids : FirstIds) (ks : List Key) (bs : List Bed) (ops : List Op) (i : ℕ) : Type 0 where
@@ -74,7 +74,7 @@ pub record IsPlanned (E : Elements) (w : Stand) (ids : FirstIds) (ks : List Key)
   pub long : length bs ≡ i
   pub beds : AreBedsOf [] (first_ids E) (take i ops) bs
   pub versions : (k : Key) → made bs k ≤ free w.versions k
-  pub users : (b : Key) → begun bs b ≤ free_in w.users b
+  pub users : (b : Key) → begun E bs b ≤ free_in w.users b
   pub cells : (p : Position) → entered (take i ops) p ≤ free_at w.cells p
 
 entered_more : (ops : List Op) (o : Op) (p : Position) → entered (ops ++ o ∷ []) p ≡ entered ops p + (if enters p (place_of_op o) then 1 else 0)
@@ -92,7 +92,7 @@ pub planned_more :
     → all ≡ bs ++ b ∷ []
     → IsBedOf ks ids o b
     → ((k : Key) → free v.versions k ≡ free w.versions k + (if key_eq k b.key then 1 else 0))
-    → ((x : Key) → free_in v.users x ≡ free_in w.users x + times_listed b.listed x)
+    → ((x : Key) → free_in v.users x ≡ free_in w.users x + times_new w.elements b.key b.listed x)
     → ((p : Position) → free_at v.cells p ≡ free_at w.cells p + (if enters p (place_of_op o) then 1 else 0))
     → IsPlanned E v next more all ops (i + 1)
 planned_more E w v ids next ks more bs all ops i o b within here p same_is next_is more_is all_is bed versions users cells =
@@ -111,7 +111,10 @@ planned_more E w v ids next ks more bs all ops i o b within here p same_is next_
       long = ap length all_is ∙ length-append bs (b ∷ []) ∙ ap (λ (n : ℕ). n + 1) p.long;
       beds = subst (λ (cs : List Bed). fits (take (i + 1) ops) cs) (sym all_is) (subst (λ (os : List Op). fits os (bs ++ b ∷ [])) (sym cut) (beds_more [] (first_ids E) (take i ops) bs o b short p.beds own));
       versions = λ k. let more : made all k ≡ made bs k + (if key_eq k b.key then 1 else 0) = ap (λ (cs : List Bed). made cs k) all_is ∙ made_more bs b k in omega (arith, more, versions k, p.versions k);
-      users = λ x. let more : begun all x ≡ begun bs x + times_listed b.listed x = ap (λ (cs : List Bed). begun cs x) all_is ∙ begun_more bs b x in omega (arith, more, users x, p.users x);
+      users = λ x.
+          let more : begun E all x ≡ begun E bs x + times_new E b.key b.listed x = ap (λ (cs : List Bed). begun E cs x) all_is ∙ begun_more E bs b x in
+          let same_new : times_new w.elements b.key b.listed x ≡ times_new E b.key b.listed x = ap (λ (F : Elements). times_new F b.key b.listed x) p.same in
+          omega (arith, more, same_new, users x, p.users x);
       cells = λ q. let more : entered (take (i + 1) ops) q ≡ entered (take i ops) q + (if enters q (place_of_op o) then 1 else 0) = ap (λ (os : List Op). entered os q) cut ∙ entered_more (take i ops) o q in omega (arith, more, cells q, p.cells q);
     }
   where

@@ -16,7 +16,7 @@ use Rattle.osm_change.specs.declared.operations.FirstIds.{FirstIds}
 use Rattle.osm_change.specs.declared.operations.Op.{Op}
 use Rattle.osm_change.specs.declared.operations.Op.TheVariants.{Create, Modify, Delete}
 use Rattle.osm_model.specs.Names.{with_ids}
-use Rattle.indexed_map.specs.Indexed.{IsListOf, is_unused, times_listed}
+use Rattle.indexed_map.specs.Indexed.{IsListOf, is_unused, times_new}
 use Rattle.indexed_map.specs.Placed.{enters}
 use Rattle.osm_world.specs.declared.beds.Bed.{Bed}
 use Rattle.osm_world.specs.declared.beds.Places.{Places}
@@ -106,10 +106,10 @@ abbrev pub made : List Bed → Key → ℕ
 made [] k = 0
 made (b ∷ bs) k = (if key_eq k b.key then 1 else 0) + made bs k
 
--- how many uses of an element they may begin
-abbrev pub begun : List Bed → Key → ℕ
-begun [] x = 0
-begun (b ∷ bs) x = times_listed b.listed x + begun bs x
+-- how many of them list an element that no version of theirs lists so far
+abbrev pub begun : Elements → List Bed → Key → ℕ
+begun E [] x = 0
+begun E (b ∷ bs) x = times_new E b.key b.listed x + begun E bs x
 
 -- how many nodes operations may put into the cell of a position
 abbrev pub entered : List Op → Position → ℕ

@@ -65,7 +65,7 @@ pub record HasUploadRoom (s : Stores) (laid : Laid) (c : ℕ) (ops : List Op) : 
   pub unused : laid.keys.items ≡ []
   pub keys : length ops ≤ laid.keys.free
   pub versions : (k : Key) → made laid.beds k ≤ free s.map.versions k
-  pub users : (b : Key) → begun laid.beds b ≤ free_in s.map.users b
+  pub users : (b : Key) → begun s.map.elements laid.beds b ≤ free_in s.map.users b
   pub cells : (p : Position) → entered ops p ≤ free_at s.map.cells p
   pub work : length ops ≤ slice_index (rooms s.changesets.items) (c - 1)
 

@@ -16,7 +16,7 @@ ghost use Rattle.osm_model.specs.Names.{with_ids};
 ghost use Rattle.history_store.specs.Store.{free};
 ghost use Rattle.reverse_refs.specs.Users.{free_in};
 ghost use Rattle.tile_grid.specs.Grid.{free_at};
-ghost use Rattle.indexed_map.specs.Indexed.{times_listed};
+ghost use Rattle.indexed_map.specs.Indexed.{times_new};
 ghost use Rattle.indexed_map.specs.Placed.{enters};
 ghost use Rattle.osm_world.specs.declared.beds.Bed.{Bed};
 ghost use Rattle.osm_world.specs.Beds.{first_ids, place_in, place_of_op, HasPlaces, IsBedOf, IsLaidFor, AreBedsOf, made, begun, entered};
@@ -137,7 +137,7 @@ pub fn lay_all(alloc: Global, map: &mut IndexedMap, operations: &[Op]) -> Result
     ensures unused { IfOk result (λ laid. laid.keys.items ≡ []) }
     ensures keys { IfOk result (λ laid. length operations.now ≤ laid.keys.free) }
     ensures versions { IfOk result (λ laid. (k : Key) → made laid.beds k ≤ free map.new.versions k) }
-    ensures users { IfOk result (λ laid. (b : Key) → begun laid.beds b ≤ free_in map.new.users b) }
+    ensures users { IfOk result (λ laid. (b : Key) → begun map.new.elements laid.beds b ≤ free_in map.new.users b) }
     ensures cells { OnOk result ((p : Position) → entered operations.now p ≤ free_at map.new.cells p) }
 {
     let mut ids = first_ids(map);
@@ -176,7 +176,7 @@ fn lay_next(
         × (keys.new.items ≡ keys.old.items ++ bed.key ∷ [])
         × (beds.new.items ≡ beds.old.items ++ bed ∷ [])
         × ((k : Key) → free map.new.versions k ≡ free map.old.versions k + (if key_eq k bed.key then 1 else 0))
-        × ((b : Key) → free_in map.new.users b ≡ free_in map.old.users b + times_listed bed.listed b)
+        × ((b : Key) → free_in map.new.users b ≡ free_in map.old.users b + times_new map.old.elements bed.key bed.listed b)
         × ((p : Position) → free_at map.new.cells p ≡ free_at map.old.cells p + (if enters p (place_of_op operation.now) then 1 else 0))) }
 {
     let next = ids.after(operation)?;
@@ -192,7 +192,7 @@ fn lay_next(
 fn promise_for(alloc: Global, map: &mut IndexedMap, bed: &Bed, operation: &Op) -> Result<(), Memory>
     ensures same { map.new.elements ≡ map.old.elements }
     ensures versions { OnOk result ((k : Key) → free map.new.versions k ≡ free map.old.versions k + (if key_eq k bed.now.key then 1 else 0)) }
-    ensures users { OnOk result ((b : Key) → free_in map.new.users b ≡ free_in map.old.users b + times_listed bed.now.listed b) }
+    ensures users { OnOk result ((b : Key) → free_in map.new.users b ≡ free_in map.old.users b + times_new map.old.elements bed.now.key bed.now.listed b) }
     ensures cells { OnOk result ((p : Position)
         → free_at map.new.cells p ≡ free_at map.old.cells p + (if enters p (place_of_op operation.now) then 1 else 0)) }
 {

@@ -2,7 +2,7 @@
 //!
 //! An entry is applied operation by operation over the present world, which tells then which uses
 //! end and begin and whether a delete is skipped. So what is laid by can be read off the entry.
-ghost use Rattle.std.specs.Prelude.{◌≡◌, ℕ, ◌+◌, ◌-◌, ◌≤◌, ◌<◌, ◌∷◌, ◌++◌, [], length, map, drop, Some, None, if◌then◌else◌};
+ghost use Rattle.std.specs.Prelude.{◌≡◌, ℕ, true, ◌+◌, ◌-◌, ◌≤◌, ◌<◌, ◌∷◌, ◌++◌, [], length, map, drop, Some, None, if◌then◌else◌};
 ghost use Rattle.osm_base.specs.Key.{key_eq};
 ghost use Rattle.osm_base.specs.Place.{Position};
 ghost use Rattle.osm_base.specs.declared.keys.Key.{Key};
@@ -14,7 +14,8 @@ ghost use Rattle.osm_model.specs.declared.uploads.Progress.{Progress};
 ghost use Rattle.history_store.specs.Store.{free};
 ghost use Rattle.reverse_refs.specs.Users.{free_in};
 ghost use Rattle.tile_grid.specs.Grid.{free_at};
-ghost use Rattle.indexed_map.specs.Indexed.{times_listed, IsListOf, HasRoom};
+ghost use Rattle.indexed_map.specs.Ever.{has_used};
+ghost use Rattle.indexed_map.specs.Indexed.{times_new, IsListOf, HasRoom};
 ghost use Rattle.indexed_map.specs.Placed.{enters};
 ghost use Rattle.osm_world.specs.Beds.{first_ids, content_of_op, tags_of_op, place_of_op, makes, version_of, version_of_op, HasPlaces, HasPlacesFor, AreBedsOf, made, begun, entered};
 ghost use Rattle.osm_world.specs.World.{Runs, IsDone};
@@ -117,9 +118,10 @@ fn make_version(
           free = changeset.old.free - 1;
         } }
     ensures versions { (k : Key) → free map.new.versions k + (if key_eq k key then 1 else 0) ≡ free map.old.versions k }
-    ensures users { (b : Key) → free_in map.old.users b ≤ free_in map.new.users b + times_listed listed.now b }
+    ensures users { (b : Key) → free_in map.old.users b ≤ free_in map.new.users b + times_new map.old.elements key listed.now b }
     ensures cells { (p : Position)
         → free_at map.old.cells p ≤ free_at map.new.cells p + (if enters p (new_position fresh.content) then 1 else 0) }
+    ensures ever { (a b : Key) → has_used map.old.elements a b ≡ true → has_used map.new.elements a b ≡ true }
 {
     let number = map.count(key) + 1;
     let touched = map.touched_area(key, &fresh.content);
@@ -184,8 +186,9 @@ fn apply_one(
         } else changeset.old.kept) }
     ensures id { changeset.new.id ≡ changeset.old.id }
     ensures versions { (k : Key) → free map.old.versions k ≤ free map.new.versions k + (if key_eq k bed.key then 1 else 0) }
-    ensures users { (b : Key) → free_in map.old.users b ≤ free_in map.new.users b + times_listed bed.listed b }
+    ensures users { (b : Key) → free_in map.old.users b ≤ free_in map.new.users b + times_new map.old.elements bed.key bed.listed b }
     ensures cells { (p : Position) → free_at map.old.cells p ≤ free_at map.new.cells p + (if enters p (place_of_op operation) then 1 else 0) }
+    ensures ever { (a b : Key) → has_used map.old.elements a b ≡ true → has_used map.new.elements a b ≡ true }
     ensures work { changeset.old.free ≤ changeset.new.free + 1 }
     ensures no_more { changeset.new.free ≤ changeset.old.free }
 {
@@ -228,7 +231,7 @@ pub fn apply_all(
     requires unused { laid.old.keys.items ≡ [] }
     requires keys { length operations ≤ laid.old.keys.free }
     requires versions { (k : Key) → made laid.old.beds k ≤ free map.old.versions k }
-    requires users { (b : Key) → begun laid.old.beds b ≤ free_in map.old.users b }
+    requires users { (b : Key) → begun map.old.elements laid.old.beds b ≤ free_in map.old.users b }
     requires cells { (p : Position) → entered operations p ≤ free_at map.old.cells p }
     requires work { length operations ≤ changeset.old.free }
     ensures done { (final : Progress) → Runs map.old.elements changeset.old.id at operations final

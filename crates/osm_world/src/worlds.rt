@@ -2,10 +2,10 @@
 //!
 //! Whether a user may work on a changeset is asked of the world (`World::own_changeset`), by
 //! uploads and by other commands alike.
-ghost use Rattle.std.specs.Prelude.{◌≡◌, true, Some, None, Ok, Err, MatchOption, MatchResult, IfOk, IfErr, OnOk};
+ghost use Rattle.std.specs.Prelude.{◌≡◌, ◌&&◌, not, true, Some, None, Ok, Err, MatchOption, MatchResult, IfOk, IfErr, OnOk};
 ghost use Rattle.osm_base.specs.Key.{lists_key, IsRising};
 ghost use Rattle.osm_base.specs.declared.keys.Key.{Key};
-ghost use Rattle.osm_element.specs.Elements.{users};
+ghost use Rattle.osm_element.specs.Elements.{uses, users};
 ghost use Rattle.osm_change.specs.Moments.{RefusalHasShownEnd};
 ghost use Rattle.changeset_core.specs.Changeset.{is_open};
 ghost use Rattle.changeset_core.specs.Timely.{IsTimelyMoment, IsTimelyRecord};
@@ -97,26 +97,21 @@ impl World {
         self.stores.map.users(key)
     }
 
-    /// The visible nodes by their cells.
+    /// The nodes by their cells: the visible ones where they lie, and all where a version of them lies.
     pub fn grid(&self) -> &Grid
-        ensures { IsPlaced (state_of self.now).elements result.now }
+        ensures placed { IsPlaced (state_of self.now).elements result.now }
+        ensures ever { IsPlacedEver (state_of self.now).elements result.now }
     {
         self.stores.map.grid()
     }
 
-    /// The elements of which some version lists this one, in order.
-    pub fn users_ever(&self, key: Key) -> UserList<'_>
+    /// The elements of which only earlier versions list this one, in order.
+    pub fn users_past(&self, key: Key) -> UserList<'_>
         ensures rising { IsRising result }
-        ensures each { (user : Key) → lists_key result user ≡ has_used (state_of self.now).elements user key }
+        ensures each { (user : Key) → lists_key result user
+            ≡ has_used (state_of self.now).elements user key && not (uses (state_of self.now).elements user key) }
     {
-        self.stores.map.users_ever(key)
-    }
-
-    /// All nodes by the cells in which a version of them lies.
-    pub fn grid_ever(&self) -> &Grid
-        ensures { IsPlacedEver (state_of self.now).elements result.now }
-    {
-        self.stores.map.grid_ever()
+        self.stores.map.users_past(key)
     }
 
     /// The changesets, the first one first.

@@ -1,2 +1,4 @@
 mod Rows
 mod Counts
+mod Parts
+mod Parted

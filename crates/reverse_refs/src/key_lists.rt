@@ -1,6 +1,7 @@
-//! A list of keys in order, with promised room.
-ghost use Rattle.std.specs.Prelude.{◌≡◌, ◌+◌, ◌-◌, ◌<◌, ◌≤◌, [], false, length, insert, remove, is_ok, if◌then◌else◌, IfSome, IsNone};
+//! A list of keys in two parts, each in order, with promised room.
+ghost use Rattle.std.specs.Prelude.{◌≡◌, ◌+◌, ◌-◌, ◌<◌, ◌≤◌, [], true, false, length, take, drop, insert, remove, is_ok, vec_len, vec_capacity, if◌then◌else◌, IfSome, IsNone};
 ghost use Rattle.osm_base.specs.Key.{lists_key, insert_key, without_key, IsRising};
+ghost use Rattle.reverse_refs.specs.Users.{IsParted};
 
 use osm_base::{Key, Memory};
 use std::alloc::Global;
@@ -14,34 +15,34 @@ fn ahead_of(keys: usize) -> usize {
     if keys <= SHORT { 0 } else { keys / 2 }
 }
 
-/// Keys in order, each once, that are promised room for more. It isn't a `Roomy`, which has no way
-/// to take the item at a place out.
+/// Users in two parts that are promised room for more: the first `present` keys are users now, those
+/// behind them were and left. So one that goes from part to part needs no memory.
 #[derive(Drop)]
 pub struct KeyList {
     keys: Vec<Key>,
+    present: usize,
     free: usize,
 }
 
 impl Model for KeyList {
-    ghost use Rattle.std.specs.Prelude.{◌+◌, ◌≤◌, vec_len, vec_capacity};
-    ghost use Rattle.osm_base.specs.Row.{Row};
-    ghost use Rattle.osm_base.specs.Key.{IsRising};
-    ghost use Rattle.osm_base.specs.declared.keys.Key.{Key};
+    ghost use Rattle.std.specs.Prelude.{◌+◌, ◌≤◌, take, drop, vec_len, vec_capacity};
+    ghost use Rattle.reverse_refs.specs.Users.{UserRow, IsParted};
 
-    ghost Value = { Row Key };
+    ghost Value = { UserRow };
 
-    ghost view = { λ l. record { items = l.keys.items; free = l.free } };
+    ghost view = { λ l. record { present = take l.present l.keys.items; past = drop l.present l.keys.items; free = l.free } };
 
-    ghost invariant = { λ l. IsRising l.keys.items × (vec_len l.keys + l.free ≤ vec_capacity l.keys) };
+    ghost invariant = { λ l. IsParted (take l.present l.keys.items) (drop l.present l.keys.items) × (l.present ≤ vec_len l.keys) × (vec_len l.keys + l.free ≤ vec_capacity l.keys) };
 }
 
 impl KeyList {
     /// No keys, and no room promised. It takes no memory.
     pub fn none(alloc: Global) -> KeyList
-        ensures { result ≡ record { items = []; free = 0 } }
+        ensures { result ≡ record { present = []; past = []; free = 0 } }
     {
         KeyList {
             keys: Vec::new(alloc),
+            present: 0,
             free: 0,
         }
     }
@@ -53,12 +54,20 @@ impl KeyList {
         self.free
     }
 
-    /// The keys, in order.
-    pub fn keys(&self) -> &[Key]
-        ensures keys { result.now ≡ self.now.items }
-        ensures rising { IsRising result.now }
+    /// The keys of now, in order.
+    pub fn present(&self) -> &[Key]
+        ensures keys { result.now ≡ self.now.present }
+        ensures parted { IsParted self.now.present self.now.past }
     {
-        self.keys.as_slice()
+        &self.keys[..self.present]
+    }
+
+    /// The keys that left, in order.
+    pub fn past(&self) -> &[Key]
+        ensures keys { result.now ≡ self.now.past }
+        ensures parted { IsParted self.now.present self.now.past }
+    {
+        &self.keys[self.present..]
     }
 
     /// Promises room for some more keys. Where it takes memory, a short list takes it for no others,
@@ -93,25 +102,99 @@ impl KeyList {
         self.free -= less;
     }
 
-    /// Adds a key where it belongs, on promised room.
+    /// Adds a key where it belongs, on promised room. One that left comes back.
     pub fn add(&mut self, key: Key)
         requires room { 0 < self.old.free }
-        requires absent { lists_key self.old.items key ≡ false }
-        ensures { self.new ≡ record { items = insert_key self.old.items key; free = self.old.free - 1 } }
+        requires absent { lists_key self.old.present key ≡ false }
+        ensures { self.new ≡ record { present = insert_key self.old.present key; past = without_key self.old.past key; free = self.old.free - 1 } }
     {
-        let place = place_of(self.keys.as_slice(), key);
-        let _always = self.keys.insert(place, key).is_ok();
+        take_from_past(&mut self.keys, self.present, key);
+        put_in_present(&mut self.keys, self.present, key);
+        self.present += 1;
         self.free -= 1;
     }
 
-    /// Takes a key out, if it is there. Its room isn't promised.
-    pub fn take_out(&mut self, key: Key)
-        ensures { self.new ≡ record self.old { items = without_key self.old.items key } }
+    /// A key that left comes back. It needs no room.
+    pub fn come_back(&mut self, key: Key)
+        requires { lists_key self.old.past key ≡ true }
+        ensures { self.new ≡ record self.old { present = insert_key self.old.present key; past = without_key self.old.past key } }
     {
-        if let Some(place) = find(self.keys.as_slice(), key) {
-            let _out = self.keys.remove(place);
-        }
+        take_from_past(&mut self.keys, self.present, key);
+        put_in_present(&mut self.keys, self.present, key);
+        self.present += 1;
     }
+
+    /// A key of now leaves.
+    pub fn leave(&mut self, key: Key)
+        requires { lists_key self.old.present key ≡ true }
+        ensures { self.new ≡ record self.old { present = without_key self.old.present key; past = insert_key self.old.past key } }
+    {
+        take_from_present(&mut self.keys, self.present, key);
+        self.present -= 1;
+        put_in_past(&mut self.keys, self.present, key);
+    }
+}
+
+/// Takes a key out from behind the first ones, if it is there.
+fn take_from_past(keys: &mut Vec<Key>, present: usize, key: Key)
+    requires within { present ≤ vec_len keys.old }
+    requires rising { IsRising (drop present keys.old.items) }
+    ensures present { take present keys.new.items ≡ take present keys.old.items }
+    ensures past { drop present keys.new.items ≡ without_key (drop present keys.old.items) key }
+    ensures len { (present ≤ vec_len keys.new) × (vec_len keys.new ≤ vec_len keys.old) }
+    ensures shorter { lists_key (drop present keys.old.items) key ≡ true → vec_len keys.new + 1 ≡ vec_len keys.old }
+    ensures capacity { vec_capacity keys.new ≡ vec_capacity keys.old }
+{
+    if let Some(place) = find(&keys[present..], key) {
+        let _out = keys.remove(present + place);
+    }
+}
+
+/// Puts a key among the first ones.
+fn put_in_present(keys: &mut Vec<Key>, present: usize, key: Key)
+    requires within { present ≤ vec_len keys.old }
+    requires rising { IsRising (take present keys.old.items) }
+    requires room { vec_len keys.old < vec_capacity keys.old }
+    ensures present { take (present + 1) keys.new.items ≡ insert_key (take present keys.old.items) key }
+    ensures past { drop (present + 1) keys.new.items ≡ drop present keys.old.items }
+    ensures len { vec_len keys.new ≡ vec_len keys.old + 1 }
+    ensures capacity { vec_capacity keys.new ≡ vec_capacity keys.old }
+{
+    let place = place_of(&keys[..present], key);
+    let _always = keys.insert(place, key).is_ok();
+}
+
+/// Takes a key out that is one of the first.
+fn take_from_present(keys: &mut Vec<Key>, present: usize, key: Key)
+    requires within { present ≤ vec_len keys.old }
+    requires rising { IsRising (take present keys.old.items) }
+    requires listed { lists_key (take present keys.old.items) key ≡ true }
+    ensures present { take (present - 1) keys.new.items ≡ without_key (take present keys.old.items) key }
+    ensures past { drop (present - 1) keys.new.items ≡ drop present keys.old.items }
+    ensures some { 0 < present }
+    ensures len { vec_len keys.new + 1 ≡ vec_len keys.old }
+    ensures capacity { vec_capacity keys.new ≡ vec_capacity keys.old }
+{
+    match find(&keys[..present], key) {
+        Some(place) => {
+            let _out = keys.remove(place);
+        }
+        None => unreachable!(),
+    }
+}
+
+/// Puts a key behind the first ones.
+fn put_in_past(keys: &mut Vec<Key>, present: usize, key: Key)
+    requires within { present ≤ vec_len keys.old }
+    requires rising { IsRising (drop present keys.old.items) }
+    requires room { vec_len keys.old < vec_capacity keys.old }
+    ensures present { take present keys.new.items ≡ take present keys.old.items }
+    ensures past { drop present keys.new.items ≡ insert_key (drop present keys.old.items) key }
+    ensures len { vec_len keys.new ≡ vec_len keys.old + 1 }
+    ensures capacity { vec_capacity keys.new ≡ vec_capacity keys.old }
+{
+    let place = place_of(&keys[present..], key);
+    let _always = keys.insert(present + place, key).is_ok();
 }
 
 /// Where a key goes in a list that is in order, found by halving.
@@ -127,6 +210,7 @@ fn place_of(sorted: &[Key], key: Key) -> usize
 fn find(sorted: &[Key], key: Key) -> Option<usize>
     requires { IsRising sorted.now }
     ensures place { IfSome result (λ place. (place < length sorted.now) × (remove sorted.now place ≡ without_key sorted.now key)) }
+    ensures absent { IsNone result → lists_key sorted.now key ≡ false }
     ensures none { IsNone result → without_key sorted.now key ≡ sorted.now }
 {
     let place = sorted.partition_point(|other| other.is_before(key));

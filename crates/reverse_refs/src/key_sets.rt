@@ -1,7 +1,8 @@
-//! A set of keys in order, with promised room, that is small where it has at most one.
-ghost use Rattle.std.specs.Prelude.{◌≡◌, ◌+◌, ◌-◌, ◌<◌, ◌≤◌, [], ◌∷◌, false, OnOk, OnErr, IfOk, IfSome};
+//! The users of one element, now and before, with promised room: small where there is at most one.
+ghost use Rattle.std.specs.Prelude.{◌≡◌, ◌+◌, ◌-◌, ◌<◌, ◌≤◌, [], ◌∷◌, true, false, OnOk, OnErr, IfOk, IfSome};
 ghost use Rattle.osm_base.specs.Key.{lists_key, insert_key, without_key, IsRising};
 ghost use Rattle.reverse_refs.specs.Held.{row_held};
+ghost use Rattle.reverse_refs.specs.Users.{IsParted};
 
 use crate::key_lists::KeyList;
 use crate::user_lists::UserList;
@@ -10,18 +11,20 @@ use std::alloc::Global;
 use std::marker::Model;
 use std::mem::size_of;
 
-/// What a set holds. Most sets have one key, which stands here in its parts: the kind takes no room
-/// of its own beside the tag. A list is boxed, so that those aren't made larger by it.
+/// What a set holds. Most sets have one key, of now or, where its user left, of before, which stands
+/// here in its parts: the kind takes no room of its own beside the tag. A list is boxed, so that
+/// those aren't made larger by it.
 #[derive(Drop)]
 enum Held {
     Nothing,
     Promised,
     One { kind: Kind, id: u64 },
+    Left { kind: Kind, id: u64 },
     Many(Box<KeyList>),
 }
 
-/// Keys in order, each once, that are promised room for more. Memory is taken where keys and
-/// promises together are more than one.
+/// Users of now and users that left, each in order and once, that are promised room for more. Memory
+/// is taken where keys and promises together are more than one.
 #[derive(Drop)]
 pub struct KeySet {
     held: Held,
@@ -30,37 +33,48 @@ pub struct KeySet {
 const _: () = prove!(size_of::<KeySet>() == 16);
 
 impl Model for KeySet {
-    ghost use Rattle.osm_base.specs.Row.{Row};
-    ghost use Rattle.osm_base.specs.Key.{IsRising};
-    ghost use Rattle.osm_base.specs.declared.keys.Key.{Key};
-    ghost use Rattle.reverse_refs.specs.Held.{row_held};
+    ghost use Rattle.reverse_refs.specs.Users.{UserRow, IsParted};
 
-    ghost Value = { Row Key };
+    ghost Value = { UserRow };
+
+    ghost use Rattle.reverse_refs.specs.Held.{row_held};
 
     ghost view = { λ s. row_held s.held };
 
-    ghost invariant = { λ s. IsRising (row_held s.held).items };
+    ghost invariant = { λ s. IsParted (row_held s.held).present (row_held s.held).past };
 }
 
 impl KeySet {
     /// No keys, and no room promised. It takes no memory.
     pub fn none() -> KeySet
-        ensures { result ≡ record { items = []; free = 0 } }
+        ensures { result ≡ record { present = []; past = []; free = 0 } }
     {
         KeySet {
             held: Held::Nothing,
         }
     }
 
-    /// The keys, in order.
-    pub fn keys(&self) -> UserList<'_>
-        ensures keys { result ≡ self.now.items }
-        ensures rising { IsRising result }
+    /// The users of now, in order.
+    pub fn present(&self) -> UserList<'_>
+        ensures keys { result ≡ self.now.present }
+        ensures parted { IsParted self.now.present self.now.past }
     {
         match &self.held {
-            Held::Nothing | Held::Promised => UserList::none(),
+            Held::Nothing | Held::Promised | Held::Left { .. } => UserList::none(),
             Held::One { kind, id } => UserList::one(key_of(*kind, *id)),
-            Held::Many(list) => UserList::listed(list.keys()),
+            Held::Many(list) => UserList::listed(list.present()),
+        }
+    }
+
+    /// The users that left, in order.
+    pub fn past(&self) -> UserList<'_>
+        ensures keys { result ≡ self.now.past }
+        ensures parted { IsParted self.now.present self.now.past }
+    {
+        match &self.held {
+            Held::Nothing | Held::Promised | Held::One { .. } => UserList::none(),
+            Held::Left { kind, id } => UserList::one(key_of(*kind, *id)),
+            Held::Many(list) => UserList::listed(list.past()),
         }
     }
 
@@ -76,6 +90,10 @@ impl KeySet {
                 let key = key_of(*kind, *id);
                 self.held = Held::Many(list_of(alloc, key, more)?);
             }
+            Held::Left { kind, id } => {
+                let key = key_of(*kind, *id);
+                self.held = Held::Many(list_of_left(alloc, key, more)?);
+            }
             Held::Many(list) => list.promise(more)?,
         }
         Ok(())
@@ -86,7 +104,7 @@ impl KeySet {
         ensures { self.new ≡ record self.old { free = 0 } }
     {
         match &mut self.held {
-            Held::Nothing | Held::One { .. } => {}
+            Held::Nothing | Held::One { .. } | Held::Left { .. } => {}
             Held::Promised => self.held = Held::Nothing,
             Held::Many(list) => list.forget(),
         }
@@ -99,7 +117,7 @@ impl KeySet {
         ensures { self.new ≡ record self.old { free = self.old.free - less } }
     {
         match &mut self.held {
-            Held::Nothing | Held::One { .. } => {}
+            Held::Nothing | Held::One { .. } | Held::Left { .. } => {}
             Held::Promised => {
                 if less > 0 {
                     self.held = Held::Nothing;
@@ -110,33 +128,41 @@ impl KeySet {
         self.shrink();
     }
 
-    /// Adds a key where it belongs, on promised room.
+    /// Adds a user where it belongs, on promised room. One that left comes back.
     pub fn add(&mut self, key: Key)
         requires room { 0 < self.old.free }
-        requires absent { lists_key self.old.items key ≡ false }
-        ensures { self.new ≡ record { items = insert_key self.old.items key; free = self.old.free - 1 } }
+        requires absent { lists_key self.old.present key ≡ false }
+        ensures { self.new ≡ record { present = insert_key self.old.present key; past = without_key self.old.past key; free = self.old.free - 1 } }
     {
         match &mut self.held {
-            Held::Nothing | Held::One { .. } => unreachable!(),
+            Held::Nothing | Held::One { .. } | Held::Left { .. } => unreachable!(),
             Held::Promised => self.held = one(key),
             Held::Many(list) => list.add(key),
         }
     }
 
-    /// Takes a key out, if it is there. Its room isn't promised.
-    pub fn take_out(&mut self, key: Key)
-        ensures { self.new ≡ record self.old { items = without_key self.old.items key } }
+    /// A user that left comes back. It needs no room.
+    pub fn come_back(&mut self, key: Key)
+        requires { lists_key self.old.past key ≡ true }
+        ensures { self.new ≡ record self.old { present = insert_key self.old.present key; past = without_key self.old.past key } }
     {
         match &mut self.held {
-            Held::Nothing | Held::Promised => {}
-            Held::One { kind, id } => {
-                if key_of(*kind, *id).is(key) {
-                    self.held = Held::Nothing;
-                }
-            }
-            Held::Many(list) => list.take_out(key),
+            Held::Nothing | Held::Promised | Held::One { .. } => unreachable!(),
+            Held::Left { .. } => self.held = one(key),
+            Held::Many(list) => list.come_back(key),
         }
-        self.shrink();
+    }
+
+    /// A user of now leaves.
+    pub fn leave(&mut self, key: Key)
+        requires { lists_key self.old.present key ≡ true }
+        ensures { self.new ≡ record self.old { present = without_key self.old.present key; past = insert_key self.old.past key } }
+    {
+        match &mut self.held {
+            Held::Nothing | Held::Promised | Held::Left { .. } => unreachable!(),
+            Held::One { .. } => self.held = left(key),
+            Held::Many(list) => list.leave(key),
+        }
     }
 
     /// Gives the memory of a list back that can do without.
@@ -158,11 +184,21 @@ fn key_of(kind: Kind, id: u64) -> Key
     Key { kind, id }
 }
 
-/// One key, in its parts.
+/// One user of now, in its parts.
 fn one(key: Key) -> Held
-    ensures { row_held result ≡ record { items = key ∷ []; free = 0 } }
+    ensures { row_held result ≡ record { present = key ∷ []; past = []; free = 0 } }
 {
     Held::One {
+        kind: key.kind,
+        id: key.id,
+    }
+}
+
+/// One user that left, in its parts.
+fn left(key: Key) -> Held
+    ensures { row_held result ≡ record { present = []; past = key ∷ []; free = 0 } }
+{
+    Held::Left {
         kind: key.kind,
         id: key.id,
     }
@@ -172,17 +208,18 @@ fn one(key: Key) -> Held
 fn without_list(list: &KeyList) -> Option<Held>
     ensures { IfSome result (λ less. row_held less ≡ list.now) }
 {
-    match (list.keys(), list.free()) {
-        ([], 0) => Some(Held::Nothing),
-        ([], 1) => Some(Held::Promised),
-        ([key], 0) => Some(one(*key)),
+    match (list.present(), list.past(), list.free()) {
+        ([], [], 0) => Some(Held::Nothing),
+        ([], [], 1) => Some(Held::Promised),
+        ([key], [], 0) => Some(one(*key)),
+        ([], [key], 0) => Some(left(*key)),
         _ => None,
     }
 }
 
 /// No keys, and room for some.
 fn room_for(alloc: Global, more: usize) -> Result<Held, Memory>
-    ensures { IfOk result (λ made. row_held made ≡ record { items = []; free = more }) }
+    ensures { IfOk result (λ made. row_held made ≡ record { present = []; past = []; free = more }) }
 {
     match more {
         0 => Ok(Held::Nothing),
@@ -193,7 +230,7 @@ fn room_for(alloc: Global, more: usize) -> Result<Held, Memory>
 
 /// A list without keys, with room for those that were promised and some more.
 fn roomy_list(alloc: Global, promised: usize, more: usize) -> Result<Box<KeyList>, Memory>
-    ensures { IfOk result (λ made. made.value ≡ record { items = []; free = promised + more }) }
+    ensures { IfOk result (λ made. made.value ≡ record { present = []; past = []; free = promised + more }) }
 {
     let Some(room) = promised.checked_add(more) else {
         return Err(Memory);
@@ -203,11 +240,20 @@ fn roomy_list(alloc: Global, promised: usize, more: usize) -> Result<Box<KeyList
     Ok(list)
 }
 
-/// A list of one key, with room for some more.
+/// A list of one user of now, with room for some more.
 fn list_of(alloc: Global, key: Key, more: usize) -> Result<Box<KeyList>, Memory>
-    ensures { IfOk result (λ made. made.value ≡ record { items = key ∷ []; free = more }) }
+    ensures { IfOk result (λ made. made.value ≡ record { present = key ∷ []; past = []; free = more }) }
 {
     let mut list = roomy_list(alloc, 1, more)?;
     list.add(key);
+    Ok(list)
+}
+
+/// A list of one user that left, with room for some more.
+fn list_of_left(alloc: Global, key: Key, more: usize) -> Result<Box<KeyList>, Memory>
+    ensures { IfOk result (λ made. made.value ≡ record { present = []; past = key ∷ []; free = more }) }
+{
+    let mut list = list_of(alloc, key, more)?;
+    list.leave(key);
     Ok(list)
 }

@@ -1,4 +1,5 @@
-//! Whether the nodes of each cell are those that lie there on the plain map.
+//! Whether the nodes of each cell are those that lie there on the plain map, and those that ever lay
+//! there.
 use osm_base::{Box7, Coord, Key, Kind, Memory};
 use osm_element::{Content, Elements, Version};
 use osm_world::World;
@@ -34,8 +35,12 @@ fn place_of(at: Coord, id: u64) -> Lying {
 pub struct Cells {
     /// The visible nodes, by id.
     visible: Vec<u64>,
+    /// The nodes that were ever visible, by id.
+    seen: Vec<u64>,
     /// The visible nodes, by cell and id.
     now: Vec<Lying>,
+    /// The nodes once in each cell that they were ever in, by cell and id.
+    lain: Vec<Lying>,
     /// Each cell once that a node was ever in, with 0 for its id.
     ever: Vec<Lying>,
 }
@@ -44,13 +49,17 @@ impl Cells {
     pub fn of(alloc: Global, elements: &Elements) -> Result<Cells, Memory> {
         let mut cells = Cells {
             visible: Vec::new(alloc),
+            seen: Vec::new(alloc),
             now: Vec::new(alloc),
+            lain: Vec::new(alloc),
             ever: Vec::new(alloc),
         };
         for id in 0..elements.next_id(Kind::Node) {
             cells.note(elements, id)?;
         }
         cells.now.sort_unstable();
+        cells.lain.sort_unstable();
+        cells.lain.dedup();
         cells.ever.sort_unstable();
         cells.ever.dedup();
         Ok(cells)
@@ -65,12 +74,16 @@ impl Cells {
             self.now.push(place_of(at, id))?;
             self.visible.push(id)?;
         }
-        self.note_versions(elements.history(node))
+        self.note_versions(id, elements.history(node))
     }
 
-    fn note_versions(&mut self, history: &[Version]) -> Result<(), Memory> {
+    fn note_versions(&mut self, id: u64, history: &[Version]) -> Result<(), Memory> {
+        if !history.is_empty() {
+            self.seen.push(id)?;
+        }
         for version in history {
             if let Some(Content::Node(at)) = version.content() {
+                self.lain.push(place_of(*at, id))?;
                 self.ever.push(place_of(*at, 0))?;
             }
         }
@@ -89,7 +102,7 @@ impl Cells {
     }
 }
 
-/// The nodes of each cell that a node was ever in, and those of the whole globe.
+/// The nodes of each cell that a node was ever in, and those of the whole globe, of now and of ever.
 pub fn are_cells_same(alloc: Global, cells: &Cells, world: &World) -> Result<bool, Memory> {
     Ok(is_globe_same(alloc, cells, world)? && is_each_cell_same(alloc, cells, world)?)
 }
@@ -98,7 +111,11 @@ fn is_globe_same(alloc: Global, cells: &Cells, world: &World) -> Result<bool, Me
     match Box7::new(-1_800_000_000, -900_000_000, 1_800_000_000, 900_000_000) {
         Ok(globe) => {
             let ids = world.grid().rows_of(alloc, &globe)?;
-            Ok(ids.as_slice() == cells.visible.as_slice())
+            let seen = world.grid().rows_ever_of(alloc, &globe)?;
+            Ok(
+                ids.as_slice() == cells.visible.as_slice()
+                    && seen.as_slice() == cells.seen.as_slice(),
+            )
         }
         Err(_) => Ok(false),
     }
@@ -106,17 +123,22 @@ fn is_globe_same(alloc: Global, cells: &Cells, world: &World) -> Result<bool, Me
 
 fn is_each_cell_same(alloc: Global, cells: &Cells, world: &World) -> Result<bool, Memory> {
     let mut place = 0;
+    let mut place_ever = 0;
     for cell in &cells.ever {
         let Some(within) = box_from(*cell, 0) else {
             return Ok(false);
         };
         let ids = world.grid().rows_of(alloc, &within)?;
-        if !are_here(&cells.now, place, *cell, ids.as_slice()) {
+        let lain = world.grid().rows_ever_of(alloc, &within)?;
+        if !are_here(&cells.now, place, *cell, ids.as_slice())
+            || !are_here(&cells.lain, place_ever, *cell, lain.as_slice())
+        {
             return Ok(false);
         }
         place = ids.len().saturating_add(place);
+        place_ever = lain.len().saturating_add(place_ever);
     }
-    Ok(place == cells.now.len())
+    Ok(place == cells.now.len() && place_ever == cells.lain.len())
 }
 
 /// Whether the nodes from a place on are these, in that cell.

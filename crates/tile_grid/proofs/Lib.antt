@@ -1,4 +1,5 @@
 mod Counts
+mod Exchanged
 mod Columns
 mod Between
 mod Found

@@ -1,7 +1,8 @@
-//! Nodes by their cells.
+//! Nodes by their cells, and by those that they left.
 //!
-//! A grid counts how often an id is placed in a cell; that it is placed once is the indexed map's
-//! invariant.
+//! A grid counts how often an id is placed in a cell, and how often it stands there; that it stands
+//! there once is the indexed map's invariant. A node that leaves stays in the list of its cell, behind
+//! those that stand there: that takes no memory, and what asks for the nodes of now doesn't meet it.
 ghost use Rattle.std.specs.Prelude.{◌≡◌, ◌==◌, ◌&&◌, ◌||◌, [], ℕ, true, ◌+◌, ◌-◌, ◌<◌, ◌≤◌, length, count_by, slice_index_or, is_ok, if◌then◌else◌, OnOk, OnErr, IfOk};
 ghost use Rattle.std.specs.List.{list_any};
 ghost use Rattle.std.specs.List.Sorted.{IsStrictlyIncreasing};
@@ -9,10 +10,11 @@ ghost use Rattle.osm_base.specs.Place.{Position};
 ghost use Rattle.rising_lists.specs.Ids.{lists_id};
 ghost use Rattle.tile_grid.specs.Cell.{cell_of, cell_eq, is_between, touches};
 ghost use Rattle.tile_grid.specs.declared.cells.Cell.{Cell};
-ghost use Rattle.tile_grid.specs.Grid.{times, free_at, same_cell, TouchedAt};
-ghost use Rattle.tile_grid.specs.Tile.{find, IsWestToEast};
+ghost use Rattle.tile_grid.specs.Grid.{times, times_ever, times_of, free_at, same_cell, HeldAt, TouchedAt, TouchedEver};
+ghost use Rattle.tile_grid.specs.Tile.{find, ids_in, IsWestToEast};
 
 use crate::cells::Cell;
+use crate::parts::Part;
 use crate::rows::TileRow;
 use osm_base::{Box7, Coord, Memory};
 use rising_lists::sorted_once;
@@ -39,6 +41,7 @@ impl Grid {
     /// A grid without nodes. It takes no memory.
     pub fn new(alloc: Global) -> Grid
         ensures nodes { (c : Cell) (id : ℕ) → times result c id ≡ 0 }
+        ensures ever { (c : Cell) (id : ℕ) → times_ever result c id ≡ 0 }
         ensures room { (p : Position) → free_at result p ≡ 0 }
     {
         Grid {
@@ -50,6 +53,7 @@ impl Grid {
     /// than before.
     pub fn room(&mut self, alloc: Global, places: &[Coord]) -> Result<(), Memory>
         ensures nodes { (c : Cell) (id : ℕ) → times self.new c id ≡ times self.old c id }
+        ensures ever { (c : Cell) (id : ℕ) → times_ever self.new c id ≡ times_ever self.old c id }
         ensures ok { OnOk result ((p : Position) → free_at self.new p ≡ free_at self.old p + count_by (same_cell p) places.now) }
         ensures err { OnErr result ((p : Position) → free_at self.new p ≡ free_at self.old p) }
     {
@@ -64,6 +68,7 @@ impl Grid {
 
     fn promise(&mut self, alloc: Global, at: Coord) -> Result<(), Memory>
         ensures nodes { (c : Cell) (id : ℕ) → times self.new c id ≡ times self.old c id }
+        ensures ever { (c : Cell) (id : ℕ) → times_ever self.new c id ≡ times_ever self.old c id }
         ensures room { (p : Position) → free_at self.new p ≡ free_at self.old p + (if is_ok result && same_cell p at then 1 else 0) }
     {
         let cell = Cell::of(at);
@@ -76,6 +81,7 @@ impl Grid {
     pub fn release(&mut self, places: &[Coord])
         requires { (p : Position) → count_by (same_cell p) places.now ≤ free_at self.old p }
         ensures nodes { (c : Cell) (id : ℕ) → times self.new c id ≡ times self.old c id }
+        ensures ever { (c : Cell) (id : ℕ) → times_ever self.new c id ≡ times_ever self.old c id }
         ensures room { (p : Position) → free_at self.new p + count_by (same_cell p) places.now ≡ free_at self.old p }
     {
         for at in places {
@@ -86,6 +92,7 @@ impl Grid {
     fn release_one(&mut self, at: Coord)
         requires { 0 < free_at self.old at }
         ensures nodes { (c : Cell) (id : ℕ) → times self.new c id ≡ times self.old c id }
+        ensures ever { (c : Cell) (id : ℕ) → times_ever self.new c id ≡ times_ever self.old c id }
         ensures room { (p : Position) → free_at self.new p + (if same_cell p at then 1 else 0) ≡ free_at self.old p }
     {
         let cell = Cell::of(at);
@@ -95,6 +102,7 @@ impl Grid {
     /// Takes back all that was promised for the cell of a place. It takes no memory.
     pub fn forget(&mut self, at: Coord)
         ensures nodes { (c : Cell) (id : ℕ) → times self.new c id ≡ times self.old c id }
+        ensures ever { (c : Cell) (id : ℕ) → times_ever self.new c id ≡ times_ever self.old c id }
         ensures room { (p : Position) → free_at self.new p ≡ (if same_cell p at then 0 else free_at self.old p) }
     {
         let cell = Cell::of(at);
@@ -106,30 +114,67 @@ impl Grid {
         requires { 0 < free_at self.old at }
         ensures nodes { (c : Cell) (other : ℕ)
             → times self.new c other ≡ times self.old c other + (if cell_eq c (cell_of at) && (other == id) then 1 else 0) }
+        ensures ever { (c : Cell) (other : ℕ) → times_ever self.new c other
+            ≡ times_ever self.old c other + (if cell_eq c (cell_of at) && (other == id) then 1 else 0) }
         ensures room { (p : Position) → free_at self.new p + (if same_cell p at then 1 else 0) ≡ free_at self.old p }
     {
         let cell = Cell::of(at);
         self.rows[cell.row as usize].place(cell.column, id);
     }
 
-    /// Takes a node out, which is looked for in its cell alone. It takes no memory, and promises no
+    /// A node leaves its cell, in which alone it is looked for. It takes no memory, and promises no
     /// room.
-    pub fn take_out(&mut self, id: u64, at: Coord)
+    pub fn leave(&mut self, id: u64, at: Coord)
         requires { 0 < times self.old (cell_of at) id }
         ensures nodes { (c : Cell) (other : ℕ) → times self.new c other + (if cell_eq c (cell_of at) && (other == id) then 1 else 0)
             ≡ times self.old c other }
+        ensures ever { (c : Cell) (other : ℕ) → times_ever self.new c other ≡ times_ever self.old c other }
         ensures room { (p : Position) → free_at self.new p ≡ free_at self.old p }
     {
         let cell = Cell::of(at);
-        self.rows[cell.row as usize].take_out(cell.column, id);
+        self.rows[cell.row as usize].leave(cell.column, id);
+    }
+
+    /// A node comes back into a cell that it left. It takes no memory, and none of the room that is
+    /// promised.
+    pub fn come_back(&mut self, id: u64, at: Coord)
+        requires { times self.old (cell_of at) id < times_ever self.old (cell_of at) id }
+        ensures nodes { (c : Cell) (other : ℕ)
+            → times self.new c other ≡ times self.old c other + (if cell_eq c (cell_of at) && (other == id) then 1 else 0) }
+        ensures ever { (c : Cell) (other : ℕ) → times_ever self.new c other ≡ times_ever self.old c other }
+        ensures room { (p : Position) → free_at self.new p ≡ free_at self.old p }
+    {
+        let cell = Cell::of(at);
+        self.rows[cell.row as usize].come_back(cell.column, id);
     }
 
     /// The nodes in all cells that a box touches, in rising order, each once. It looks once for each
-    /// row of the box, and then only at cells that are touched and have had a node.
+    /// row of the box, and then only at cells that are touched and have had a node, and there at none
+    /// that left.
     pub fn rows_of(&self, alloc: Global, within: &Box7) -> Result<Vec<u64>, Memory>
         ensures rising { IfOk result (λ ids. IsStrictlyIncreasing ids.items) }
         ensures each { IfOk result (λ ids. (id : ℕ) → lists_id ids.items id ≡ true → TouchedAt self.now within.now id) }
         ensures all { IfOk result (λ ids. (c : Cell) (id : ℕ) → touches within.now c ≡ true → 0 < times self.now c id
+            → lists_id ids.items id ≡ true) }
+    {
+        self.list(alloc, Part::Now, within)
+    }
+
+    /// The nodes that were ever placed in a cell that a box touches, in rising order, each once. It
+    /// looks as `rows_of` does, and at all that left too.
+    pub fn rows_ever_of(&self, alloc: Global, within: &Box7) -> Result<Vec<u64>, Memory>
+        ensures rising { IfOk result (λ ids. IsStrictlyIncreasing ids.items) }
+        ensures each { IfOk result (λ ids. (id : ℕ) → lists_id ids.items id ≡ true → TouchedEver self.now within.now id) }
+        ensures all { IfOk result (λ ids. (c : Cell) (id : ℕ) → touches within.now c ≡ true → 0 < times_ever self.now c id
+            → lists_id ids.items id ≡ true) }
+    {
+        self.list(alloc, Part::Ever, within)
+    }
+
+    fn list(&self, alloc: Global, part: Part, within: &Box7) -> Result<Vec<u64>, Memory>
+        ensures rising { IfOk result (λ ids. IsStrictlyIncreasing ids.items) }
+        ensures each { IfOk result (λ ids. (id : ℕ) → lists_id ids.items id ≡ true → HeldAt part self.now within.now id) }
+        ensures all { IfOk result (λ ids. (c : Cell) (id : ℕ) → touches within.now c ≡ true → 0 < times_of part self.now c id
             → lists_id ids.items id ≡ true) }
     {
         let first = Cell::first(within);
@@ -139,6 +184,7 @@ impl Grid {
             list_row(
                 self.rows.as_slice(),
                 number,
+                part,
                 first.column,
                 last.column,
                 &mut ids,
@@ -151,22 +197,24 @@ impl Grid {
 fn list_row(
     rows: &[TileRow],
     number: usize,
+    part: Part,
     first: u32,
     last: u32,
     ids: &mut Vec<u64>,
 ) -> Result<(), Memory>
     ensures order { IsWestToEast (slice_index_or rows.now number []) }
     ensures ids { OnOk result ((id : ℕ) → lists_id ids.new.items id ≡ lists_id ids.old.items id || list_any
-        (λ t. is_between first t.column last && lists_id t.ids id) (slice_index_or rows.now number [])) }
+        (λ t. is_between first t.column last && lists_id (ids_in part t) id) (slice_index_or rows.now number [])) }
 {
     match rows.get(number) {
-        Some(row) => row.list(first, last, ids),
+        Some(row) => row.list(part, first, last, ids),
         None => Ok(()),
     }
 }
 
 fn forget_at(rows: &mut Vec<TileRow>, number: usize, column: u32)
     ensures ids { (r c : ℕ) → (find (slice_index_or rows.new.items r []) c).ids ≡ (find (slice_index_or rows.old.items r []) c).ids }
+    ensures ever { (r c : ℕ) → (find (slice_index_or rows.new.items r []) c).ever ≡ (find (slice_index_or rows.old.items r []) c).ever }
     ensures free { (r c : ℕ) → (find (slice_index_or rows.new.items r []) c).free
         ≡ (if (r == number) && (c == column) then 0 else (find (slice_index_or rows.old.items r []) c).free) }
 {

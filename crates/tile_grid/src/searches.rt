@@ -4,8 +4,9 @@ ghost use Rattle.std.specs.List.{list_any};
 ghost use Rattle.std.specs.List.Sorted.{IsNonDecreasingBy};
 ghost use Rattle.rising_lists.specs.Ids.{lists_id};
 ghost use Rattle.tile_grid.specs.Cell.{is_between};
-ghost use Rattle.tile_grid.specs.Tile.{Held, column_in, find, IsFoundAt, IsGapAt, IsWestToEast};
+ghost use Rattle.tile_grid.specs.Tile.{Held, column_in, find, ids_in, IsFoundAt, IsGapAt, IsWestToEast};
 
+use crate::parts::Part;
 use crate::tiles::Tile;
 use osm_base::Memory;
 use std::alloc::Global;
@@ -62,26 +63,33 @@ pub fn make_tile(alloc: Global, tiles: &mut Vec<Tile>, column: u32) -> Result<us
     }
 }
 
-/// Adds the nodes between two columns, ends included, to a list.
-pub fn list_between(tiles: &[Tile], first: u32, last: u32, ids: &mut Vec<u64>) -> Result<(), Memory>
+/// Adds the nodes of a part between two columns, ends included, to a list.
+pub fn list_between(
+    tiles: &[Tile],
+    part: Part,
+    first: u32,
+    last: u32,
+    ids: &mut Vec<u64>,
+) -> Result<(), Memory>
     requires { IsWestToEast tiles.now }
     ensures { OnOk result ((id : ℕ) → lists_id ids.new.items id ≡ lists_id ids.old.items id || list_any
-        (λ t. is_between first t.column last && lists_id t.ids id) tiles.now) }
+        (λ t. is_between first t.column last && lists_id (ids_in part t) id) tiles.now) }
 {
     let from = first_from(tiles, first);
     let to = first_past(tiles, last);
     if to <= from {
         return Ok(());
     }
-    list_tiles(&tiles[from..to], ids)?;
+    list_tiles(&tiles[from..to], part, ids)?;
     Ok(())
 }
 
-fn list_tiles(tiles: &[Tile], ids: &mut Vec<u64>) -> Result<(), Memory>
-    ensures { OnOk result ((id : ℕ) → lists_id ids.new.items id ≡ lists_id ids.old.items id || list_any (λ t. lists_id t.ids id) tiles.now) }
+fn list_tiles(tiles: &[Tile], part: Part, ids: &mut Vec<u64>) -> Result<(), Memory>
+    ensures { OnOk result ((id : ℕ) → lists_id ids.new.items id ≡ lists_id ids.old.items id
+        || list_any (λ t. lists_id (ids_in part t) id) tiles.now) }
 {
     for tile in tiles {
-        list_ids(tile.ids(), ids)?;
+        list_ids(tile.ids(part), ids)?;
     }
     Ok(())
 }

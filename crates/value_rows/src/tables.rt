@@ -24,11 +24,7 @@ pub fn play<R: Print>(rt: &R, alloc: Global, tally: &mut Tally) {
         "a placeholder binds once",
         placeholders::a_placeholder_binds_once(alloc),
     );
-    tally.note(
-        rt,
-        "users are in the order of keys",
-        references::users_are_in_the_order_of_keys(alloc),
-    );
+    play_users(rt, alloc, tally);
     tally.note(
         rt,
         "a version stands in the room that was made for it",
@@ -43,5 +39,28 @@ pub fn play<R: Print>(rt: &R, alloc: Global, tally: &mut Tally) {
         rt,
         "a redaction that was made is known",
         redactions::a_redaction_that_was_made_is_known(alloc),
+    );
+}
+
+fn play_users<R: Print>(rt: &R, alloc: Global, tally: &mut Tally) {
+    tally.note(
+        rt,
+        "users are in the order of keys",
+        references::users_are_in_the_order_of_keys(alloc),
+    );
+    tally.note(
+        rt,
+        "the only user of an element leaves and comes back",
+        references::the_only_user_leaves_and_comes_back(alloc),
+    );
+    tally.note(
+        rt,
+        "users of an element leave and come back",
+        references::users_leave_and_come_back(alloc),
+    );
+    tally.note(
+        rt,
+        "a user that left is known and needs no room",
+        references::a_user_that_left_needs_no_room(alloc),
     );
 }

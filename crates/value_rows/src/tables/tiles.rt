@@ -4,18 +4,43 @@ use row_tally::Tally;
 use std::alloc::Global;
 use tile_grid::Grid;
 
+/// Whether the cell of a place has these nodes now, and had those ever.
+fn has(alloc: Global, grid: &Grid, at: Coord, now: &[u64], ever: &[u64]) -> Result<bool, Memory> {
+    let within = Box7::at(at);
+    let standing = grid.rows_of(alloc, &within)?;
+    let placed = grid.rows_ever_of(alloc, &within)?;
+    Ok(standing.as_slice() == now && placed.as_slice() == ever)
+}
+
 fn nodes_come_and_go(alloc: Global) -> Result<bool, Memory> {
     let Some(at) = Coord::new(481_400_000, 115_400_000) else {
         return Ok(false);
     };
-    let within = Box7::at(at);
     let mut grid = Grid::new(alloc);
     grid.room(alloc, &[at])?;
     grid.place(7, at);
-    let placed = grid.rows_of(alloc, &within)?;
-    grid.take_out(7, at);
-    let left = grid.rows_of(alloc, &within)?;
-    Ok(placed.as_slice() == [7].as_slice() && left.is_empty())
+    let placed = has(alloc, &grid, at, &[7], &[7])?;
+    grid.leave(7, at);
+    let left = has(alloc, &grid, at, &[], &[7])?;
+    grid.come_back(7, at);
+    let back = has(alloc, &grid, at, &[7], &[7])?;
+    Ok(placed && left && back)
+}
+
+fn nodes_leave_for_another_cell(alloc: Global) -> Result<bool, Memory> {
+    let Some(from) = Coord::new(481_400_000, 115_400_000) else {
+        return Ok(false);
+    };
+    let Some(to) = Coord::new(481_400_000, 115_500_000) else {
+        return Ok(false);
+    };
+    let mut grid = Grid::new(alloc);
+    grid.room(alloc, &[from])?;
+    grid.place(7, from);
+    grid.leave(7, from);
+    grid.room(alloc, &[to])?;
+    grid.place(7, to);
+    Ok(has(alloc, &grid, from, &[], &[7])? && has(alloc, &grid, to, &[7], &[7])?)
 }
 
 /// Ids of nodes, and where each stands.
@@ -60,7 +85,16 @@ fn lists(alloc: Global, edges: [i32; 4], ids: &[u64]) -> Result<bool, Memory> {
 }
 
 pub fn play<R: Print>(rt: &R, alloc: Global, tally: &mut Tally) {
-    tally.note(rt, "nodes come and go", nodes_come_and_go(alloc));
+    tally.note(
+        rt,
+        "nodes come, leave and come back",
+        nodes_come_and_go(alloc),
+    );
+    tally.note(
+        rt,
+        "nodes leave for another cell",
+        nodes_leave_for_another_cell(alloc),
+    );
     for (name, edges, ids) in &BOXES {
         tally.note(rt, name, lists(alloc, *edges, ids));
     }

@@ -26,4 +26,4 @@ returns-clause-found c =
     c.in_ok-found.ensures
     ∙ ap (λ (F : Elements). filter (λ k. is_last_shown (elements_by c.args.at F) k && is_in (elements_by c.args.at F) c.args.within.now k) (map (key Node) c.as_slice.result.now)) c.ordered.ensures.same
     ∙ ap (λ (ids : List ℕ). filter (λ k. is_last_shown (elements_by c.args.at E) k && is_in (elements_by c.args.at E) c.args.within.now k) (map (key Node) ids)) c.as_slice.ensures.value
-    ∙ nodes-found c.boxes_touch_what_they_hold.ensures c.nodes_that_lay_there_are_placed.ensures c.args.at E c.grid_ever.result.now c.args.within.now c.in_ok-near.near.items c.requires c.grid_ever.ensures c.in_ok-near.ensures.rising c.in_ok-near.ensures.all
+    ∙ nodes-found c.boxes_touch_what_they_hold.ensures c.nodes_that_lay_there_are_placed.ensures c.args.at E c.grid.result.now c.args.within.now c.in_ok-near.near.items c.requires c.grid.ensures.ever c.in_ok-near.ensures.rising c.in_ok-near.ensures.all

@@ -7,7 +7,7 @@ use Rattle.indexed_map.specs.Placed.{lies}
 use Rattle.indexed_map.proofs.Moved.{placed}
 use Rattle.indexed_map.proofs.moves.leave.Goals as goal
 
-pub take_out-requires : goal.take_out-requires
-take_out-requires c =
+pub leave-requires : goal.leave-requires
+leave-requires c =
     placed (times c.args.grid.now (cell_of c.in-Some.at) c.args.id) c.in-Some.at
     (c.requires (cell_of c.in-Some.at) ∙ ap (λ (o : Option Position). if lies (cell_of c.in-Some.at) o then 1 else 0) c.in-Some.is)

@@ -1,10 +1,27 @@
-use Rattle.std.proofs.Common.{sym}
-use Rattle.indexed_map.proofs.Moved.{moved, not_moved, stayed}
+use Rattle.std.proofs.Common.{List, map, None, sym, ap, ◌∙◌}
+use Rattle.osm_element.specs.Version.{Version}
+use Rattle.indexed_map.specs.Ever.{last_place}
+use Rattle.indexed_map.proofs.EverHeld.{may_come_back, moved_ever, placed_other, stayed_ever}
+use Rattle.indexed_map.proofs.Moved.{moved, not_moved, stayed, stood_once}
 use Rattle.indexed_map.proofs.moves.move_node.Goals as goal
+
+pub leave-requires : goal.leave-requires
+leave-requires c =
+    stood_once c.args.store.now.elements c.args.grid.now c.args.key c.place_of-from.result (sym c.if-is.ensures) c.requires.placed c.place_of-from.ensures
+
+pub arrive-requires-clause-left : goal.arrive-requires-clause-left
+arrive-requires-clause-left c =
+    may_come_back c.args.store.now.elements c.args.grid.now c.leave.new.grid c.args.key c.place_of-from.result c.last_place-last.result c.new_position-to.result
+    (sym c.if-is.ensures)
+    c.requires.ever
+    (c.last_place-last.ensures ∙ ap (λ (vs : List Version). last_place None (map (λ (v : Version). v.content) vs)) c.history.ensures)
+    (stood_once c.args.store.now.elements c.args.grid.now c.args.key c.place_of-from.result (sym c.if-is.ensures) c.requires.placed c.place_of-from.ensures)
+    c.leave.ensures.nodes
+    c.leave.ensures.ever
 
 pub returns-then-not-share_cell-clause-placed : goal.returns-then-not-share_cell-clause-placed
 returns-then-not-share_cell-clause-placed c =
-    moved c.args.store.now.elements c.args.grid.now c.leave.new.grid c.enter.new.grid c.args.key c.args.version.now c.place_of-from.result c.new_position-to.result
+    moved c.args.store.now.elements c.args.grid.now c.leave.new.grid c.arrive.new.grid c.args.key c.args.version.now c.place_of-from.result c.new_position-to.result
     (sym c.if-is.ensures)
     c.requires.counted
     c.requires.follows
@@ -12,7 +29,19 @@ returns-then-not-share_cell-clause-placed c =
     c.place_of-from.ensures
     c.new_position-to.ensures
     c.leave.ensures.nodes
-    c.enter.ensures.nodes
+    c.arrive.ensures.nodes
+
+pub returns-then-not-share_cell-clause-ever : goal.returns-then-not-share_cell-clause-ever
+returns-then-not-share_cell-clause-ever c =
+    moved_ever c.args.store.now.elements c.args.grid.now c.leave.new.grid c.arrive.new.grid c.args.key c.args.version.now c.last_place-last.result c.new_position-to.result
+    (sym c.if-is.ensures)
+    c.requires.counted
+    c.requires.follows
+    c.requires.ever
+    (c.last_place-last.ensures ∙ ap (λ (vs : List Version). last_place None (map (λ (v : Version). v.content) vs)) c.history.ensures)
+    c.new_position-to.ensures
+    c.leave.ensures.ever
+    c.arrive.ensures.ever
 
 pub returns-else-not-share_cell-clause-placed : goal.returns-else-not-share_cell-clause-placed
 returns-else-not-share_cell-clause-placed c =
@@ -24,6 +53,21 @@ returns-else-not-share_cell-clause-placed c =
     c.new_position-to.ensures
     (sym c.if-not-share_cell.ensures)
 
+pub returns-else-not-share_cell-clause-ever : goal.returns-else-not-share_cell-clause-ever
+returns-else-not-share_cell-clause-ever c =
+    stayed_ever c.args.store.now.elements c.args.grid.now c.args.key c.args.version.now c.place_of-from.result c.new_position-to.result
+    (sym c.if-is.ensures)
+    c.requires.counted
+    c.requires.follows
+    c.requires.ever
+    c.place_of-from.ensures
+    c.new_position-to.ensures
+    (sym c.if-not-share_cell.ensures)
+
 pub returns-else-is-clause-placed : goal.returns-else-is-clause-placed
 returns-else-is-clause-placed c =
     not_moved c.args.store.now.elements c.args.grid.now c.args.key c.args.version.now (sym c.if-is.ensures) c.requires.counted c.requires.follows c.requires.placed
+
+pub returns-else-is-clause-ever : goal.returns-else-is-clause-ever
+returns-else-is-clause-ever c =
+    placed_other c.args.store.now.elements c.args.grid.now c.args.key c.args.version.now (sym c.if-is.ensures) c.requires.counted c.requires.follows c.requires.ever

@@ -16,6 +16,6 @@ invariant-loop-operation l = record {
   long : length l.beds.items ≡ l.operation-index;
   beds : AreBedsOf [] (first_ids l.fn.map.elements) (take l.operation-index l.operations) l.beds.items;
   versions : (k : Key) → made l.beds.items k ≤ free l.map.versions k;
-  users : (b : Key) → begun l.beds.items b ≤ free_in l.map.users b;
+  users : (b : Key) → begun l.fn.map.elements l.beds.items b ≤ free_in l.map.users b;
   cells : (p : Position) → entered (take l.operation-index l.operations) p ≤ free_at l.map.cells p;
 }

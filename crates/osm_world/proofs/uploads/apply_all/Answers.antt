@@ -99,6 +99,7 @@ loop-operation-preserved c =
     c.apply_one-touched.ensures.versions
     c.apply_one-touched.ensures.users
     c.apply_one-touched.ensures.cells
+    c.apply_one-touched.ensures.ever
     c.apply_one-touched.ensures.work in
     record { next = tt; finite = tt; beds = m.beds; keys = m.keys; versions = m.versions; users = m.users; cells = m.cells; work = m.work; no_more = omega (arith, c.apply_one-touched.ensures.no_more, c.loop-operation.invariant.no_more); id = c.apply_one-touched.ensures.id ∙ c.loop-operation.invariant.id; going = m.going }
 

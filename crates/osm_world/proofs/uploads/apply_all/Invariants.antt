@@ -18,7 +18,7 @@ invariant-loop-operation l = record {
   beds : AreBedsOf l.laid.keys.items (first_ids l.map.elements) (into_iter_items l.operation-iterator) (drop (length l.laid.keys.items) l.laid.beds);
   keys : length (into_iter_items l.operation-iterator) ≤ l.laid.keys.free;
   versions : (k : Key) → made (drop (length l.laid.keys.items) l.laid.beds) k ≤ free l.map.versions k;
-  users : (b : Key) → begun (drop (length l.laid.keys.items) l.laid.beds) b ≤ free_in l.map.users b;
+  users : (b : Key) → begun l.map.elements (drop (length l.laid.keys.items) l.laid.beds) b ≤ free_in l.map.users b;
   cells : (p : Position) → entered (into_iter_items l.operation-iterator) p ≤ free_at l.map.cells p;
   work : length (into_iter_items l.operation-iterator) ≤ l.changeset.free;
   no_more : l.changeset.free ≤ l.fn.changeset.free;

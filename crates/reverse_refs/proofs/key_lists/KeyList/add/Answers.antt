@@ -1,12 +1,18 @@
-use Rattle.std.proofs.Common.{◌≡◌, ◌∙◌, ap, arith, rules, sym, subst}
-use Rattle.osm_base.specs.Key.{IsRising, lists_key, insert_key}
-use Rattle.osm_base.specs.Row.{Row}
+use Rattle.std.proofs.Common.{◌≡◌, false, ◌∙◌, ap, arith, List, drop, take}
+use Rattle.osm_base.specs.Key.{lists_key, insert_key}
 use Rattle.osm_base.specs.declared.keys.Key.{Key}
-use Rattle.osm_base.proofs.KeyLists.{rising-insert}
+use Rattle.reverse_refs.specs.Users.{UserRow}
+use Rattle.reverse_refs.proofs.Parted.{come, same_parts}
 use Rattle.reverse_refs.proofs.key_lists.KeyList.add.Goals as goal
 
 pub invariant_of-self : goal.invariant_of-self
 invariant_of-self c =
-    let absent = ap (λ (r : Row Key). lists_key r.items c.args.key) c.self.view_is ∙ c.requires.absent in
-    let inserted : c.insert.new.self.items ≡ insert_key c.self.inside.keys.items c.args.key = search (rules, arith, c.insert.ensures.succeeds) in
-    (subst IsRising (sym inserted) (rising-insert c.self.inside.keys.items c.args.key absent c.self.invariant.0), search arith)
+    let n = c.self.inside.present in
+    let absent : lists_key (take n c.self.inside.keys.items) c.args.key ≡ false = ap (λ (r : UserRow). lists_key r.present c.args.key) c.self.view_is ∙ c.requires.absent in (
+      same_parts _ _ _ _
+          (c.put_in_present.ensures.present ∙ ap (λ (ks : List Key). insert_key ks c.args.key) c.take_from_past.ensures.present)
+          (c.put_in_present.ensures.past ∙ c.take_from_past.ensures.past)
+          (come (take n c.self.inside.keys.items) (drop n c.self.inside.keys.items) c.args.key absent c.self.invariant.0),
+      omega arith,
+      omega arith,
+    )
