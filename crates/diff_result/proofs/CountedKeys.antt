@@ -15,7 +15,7 @@ use Rattle.osm_change.specs.Change.{kind_of, named, names_listed, created_kind, 
 use Rattle.osm_change.specs.Keys.{next_of, one_more, ids_after, id_of, key_of, keys_after, keys_of}
 use Rattle.osm_change.specs.declared.operations.FirstIds.{FirstIds}
 use Rattle.osm_change.specs.declared.operations.Name.{Name}
-use Rattle.osm_change.specs.declared.operations.Name.TheVariants.{Old, New}
+use Rattle.osm_change.specs.declared.operations.Referent.TheVariants.{Old, New}
 use Rattle.osm_change.specs.declared.operations.Op.{Op}
 use Rattle.osm_change.specs.declared.operations.Op.TheVariants.{Create, Modify, Delete}
 use Rattle.diff_result.specs.Counted.{is_kind, creates_kind, counted_id, id_named, counted_key, counted_from, counted_keys}

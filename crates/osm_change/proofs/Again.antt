@@ -26,7 +26,7 @@ use Rattle.osm_change.specs.Document.{member_said, content_said, op_said, docume
 use Rattle.osm_change.specs.Build.{Look, creates, created_at, new_name, name_of, member_with, member_named, content_named, local, local_cause, free_placeholder, version_named, op_of, or_fault, operations_after, other_changeset, change_of, IsReference, IsRawContent, IsRawOp, IsRaw}
 use Rattle.osm_change.specs.declared.causes.Cause.TheVariants.{DoublePlaceholder}
 use Rattle.osm_change.specs.declared.operations.Name.{Name}
-use Rattle.osm_change.specs.declared.operations.Name.TheVariants.{Old, New}
+use Rattle.osm_change.specs.declared.operations.Referent.TheVariants.{Old, New}
 use Rattle.osm_change.specs.declared.operations.Op.{Op}
 use Rattle.osm_change.specs.declared.operations.Op.TheVariants.{Create, Modify, Delete}
 use Rattle.osm_change.proofs.Built.{position-at}

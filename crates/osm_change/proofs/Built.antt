@@ -15,7 +15,7 @@ use Rattle.osm_change.specs.declared.causes.Cause.{Cause}
 use Rattle.osm_change.specs.declared.causes.ShapeFault.{ShapeFault}
 use Rattle.osm_change.specs.declared.raw.RawOp.{RawOp}
 use Rattle.osm_change.specs.declared.operations.Name.{Name}
-use Rattle.osm_change.specs.declared.operations.Name.TheVariants.{New}
+use Rattle.osm_change.specs.declared.operations.Referent.TheVariants.{New}
 use Rattle.osm_change.specs.declared.operations.Op.{Op}
 use Rattle.osm_change.specs.declared.operations.Op.TheVariants.{Create, Modify, Delete}
 

@@ -21,7 +21,7 @@ use Rattle.osm_change.specs.declared.raw.Action.{Action}
 use Rattle.osm_change.specs.declared.raw.Action.TheVariants as action
 use Rattle.osm_change.specs.declared.raw.RawOp.{RawOp}
 use Rattle.osm_change.specs.declared.operations.Name.{Name}
-use Rattle.osm_change.specs.declared.operations.Name.TheVariants.{Old, New}
+use Rattle.osm_change.specs.declared.operations.Referent.TheVariants.{Old, New}
 use Rattle.osm_change.specs.declared.operations.Named.{Named}
 use Rattle.osm_change.specs.declared.operations.Op.{Op}
 

@@ -6,7 +6,7 @@ use Rattle.osm_base.specs.declared.keys.Kind.{Kind}
 use Rattle.osm_change.specs.Change.{named, names_given, created_kind, IsNamedBefore, IsWellFormed}
 use Rattle.osm_change.specs.Said.{IsSaid}
 use Rattle.osm_change.specs.declared.operations.Name.{Name}
-use Rattle.osm_change.specs.declared.operations.Name.TheVariants.{Old, New}
+use Rattle.osm_change.specs.declared.operations.Referent.TheVariants.{Old, New}
 use Rattle.osm_change.specs.declared.operations.Named.{Named}
 use Rattle.osm_change.specs.declared.operations.Op.{Op}
 

@@ -25,7 +25,7 @@ use Rattle.osm_change.specs.declared.raw.Action.{Action}
 use Rattle.osm_change.specs.declared.raw.Action.TheVariants as action
 use Rattle.osm_change.specs.declared.raw.RawOp.{RawOp}
 use Rattle.osm_change.specs.declared.operations.Name.{Name}
-use Rattle.osm_change.specs.declared.operations.Name.TheVariants.{Old}
+use Rattle.osm_change.specs.declared.operations.Referent.TheVariants.{Old}
 use Rattle.osm_change.specs.declared.operations.Op.{Op}
 use Rattle.osm_change.proofs.Built.{bind-ok, cons-ok, new-parts, created-from, modified-from, deleted-from}
 use Rattle.osm_change.proofs.NamesBefore.{given}

@@ -6,7 +6,7 @@ use Rattle.osm_base.specs.Key.{key_eq}
 use Rattle.osm_base.specs.declared.keys.Key.{Key}
 use Rattle.osm_change.specs.Said.{placeholder_in}
 use Rattle.osm_change.specs.declared.operations.Name.{Name}
-use Rattle.osm_change.specs.declared.operations.Name.TheVariants.{Old, New}
+use Rattle.osm_change.specs.declared.operations.Referent.TheVariants.{Old, New}
 use Rattle.osm_change.specs.declared.operations.Op.{Op}
 use Rattle.osm_change.specs.declared.refusals.Said.{Said}
 use Rattle.osm_change.specs.declared.refusals.Said.TheVariants.{Id, Placeholder}

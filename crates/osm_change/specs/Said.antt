@@ -2,7 +2,7 @@
 use Rattle.std.specs.Prelude.{◌^◌, ◌<◌, List, slice_get, Option, Some, None, MatchOption, IsSome, ℤ, pos}
 use Rattle.osm_change.specs.Change.{created_kind}
 use Rattle.osm_change.specs.declared.operations.Name.{Name}
-use Rattle.osm_change.specs.declared.operations.Name.TheVariants.{Old, New}
+use Rattle.osm_change.specs.declared.operations.Referent.TheVariants.{Old, New}
 use Rattle.osm_change.specs.declared.operations.Op.{Op}
 use Rattle.osm_change.specs.declared.operations.Op.TheVariants.{Create, Modify, Delete}
 

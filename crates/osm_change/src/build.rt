@@ -25,10 +25,10 @@ fn name_of(placeholders: &PlaceholderMap, kind: Kind, id: i64) -> Result<Name, C
     ensures { result ≡ name_of (look_of placeholders.now) kind id }
 {
     if id >= 0 {
-        return Ok(Name::Old(id as u64));
+        return Ok(Name::old(id as u64));
     }
     match placeholders.look(kind, id) {
-        Some(place) => Ok(Name::New(place)),
+        Some(place) => Ok(Name::new(place)),
         None => Err(Cause::UnknownPlaceholder),
     }
 }

@@ -23,7 +23,7 @@ pub use changes::Change;
 pub use law::{changes_are_read_again, names_are_said};
 pub use listed::kind_of;
 pub use names::said_made;
-pub use operations::{FirstIds, Name, Named, Op, OpDone, OpDones};
+pub use operations::{FirstIds, Name, Named, Op, OpDone, OpDones, Referent};
 pub use raw::{Action, RawOp};
 pub use reads::{MapFault, ReadFault, Selection, VersionId};
 pub use refusals::{Refusal, Said};

@@ -14,7 +14,7 @@ ghost use Rattle.osm_change.specs.Keys.{id_of};
 ghost use Rattle.osm_change.specs.Names.{said, said_made};
 ghost use Rattle.osm_change.specs.Said.{placeholder_in};
 
-use crate::operations::{Name, Op};
+use crate::operations::{Name, Op, Referent};
 use crate::refusals::Said;
 use osm_base::{Key, Kind};
 
@@ -24,9 +24,9 @@ impl Name {
     pub fn id(self, keys: &[Key]) -> u64
         ensures { result ≡ id_of keys.now self }
     {
-        match self {
-            Name::Old(id) => id,
-            Name::New(place) => match keys.get(place as usize) {
+        match self.referent() {
+            Referent::Old(id) => id,
+            Referent::New(place) => match keys.get(place as usize) {
                 Some(key) => key.id,
                 None => 0,
             },
@@ -47,9 +47,11 @@ impl Name {
     pub fn said(self, operations: &[Op]) -> Said
         ensures { result ≡ said operations.now self }
     {
-        match self {
-            Name::Old(id) => Said::Id(id),
-            Name::New(place) => Said::Placeholder(placeholder_in(operations.get(place as usize))),
+        match self.referent() {
+            Referent::Old(id) => Said::Id(id),
+            Referent::New(place) => {
+                Said::Placeholder(placeholder_in(operations.get(place as usize)))
+            }
         }
     }
 }

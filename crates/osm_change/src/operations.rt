@@ -1,15 +1,76 @@
 //! Operations, the names that they use, and what they did.
+ghost use Rattle.std.specs.Prelude.{◌≡◌, ◌^◌, ◌<◌};
+ghost use Rattle.osm_change.specs.declared.operations.Referent.TheVariants.{Old, New};
+
 use crate::listed::kind_of;
 use osm_base::{Items, Kind, Memory, TryCopy};
 use osm_element::{Content, Tags};
 use std::alloc::Global;
+use std::marker::Model;
+use std::mem::size_of;
 
 /// The element that an operation names: one of before the upload, by its id, or the one that an
 /// earlier operation creates, by the place of that operation, counted from 0.
 #[derive(Clone, Copy)]
-pub enum Name {
+pub enum Referent {
     Old(u64),
     New(u32),
+}
+
+/// The bits of the first place. Ids lie below them.
+const FIRST_PLACE: u64 = 1 << 63;
+
+/// A referent in 8 bytes, of which each reference of each way and relation takes one.
+#[derive(Clone, Copy)]
+pub struct Name {
+    bits: u64,
+}
+
+const _: () = prove!(size_of::<Name>() == 8);
+
+impl Model for Name {
+    ghost use Rattle.osm_change.specs.declared.operations.Referent.{Referent};
+
+    ghost Value = { Referent };
+
+    ghost use Rattle.osm_change.specs.Referents.{referent_of, bits_of, AreBits, with_bits, bits-again};
+
+    ghost view = { λ n. referent_of n.bits };
+
+    ghost invariant = { λ n. AreBits n.bits };
+
+    ghost inverse = { λ r. with_bits (bits_of r) };
+
+    ghost inverse_ok = { λ n _. bits-again n };
+}
+
+impl Name {
+    /// An element of before the upload.
+    pub fn old(id: u64) -> Name
+        requires { id < 2 ^ 63 }
+        ensures { result ≡ Old id }
+    {
+        Name { bits: id }
+    }
+
+    /// The element that the operation at a place creates.
+    pub fn new(place: u32) -> Name
+        ensures { result ≡ New place }
+    {
+        Name {
+            bits: FIRST_PLACE + u64::from(place),
+        }
+    }
+
+    /// What it names.
+    pub fn referent(self) -> Referent
+        ensures { result ≡ self }
+    {
+        match self.bits.checked_sub(FIRST_PLACE) {
+            Some(place) => Referent::New(place as u32),
+            None => Referent::Old(self.bits),
+        }
+    }
 }
 
 impl TryCopy for Name {
@@ -24,6 +85,8 @@ pub struct Named {
     pub kind: Kind,
     pub name: Name,
 }
+
+const _: () = prove!(size_of::<Named>() == 16);
 
 /// One operation of an upload.
 #[derive(Drop)]

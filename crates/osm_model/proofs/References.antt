@@ -15,7 +15,7 @@ use Rattle.osm_element.specs.declared.contents.Member.{Member}
 use Rattle.osm_change.specs.Change.{names_listed, named, named_member}
 use Rattle.osm_change.specs.Keys.{id_of}
 use Rattle.osm_change.specs.declared.operations.Name.{Name}
-use Rattle.osm_change.specs.declared.operations.Name.TheVariants.{Old, New}
+use Rattle.osm_change.specs.declared.operations.Referent.TheVariants.{Old, New}
 use Rattle.osm_change.specs.declared.operations.Named.{Named}
 use Rattle.osm_change.specs.declared.refusals.Refusal.{Refusal}
 use Rattle.osm_model.specs.declared.uploads.Progress.{Progress}

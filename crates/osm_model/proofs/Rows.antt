@@ -8,7 +8,7 @@ use Rattle.osm_element.specs.declared.contents.Content.{Content}
 use Rattle.osm_element.specs.declared.contents.Member.{Member}
 use Rattle.osm_element.specs.declared.contents.Content.TheVariants as content
 use Rattle.osm_change.specs.declared.operations.Name.{Name}
-use Rattle.osm_change.specs.declared.operations.Name.TheVariants.{Old, New}
+use Rattle.osm_change.specs.declared.operations.Referent.TheVariants.{Old, New}
 use Rattle.osm_change.specs.declared.operations.Op.{Op}
 use Rattle.osm_change.specs.declared.operations.Op.TheVariants.{Create, Modify, Delete}
 use Rattle.osm_change.specs.declared.answers.Answer.{Answer}

@@ -25,7 +25,7 @@ use Rattle.osm_element.proofs.Used.{known, lists-users}
 use Rattle.osm_change.specs.Change.{kind_of}
 use Rattle.osm_change.specs.Names.{said}
 use Rattle.osm_change.specs.declared.operations.Name.{Name}
-use Rattle.osm_change.specs.declared.operations.Name.TheVariants.{Old, New}
+use Rattle.osm_change.specs.declared.operations.Referent.TheVariants.{Old, New}
 use Rattle.osm_change.specs.declared.operations.Op.{Op}
 use Rattle.osm_change.specs.declared.operations.OpDone.{OpDone}
 use Rattle.osm_change.specs.declared.operations.OpDone.TheVariants.{Applied, Skipped}

@@ -11,7 +11,7 @@ use Rattle.osm_element.specs.declared.contents.Member.{Member}
 use Rattle.osm_change.specs.Keys.{id_of}
 use Rattle.osm_change.specs.Names.{said_made}
 use Rattle.osm_change.specs.declared.operations.Name.{Name}
-use Rattle.osm_change.specs.declared.operations.Name.TheVariants.{Old, New}
+use Rattle.osm_change.specs.declared.operations.Referent.TheVariants.{Old, New}
 use Rattle.osm_change.specs.declared.refusals.Said.{Said}
 use Rattle.osm_change.specs.declared.refusals.Said.TheVariants.{Id}
 use Rattle.osm_model.specs.Upload.{Upload}

@@ -5,7 +5,7 @@ use Rattle.osm_base.specs.declared.keys.Kind.TheVariants.{Node}
 use Rattle.osm_base.specs.declared.people.User.{User}
 use Rattle.osm_element.specs.Elements.{key}
 use Rattle.osm_element.specs.declared.contents.Content.TheVariants as content
-use Rattle.osm_change.specs.declared.operations.Name.TheVariants.{Old}
+use Rattle.osm_change.specs.declared.operations.Referent.TheVariants.{Old}
 use Rattle.osm_change.specs.declared.operations.Op.TheVariants.{Create, Modify}
 use Rattle.osm_model.specs.declared.commands.Command.{Command}
 use Rattle.osm_model.specs.declared.commands.Command.TheVariants as command

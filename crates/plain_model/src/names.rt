@@ -5,7 +5,7 @@ ghost use Rattle.osm_model.specs.Names.{of_kind, known_key, said_key, with_ids, 
 
 use crate::uploads::UploadTask;
 use osm_base::{Key, Kind, Memory, TryCopy};
-use osm_change::{Name, Said, said_made};
+use osm_change::{Name, Referent, Said, said_made};
 use osm_element::{BoxedItems, Content, Member};
 use osm_model::Progress;
 use std::alloc::{AllocError, Global};
@@ -21,8 +21,8 @@ fn of_kind(kind: Kind, key: Key) -> Option<Key>
 pub fn known_key(upload: &UploadTask, progress: &Progress, kind: Kind, name: Name) -> Option<Key>
     ensures { result ≡ known_key upload.now progress.now kind name }
 {
-    match name {
-        Name::Old(id) => {
+    match name.referent() {
+        Referent::Old(id) => {
             let key = Key { kind, id };
             if upload.before.count(key) == 0 {
                 None
@@ -30,7 +30,7 @@ pub fn known_key(upload: &UploadTask, progress: &Progress, kind: Kind, name: Nam
                 Some(key)
             }
         }
-        Name::New(place) => match progress.keys.items().get(place as usize) {
+        Referent::New(place) => match progress.keys.items().get(place as usize) {
             Some(key) => of_kind(kind, *key),
             None => None,
         },

@@ -18,7 +18,7 @@ use Rattle.osm_change.specs.Change.{kind_of}
 use Rattle.osm_change.specs.Keys.{id_of, key_of}
 use Rattle.osm_change.specs.Names.{said}
 use Rattle.osm_change.specs.declared.operations.Name.{Name}
-use Rattle.osm_change.specs.declared.operations.Name.TheVariants.{Old, New}
+use Rattle.osm_change.specs.declared.operations.Referent.TheVariants.{Old, New}
 use Rattle.osm_change.specs.declared.operations.Op.{Op}
 use Rattle.osm_change.specs.declared.operations.Op.TheVariants.{Create, Modify, Delete}
 use Rattle.osm_change.specs.declared.refusals.Refusal.{Refusal}

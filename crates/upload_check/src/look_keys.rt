@@ -7,7 +7,7 @@ ghost use Rattle.osm_world.specs.World.{state_of};
 use crate::references::add_refs;
 use crate::sights::stored;
 use osm_base::{Key, Kind, Memory};
-use osm_change::{Name, Op, Refusal, Said, kind_of};
+use osm_change::{Name, Op, Referent, Refusal, Said, kind_of};
 use osm_element::{Content, Member};
 use osm_world::World;
 
@@ -15,10 +15,10 @@ use osm_world::World;
 fn add_old(kind: Kind, name: Name, listed: &mut Vec<Key>) -> Result<(), Memory>
     ensures { OnOk result (listed.new.items ≡ listed.old.items ++ old_key kind name) }
 {
-    if let Name::Old(id) = name {
-        listed.push(Key { kind, id })?;
+    match name.referent() {
+        Referent::Old(id) => Ok(listed.push(Key { kind, id })?),
+        Referent::New(_) => Ok(()),
     }
-    Ok(())
 }
 
 fn add_nodes(nodes: &[Name], listed: &mut Vec<Key>) -> Result<(), Memory>
@@ -67,12 +67,12 @@ pub fn add_names(operation: &Op, listed: &mut Vec<Key>) -> Result<(), Memory>
 fn add_stored(world: &World, kind: Kind, name: Name, listed: &mut Vec<Key>) -> Result<(), Memory>
     ensures { OnOk result (listed.new.items ≡ listed.old.items ++ listed_by (state_of world.now).elements (old_key kind name)) }
 {
-    let Name::Old(id) = name else {
-        return Ok(());
-    };
-    match stored(world, Key { kind, id }) {
-        Some(content) => add_refs(content, listed),
-        None => Ok(()),
+    match name.referent() {
+        Referent::Old(id) => match stored(world, Key { kind, id }) {
+            Some(content) => add_refs(content, listed),
+            None => Ok(()),
+        },
+        Referent::New(_) => Ok(()),
     }
 }
 

@@ -6,7 +6,7 @@ ghost use Rattle.upload_check.specs.Checks.{task_of, named_in, known};
 
 use crate::sights::View;
 use osm_base::{Key, Kind};
-use osm_change::{Name, Said, said_made};
+use osm_change::{Name, Referent, Said, said_made};
 
 fn of_kind(kind: Kind, key: Key) -> Option<Key>
     ensures { result ≡ of_kind kind key }
@@ -20,8 +20,8 @@ impl<'a> View<'a> {
     pub fn known(&self, kind: Kind, name: Name) -> Option<Key>
         ensures { result ≡ known self.now kind name }
     {
-        match name {
-            Name::Old(id) => {
+        match name.referent() {
+            Referent::Old(id) => {
                 let key = Key { kind, id };
                 if self.world.store().count(key) == 0 {
                     None
@@ -29,7 +29,7 @@ impl<'a> View<'a> {
                     Some(key)
                 }
             }
-            Name::New(place) => match self.over.keys().get(place as usize) {
+            Referent::New(place) => match self.over.keys().get(place as usize) {
                 Some(key) => of_kind(kind, *key),
                 None => None,
             },
