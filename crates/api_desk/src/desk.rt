@@ -76,7 +76,8 @@ pub fn query_reply<L: Ledger>(
         ≡ reply_of (Some (says (ask (replay book.now) moment query)))) }
     ensures status { IfOk result (λ reply. IsStatus reply.status) }
 {
-    let answer = MapMachine::ask(alloc, book.world(), &query, moment, steps)?;
+    let found = MapMachine::find(alloc, book.world(), &query, moment, steps)?;
+    let answer = MapMachine::tell(alloc, found)?;
     Ok(reply_from(answer))
 }
 

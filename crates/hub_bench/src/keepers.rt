@@ -67,7 +67,8 @@ impl Keeper for Alone {
     }
 
     fn ask<L: Ledger>(&mut self, query: &Query, steps: &mut Steps<L>) -> Option<usize> {
-        match MapMachine::ask(self.alloc, self.book.world(), query, MOMENT, steps) {
+        let found = MapMachine::find(self.alloc, self.book.world(), query, MOMENT, steps).ok()?;
+        match MapMachine::tell(self.alloc, found) {
             Ok(answer) => Some(answer.as_slice().len()),
             Err(Memory) => None,
         }

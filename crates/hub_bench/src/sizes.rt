@@ -7,4 +7,4 @@ use std::mem::size_of;
 const _: () = prove!(size_of::<Version>() == 48);
 
 // An operation of the journal, but for the same.
-const _: () = prove!(size_of::<Op>() == 64);
+const _: () = prove!(size_of::<Op>() == 56);

@@ -139,6 +139,21 @@ impl<M: Machine> CountedJournal<M> {
         Ok(place)
     }
 
+    /// Puts an entry at the end that is offered to nobody, so that no copy of it is made. `Memory`,
+    /// the only error, leaves the journal.
+    pub fn push(&mut self, entry: M::Entry) -> Result<(), Memory>
+        requires taken { M.rules.takes (replay M.rules self.old) entry ≡ true }
+        requires next { (M.rules.tag_of entry).call ≡ calls_of M.rules.tag_of (M.rules.tag_of entry).session self.old + 1 }
+        ensures ok { OnOk result (self.new ≡ self.old ++ entry ∷ []) }
+        ensures err { OnErr result (self.new ≡ self.old) }
+    {
+        let tag = M::tag(&entry);
+        make_ready(&mut self.journal, &mut self.calls, tag.session)?;
+        self.journal.push_reserved(entry);
+        set_count(&mut self.calls, tag.session, tag.call);
+        Ok(())
+    }
+
     /// Puts an entry at the end, if there is one, as `append` does.
     pub fn enter<O: Outlet<M::Entry>>(
         &mut self,

@@ -123,7 +123,8 @@ impl<M: Machine> Core<M> {
         if !self.can_read(session) {
             return Ok(Seen::Idle);
         }
-        let bytes = M::ask(self.alloc, &self.shown, &query, moment, steps)?;
+        let found = M::find(self.alloc, &self.shown, &query, moment, steps)?;
+        let bytes = M::tell(self.alloc, found)?;
         let published = self.published;
         self.saw(session, published);
         Ok(Seen::Answered(bytes))

@@ -21,6 +21,8 @@ impl Machine for Rising {
 
     type Query = u64;
 
+    type Found = Bytes;
+
     type Plan = (u64, Option<u64>);
 
     type Entry = (Tag, u64);
@@ -32,6 +34,8 @@ impl Machine for Rising {
     ghost state = { λ world. world.items };
 
     ghost rules = { rising_rules };
+
+    ghost told = { λ found. found };
 
     ghost has_room = { λ world entry. vec_len world < vec_capacity world };
 
@@ -79,6 +83,10 @@ impl Machine for Rising {
         add(alloc, world, plan.0, tag)
     }
 
+    fn tag(entry: &(Tag, u64)) -> Tag {
+        entry.0
+    }
+
     fn copy(_alloc: Global, entry: &(Tag, u64)) -> Result<(Tag, u64), Memory> {
         Ok(*entry)
     }
@@ -96,7 +104,7 @@ impl Machine for Rising {
         world.push_reserved(entry.1);
     }
 
-    fn ask<L: Ledger>(
+    fn find<L: Ledger>(
         alloc: Global,
         world: &Vec<u64>,
         query: &u64,
@@ -104,6 +112,10 @@ impl Machine for Rising {
         _steps: &mut Steps<L>,
     ) -> Result<Bytes, Memory> {
         text(alloc, world.get(*query as usize).copied())
+    }
+
+    fn tell(_alloc: Global, found: Bytes) -> Result<Bytes, Memory> {
+        Ok(found)
     }
 
     ghost entry_taken = { λ numbers tag moment number. added_taken numbers tag number };

@@ -2,7 +2,7 @@
 //!
 //! A plan is told to have been made on an earlier state, in which the journal's first entries end,
 //! and not on a named one.
-ghost use Rattle.std.specs.Prelude.{◌≡◌, ℕ, true, IfOk, OnOk, MatchResult, IfSome};
+ghost use Rattle.std.specs.Prelude.{◌≡◌, ℕ, List, true, IfOk, OnOk, MatchResult, IfSome};
 ghost use Rattle.machine_law.specs.declared.tags.Tag.{Tag};
 ghost use Rattle.machine_law.specs.Rules.{Rules, Later, IsForeseen};
 
@@ -23,6 +23,9 @@ pub trait Machine {
     /// What a caller wants to know.
     type Query: Drop;
 
+    /// What a query found. It borrows nothing, so the world is given back before it is told.
+    type Found: Drop;
+
     /// A command, with what was found out about it on some world.
     type Plan: Drop;
 
@@ -40,6 +43,9 @@ pub trait Machine {
 
     // What commands and queries come to on each state.
     ghost rules: { Rules Self.State Self.Command Self.Query Self.Plan Self.Entry Self.Look };
+
+    // The answer that what was found comes to.
+    ghost told: { Self.Found → List ℕ };
 
     // Whether an entry can be applied without memory.
     ghost has_room: { Self.World → Self.Entry → Type 0 };
@@ -91,6 +97,10 @@ pub trait Machine {
         ensures { (begun : Self.State) (command : Self.Command) → rules.planned begun command plan → Later rules begun (state world.now)
             → IfOk result (λ s. s ≡ rules.act (state world.now) tag moment command) };
 
+    /// Whose call made the entry.
+    fn tag(entry: &Self::Entry) -> Tag
+        ensures { result ≡ rules.tag_of entry.now };
+
     /// A second entry that is equal to this one.
     fn copy(alloc: Global, entry: &Self::Entry) -> Result<Self::Entry, Memory>
         ensures { IfOk result (λ e. e ≡ entry.now) };
@@ -111,15 +121,19 @@ pub trait Machine {
         requires room { has_room world.old entry }
         ensures { state world.new ≡ rules.after (state world.old) entry };
 
-    /// The answer to a query on this world, in the form of a command's answer.
-    fn ask<L: Ledger>(
+    /// What a query finds on this world.
+    fn find<L: Ledger>(
         alloc: Global,
         world: &Self::World,
         query: &Self::Query,
         moment: u64,
         steps: &mut Steps<L>,
-    ) -> Result<Bytes, Memory>
-        ensures { IfOk result (λ bytes. bytes ≡ rules.reply (state world.now) query.now moment) };
+    ) -> Result<Self::Found, Memory>
+        ensures { IfOk result (λ found. told found ≡ rules.reply (state world.now) query.now moment) };
+
+    /// The answer to the query that found this, in the form of a command's answer.
+    fn tell(alloc: Global, found: Self::Found) -> Result<Bytes, Memory>
+        ensures { IfOk result (λ bytes. bytes ≡ told found) };
 
     // The entry of an accepted command may come next, and carries the tag.
     ghost entry_taken: { (s : Self.State) (tag : Tag) (moment : ℕ) (command : Self.Command) → IfSome (rules.act s tag moment command).entry

@@ -205,7 +205,8 @@ impl Bench {
 
     /// Makes the whole answer of a read, and gives how many bytes it has.
     fn answer<L: Ledger>(&self, query: &Query, steps: &mut Steps<L>) -> Option<usize> {
-        match MapMachine::ask(self.alloc, self.book.world(), query, MOMENT, steps) {
+        let found = MapMachine::find(self.alloc, self.book.world(), query, MOMENT, steps).ok()?;
+        match MapMachine::tell(self.alloc, found) {
             Ok(answer) => Some(answer.as_slice().len()),
             Err(Memory) => None,
         }

@@ -1,3 +1,4 @@
 pub mod Judging
 pub mod Machine
+pub mod Found
 pub mod Laws

@@ -6,6 +6,7 @@
 mod acceptance;
 mod answers;
 mod books;
+mod found;
 mod judging;
 mod keeper;
 mod law;
@@ -16,6 +17,7 @@ mod world_asks;
 mod world_rows;
 
 pub use books::{book_law, next_call};
+pub use found::Found;
 pub use keeper::BookKeeper;
 pub use law::{commits_are_the_maps, fronts_are_the_maps, journals_are_the_maps};
 pub use machine::{MapMachine, MapWorld};

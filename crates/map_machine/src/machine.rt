@@ -14,10 +14,12 @@ ghost use Rattle.osm_model.specs.declared.states.State.{State};
 ghost use Rattle.upload_check.specs.Commands.{IsUploadPlan, IsForeseen, IsOther, command_of};
 ghost use Rattle.upload_check.specs.Planned.{plan_of};
 ghost use Rattle.map_machine.specs.Machine.{act_as, bytes_of, IsPlannedAs, IsForeseenAs, StandsAs};
+ghost use Rattle.map_machine.specs.Found.{told};
 ghost use Rattle.map_machine.specs.declared.plans.Asked.{Asked};
 
 use crate::acceptance::takes;
 use crate::answers::bytes_of;
+use crate::found::{Found, found_of, tell};
 use crate::judging::judge_on;
 use crate::planning::{accepted_answer, command_still, plan_command, upload_entry};
 use crate::plans::{Asked, MapPlan};
@@ -65,6 +67,8 @@ impl Machine for MapMachine {
 
     type Query = Query;
 
+    type Found = Found;
+
     type Plan = MapPlan;
 
     type Entry = Entry;
@@ -76,6 +80,8 @@ impl Machine for MapMachine {
     ghost state = { λ w. state_of w.world };
 
     ghost rules = { map_rules };
+
+    ghost told = { told };
 
     ghost has_room = { λ w entry. HasRoom w.world entry.command };
 
@@ -121,6 +127,13 @@ impl Machine for MapMachine {
         settle_again(alloc, &world.world, plan, tag, moment, steps)
     }
 
+    fn tag(entry: &Entry) -> Tag {
+        Tag {
+            session: entry.session,
+            call: entry.call,
+        }
+    }
+
     fn copy(alloc: Global, entry: &Entry) -> Result<Entry, Memory> {
         entry.copy(alloc)
     }
@@ -137,15 +150,19 @@ impl Machine for MapMachine {
         world.world.apply(world.alloc, entry);
     }
 
-    fn ask<L: Ledger>(
+    fn find<L: Ledger>(
         alloc: Global,
         world: &MapWorld,
         query: &Query,
         moment: u64,
         steps: &mut Steps<L>,
-    ) -> Result<Bytes, Memory> {
+    ) -> Result<Found, Memory> {
         let answer = world_ask(alloc, &world.world, moment, query, steps)?;
-        bytes_from(alloc, answer)
+        found_from(alloc, answer)
+    }
+
+    fn tell(alloc: Global, found: Found) -> Result<Bytes, Memory> {
+        tell(alloc, found)
     }
 
     ghost entry_taken = { accepted_taken };
@@ -153,6 +170,14 @@ impl Machine for MapMachine {
     ghost start_consistent = { empty_kept };
 
     ghost after_consistent = { taken_kept };
+}
+
+/// What an answer was found to be, which is given up here.
+fn found_from(alloc: Global, answer: Answer<'_>) -> Result<Found, Memory>
+    requires { HasShownMoments answer }
+    ensures { IfOk result (λ found. told found ≡ bytes_of answer.entry) }
+{
+    found_of(alloc, &answer)
 }
 
 /// The bytes of an answer, which is given up here, once.

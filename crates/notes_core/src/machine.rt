@@ -34,6 +34,8 @@ impl Machine for NotesMachine {
 
     type Query = NoteQuery;
 
+    type Found = Bytes;
+
     type Plan = NotePlan;
 
     type Entry = NoteEntry;
@@ -45,6 +47,8 @@ impl Machine for NotesMachine {
     ghost state = { λ w. state_of w };
 
     ghost rules = { note_rules };
+
+    ghost told = { λ found. found };
 
     ghost has_room = { λ w entry. HasRoomFor w entry.command };
 
@@ -87,6 +91,13 @@ impl Machine for NotesMachine {
         settle_on(alloc, world, plan.asked, tag, moment)
     }
 
+    fn tag(entry: &NoteEntry) -> Tag {
+        Tag {
+            session: entry.session,
+            call: entry.call,
+        }
+    }
+
     fn copy(alloc: Global, entry: &NoteEntry) -> Result<NoteEntry, Memory> {
         entry.copy(alloc)
     }
@@ -103,7 +114,7 @@ impl Machine for NotesMachine {
         world.apply(entry);
     }
 
-    fn ask<L: Ledger>(
+    fn find<L: Ledger>(
         alloc: Global,
         world: &NotesWorld,
         query: &NoteQuery,
@@ -111,6 +122,10 @@ impl Machine for NotesMachine {
         _steps: &mut Steps<L>,
     ) -> Result<Bytes, Memory> {
         answer_query(alloc, world, query)
+    }
+
+    fn tell(_alloc: Global, found: Bytes) -> Result<Bytes, Memory> {
+        Ok(found)
     }
 
     ghost entry_taken = { accepted_taken };

@@ -14,7 +14,8 @@ use crate::press::Press;
 use crate::seats::Seats;
 use crate::session::Session;
 use crate::snapshot::Snapshot;
-use hub_core::{Book, CountedJournal, Done, Judged};
+use crate::twins::Twins;
+use hub_core::{CountedJournal, Done, Judged};
 use machine_law::{Machine, Settled, Tag};
 use osm_base::{Memory, Steps};
 use shared_front::{Front, HubName};
@@ -53,27 +54,27 @@ impl<N: HubName, M: Machine, S: Snapshot<N, M>, R: Wait + Drop> Model for Held<N
     ghost invariant = { λ h. (h.entries ≡ h.press.journal) × AreSeated M.rules.tag_of N.sessions h.press.journal };
 }
 
-/// The held value of the journal of this book, all of it published, under the name of these seats,
+/// The held value of the journal of these twins, all of it published, under the name of these seats,
 /// and its sessions in the order of their numbers. Each takes up the calls that the journal has of it.
 pub fn begin<N: HubName, M: Machine, S: Snapshot<N, M>, R: Wait + Drop>(
     alloc: Global,
     rt: R,
     seats: Seats<M::Entry>,
-    book: Book<M>,
+    twins: Twins<M>,
 ) -> Result<(Held<N, M, S, R>, Vec<Session<N, M, S>>), Memory>
     requires named { seats.opened ≡ N.book }
     requires seated { seats.sessions ≡ N.sessions }
-    requires own { AreSeated M.rules.tag_of N.sessions book }
-    ensures held { IfOk result (λ r. r.0 ≡ edition book book) }
+    requires own { AreSeated M.rules.tag_of N.sessions twins }
+    ensures held { IfOk result (λ r. r.0 ≡ edition twins twins) }
     ensures count { IfOk result (λ r. length r.1.items ≡ seats.sessions) }
     ensures back { IfOk result (λ r. (number : ℕ) → IfSome (slice_get r.1.items number)
-        (λ s. s ≡ returner number book (calls_of M.rules.tag_of number book))) }
+        (λ s. s ≡ returner number twins (calls_of M.rules.tag_of number twins))) }
 {
     let Seats { opened, sessions } = seats;
-    let (journal, world) = book.into_parts();
+    let (journal, first, second) = twins.into_parts();
     let entries = journal.journal();
     let seat = opened.named::<N>();
-    let press = Press::begin(alloc, rt, seat, entries, world, sessions as usize)?;
+    let press = Press::begin(alloc, rt, seat, entries, (first, second), sessions as usize)?;
     let sessions = returning(alloc, &press, &journal, sessions)?;
     let held = Held {
         entries: journal,

@@ -22,7 +22,8 @@ use crate::held::Held;
 use crate::seats::Seats;
 use crate::session::Session;
 use crate::snapshot::Snapshot;
-use hub_core::{Book, Done};
+use crate::twins::Twins;
+use hub_core::{CountedJournal, Done};
 use machine_law::Machine;
 use osm_base::{Memory, Steps};
 use osm_outside::{Gate, Point};
@@ -65,31 +66,31 @@ impl<N: HubName, M: Machine, S: Snapshot<N, M>, G: Gate + Drop, R: Wait + Drop> 
         ensures count { IfOk result (λ r. length r.1.items ≡ seats.sessions) }
         ensures fresh { IfOk result (λ r. (number : ℕ) → IfSome (slice_get r.1.items number) (λ s. s ≡ newcomer number)) }
     {
-        Hub::begin(alloc, rt, seats, gate, Book::new(alloc))
+        let journal = CountedJournal::new(alloc);
+        let twins = Twins::of(journal, M::empty(alloc), M::empty(alloc));
+        Hub::begin(alloc, rt, seats, gate, twins)
     }
 
-    /// A hub that goes on from the journal of a book, all of it published, under the name of these seats, and its sessions in the order of their numbers.
-    /// Each takes up the calls that the journal has of it.
-    ///
-    /// The book's world is that of the first copy that is published. The second takes each entry anew,
-    /// by a copy, and tests it.
+    /// A hub that goes on from the journal of twins, all of it published, under the name of these seats,
+    /// and its sessions in the order of their numbers. Each takes up the calls that the journal has of it.
+    /// The worlds of the twins are those of the two copies.
     pub fn begin(
         alloc: Global,
         rt: R,
         seats: Seats<M::Entry>,
         gate: G,
-        book: Book<M>,
+        twins: Twins<M>,
     ) -> Result<(Hub<N, M, S, G, R>, Vec<Session<N, M, S>>), Memory>
         requires named { seats.opened ≡ N.book }
         requires seated { seats.sessions ≡ N.sessions }
         // The journal has entries of these sessions alone, so its closing journal has so too.
-        requires own { AreSeated M.rules.tag_of N.sessions book }
+        requires own { AreSeated M.rules.tag_of N.sessions twins }
         ensures hub { IfOk result (λ r. r.0 ≡ Some (record { told = []; sessions = seats.sessions })) }
         ensures count { IfOk result (λ r. length r.1.items ≡ seats.sessions) }
-        ensures back { IfOk result (λ r. (number : ℕ) → IfSome (slice_get r.1.items number) (λ s. s ≡ returner number book (calls_of M.rules.tag_of number book))) }
+        ensures back { IfOk result (λ r. (number : ℕ) → IfSome (slice_get r.1.items number) (λ s. s ≡ returner number twins (calls_of M.rules.tag_of number twins))) }
     {
         let ends = EndList::new(alloc, seats.sessions)?;
-        let (held, sessions) = held::begin(alloc, rt, seats, book)?;
+        let (held, sessions) = held::begin(alloc, rt, seats, twins)?;
         let hub = Hub {
             held: Mutex::new(held),
             gate,

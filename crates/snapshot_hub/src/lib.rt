@@ -16,6 +16,7 @@ mod shown;
 mod snapshot;
 mod standing;
 mod step;
+mod twins;
 
 pub use closing::{Closer, Closing};
 pub use ends::{End, EndList};
@@ -28,3 +29,4 @@ pub use shown::Shown;
 pub use snapshot::Snapshot;
 pub use standing::Standing;
 pub use step::Step;
+pub use twins::{Twins, follow_all, twins_of};

@@ -46,25 +46,28 @@ impl<N: HubName, M: Machine, S: Snapshot<N, M>, R: Wait + Drop> Model for Press<
 }
 
 impl<N: HubName, M: Machine, S: Snapshot<N, M>, R: Wait + Drop> Press<N, M, S, R> {
-    /// A journal of this world, all of it published, with room for so many readers. The world is that
-    /// of the first copy, and the second follows entry by entry.
+    /// A journal of these worlds, all of it published, with room for so many readers. Each world is that
+    /// of a copy.
     pub fn begin(
         alloc: Global,
         rt: R,
         seat: (Tail<N, M::Entry>, Front<N, M::Entry>),
         entries: &[M::Entry],
-        world: M::World,
+        worlds: (M::World, M::World),
         readers: usize,
     ) -> Result<Press<N, M, S, R>, Memory>
         requires readers { (0 < readers) × (readers < 2 ^ 32) }
         requires empty { seat.1 ≡ [] }
         requires kept { IsFront M.rules N.sessions entries.now }
-        requires world { M.state world ≡ replay M.rules entries.now }
+        requires first { M.state worlds.0 ≡ replay M.rules entries.now }
+        requires second { M.state worlds.1 ≡ replay M.rules entries.now }
         ensures { IfOk result (λ p. p ≡ edition entries.now entries.now) }
     {
         let (tail, mut front) = seat;
-        let second = followed::<N, M, S>(alloc, &tail, &mut front, entries)?;
-        let first = S::of_world(alloc, world, &front);
+        add_all(&tail, &mut front, entries)?;
+        let (first, second) = worlds;
+        let first = S::of_world(alloc, first, &front);
+        let second = S::of_world(alloc, second, &front);
         let writer = WriteHandle::new(alloc, rt, first, second, readers)?;
         Ok(Press {
             tail,
@@ -146,43 +149,21 @@ impl<N: HubName, M: Machine, S: Snapshot<N, M>, R: Wait + Drop> Outlet<M::Entry>
     ghost keeps_itself = { λ press. refl };
 }
 
-// A copy that followed these entries, each by a copy of its own, and the front of them.
-fn followed<N: HubName, M: Machine, S: Snapshot<N, M>>(
-    alloc: Global,
-    tail: &Tail<N, M::Entry>,
-    front: &mut Front<N, M::Entry>,
-    entries: &[M::Entry],
-) -> Result<S, Memory>
-    requires empty { front.old ≡ [] }
-    requires kept { IsFront M.rules N.sessions entries.now }
-    ensures front { OnOk result (front.new ≡ entries.now) }
-    ensures copy { IfOk result (λ copy. S.entries copy ≡ entries.now) }
-{
-    let mut copy = S::empty(alloc, front);
-    for entry in entries {
-        follow_one::<N, M, S>(alloc, tail, front, &mut copy, entry)?;
-    }
-    Ok(copy)
-}
-
-// Has a copy follow one entry more, with its front.
-fn follow_one<N: HubName, M: Machine, S: Snapshot<N, M>>(
-    alloc: Global,
-    tail: &Tail<N, M::Entry>,
-    front: &mut Front<N, M::Entry>,
-    copy: &mut S,
-    entry: &M::Entry,
+// Adds these entries to a front that has none yet.
+fn add_all<N: HubName, E>(
+    tail: &Tail<N, E>,
+    front: &mut Front<N, E>,
+    entries: &[E],
 ) -> Result<(), Memory>
-    requires same { S.entries copy.old ≡ front.old }
-    requires kept { IsFront M.rules N.sessions (front.old ++ entry.now ∷ []) }
-    ensures front { OnOk result (front.new ≡ front.old ++ entry.now ∷ []) }
-    ensures copy { OnOk result (S.entries copy.new ≡ front.old ++ entry.now ∷ []) }
+    requires { front.old ≡ [] }
+    ensures { OnOk result (front.new ≡ entries.now) }
 {
-    if front.len() >= MOST || !front.add(tail, entry) {
-        return Err(Memory);
+    for entry in entries {
+        if front.len() >= MOST || !front.add(tail, entry) {
+            return Err(Memory);
+        }
     }
-    let own = M::copy(alloc, entry)?;
-    copy.advance(own, front)
+    Ok(())
 }
 
 // Lets the writer have the step that waits. With `Memory` it waits on.

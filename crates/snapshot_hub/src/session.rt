@@ -147,6 +147,22 @@ impl<N: HubName, M: Machine, S: Snapshot<N, M>> Session<N, M, S> {
         ensures reply { IfOk result (λ bytes. bytes ≡ M.rules.reply (replay M.rules self.new.front) query.now moment) }
         ensures same { self.new ≡ seeing self.old self.new.front }
     {
+        let found = self.find_published(query, moment, steps)?;
+        M::tell(self.alloc, found)
+    }
+
+    // What the query finds, while the reader's guard is held: who publishes waits for that, and not for
+    // the answer's bytes.
+    fn find_published<L: Ledger>(
+        &mut self,
+        query: &M::Query,
+        moment: u64,
+        steps: &mut Steps<L>,
+    ) -> Result<M::Found, Memory>
+        ensures begins { IsPrefix self.old.front self.new.front }
+        ensures found { IfOk result (λ found. M.told found ≡ M.rules.reply (replay M.rules self.new.front) query.now moment) }
+        ensures same { self.new ≡ seeing self.old self.new.front }
+    {
         let Some(reading) = self.reader.enter() else {
             return Err(Memory);
         };
@@ -155,7 +171,7 @@ impl<N: HubName, M: Machine, S: Snapshot<N, M>> Session<N, M, S> {
             return Err(Memory);
         }
         self.standing.see(shown.front().again());
-        M::ask(self.alloc, shown.world(), query, moment, steps)
+        M::find(self.alloc, shown.world(), query, moment, steps)
     }
 
     /// What is read off the world after the entries that are then published. They begin with all that

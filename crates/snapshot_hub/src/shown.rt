@@ -104,31 +104,11 @@ impl<N: HubName, M: Machine> Shown<N, M> {
 impl<N: HubName, M: Machine> Snapshot<N, M> for Shown<N, M> {
     ghost entries = { λ s. s };
 
-    fn empty(alloc: Global, front: &Front<N, M::Entry>) -> Shown<N, M> {
-        Shown {
-            alloc,
-            world: M::empty(alloc),
-            front: front.again(),
-        }
-    }
-
     fn of_world(alloc: Global, world: M::World, front: &Front<N, M::Entry>) -> Shown<N, M> {
         Shown {
             alloc,
             world,
             front: front.again(),
-        }
-    }
-
-    fn advance(&mut self, entry: M::Entry, front: &Front<N, M::Entry>) -> Result<(), Memory>
-        requires ends { (before : List M.Entry) × (front.now ≡ before ++ entry ∷ []) }
-        requires kept { IsFront M.rules N.sessions front.now }
-        ensures { MatchResult result (λ _. self.new ≡ follow M.rules self.old front.now) (λ _. self.new ≡ self.old) }
-    {
-        let next = Step::new(entry, front);
-        match self.take(next) {
-            Ok(()) => Ok(()),
-            Err(_) => Err(Memory),
         }
     }
 

@@ -1,5 +1,5 @@
 //! What a published copy is.
-ghost use Rattle.std.specs.Prelude.{◌≡◌, ◌++◌, ◌∷◌, [], List, fold, MatchResult};
+ghost use Rattle.std.specs.Prelude.{◌≡◌, List, fold};
 ghost use Rattle.machine_law.specs.Rules.{replay};
 ghost use Rattle.snapshot_hub.specs.Closings.{IsFront};
 ghost use Rattle.snapshot_hub.specs.Follow.{follow};
@@ -7,7 +7,6 @@ ghost use Rattle.snapshot_hub.specs.Follow.{follow};
 use crate::step::Step;
 use left_right::Absorb;
 use machine_law::Machine;
-use osm_base::Memory;
 use shared_front::{Front, HubName};
 use std::alloc::Global;
 
@@ -19,22 +18,11 @@ pub trait Snapshot<N: HubName, M: Machine>: Absorb<Step<N, M>> + Drop {
     // The entries of the front.
     ghost entries: { Self → List M.Entry };
 
-    /// The copy after no entry.
-    fn empty(alloc: Global, front: &Front<N, M::Entry>) -> Self
-        requires { front.now ≡ [] }
-        ensures { entries result ≡ [] };
-
     /// The copy after a front, by the world that it leaves.
     fn of_world(alloc: Global, world: M::World, front: &Front<N, M::Entry>) -> Self
         requires world { M.state world ≡ replay M.rules front.now }
         requires kept { IsFront M.rules N.sessions front.now }
         ensures { entries result ≡ front.now };
-
-    /// Follows the step to a front by its last entry, if it is the next one and that may come next there.
-    fn advance(&mut self, entry: M::Entry, front: &Front<N, M::Entry>) -> Result<(), Memory>
-        requires ends { (before : List M.Entry) × (front.now ≡ before ++ entry ∷ []) }
-        requires kept { IsFront M.rules N.sessions front.now }
-        ensures { MatchResult result (λ _. entries self.new ≡ follow M.rules (entries self.old) front.now) (λ _. entries self.new ≡ entries self.old) };
 
     /// The front.
     fn front(&self) -> &Front<N, M::Entry>

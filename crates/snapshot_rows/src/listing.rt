@@ -59,6 +59,8 @@ impl Machine for Listing {
 
     type Query = u64;
 
+    type Found = Bytes;
+
     type Plan = Aim;
 
     type Entry = Noted;
@@ -70,6 +72,8 @@ impl Machine for Listing {
     ghost state = { λ world. world.numbers.items };
 
     ghost rules = { listing_rules };
+
+    ghost told = { λ found. found };
 
     ghost has_room = { λ world entry. vec_len world.numbers < vec_capacity world.numbers };
 
@@ -126,6 +130,10 @@ impl Machine for Listing {
         note(alloc, plan.wish, tag)
     }
 
+    fn tag(entry: &Noted) -> Tag {
+        entry.tag
+    }
+
     fn copy(_alloc: Global, entry: &Noted) -> Result<Noted, Memory> {
         if entry.wish.lack == Lack::Copy {
             return Err(Memory);
@@ -150,7 +158,7 @@ impl Machine for Listing {
         world.numbers.push_reserved(entry.wish.number);
     }
 
-    fn ask<L: Ledger>(
+    fn find<L: Ledger>(
         alloc: Global,
         world: &Numbers,
         query: &u64,
@@ -158,6 +166,10 @@ impl Machine for Listing {
         _steps: &mut Steps<L>,
     ) -> Result<Bytes, Memory> {
         text(alloc, world.numbers.get(*query as usize).copied())
+    }
+
+    fn tell(_alloc: Global, found: Bytes) -> Result<Bytes, Memory> {
+        Ok(found)
     }
 
     ghost entry_taken = { λ numbers tag moment wish. noted_taken numbers tag wish };

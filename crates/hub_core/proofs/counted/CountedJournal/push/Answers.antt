@@ -1,0 +1,22 @@
+use Rattle.std.proofs.Common.{◌≡◌, refl, sym, ◌∙◌, ◌++◌, ◌∷◌, [], ◌+◌, true}
+use Rattle.machine_law.specs.Rules.{replay}
+use Rattle.hub_core.specs.Journal.{calls_of, AreCounted}
+use Rattle.hub_core.proofs.Calls.{counted_push}
+use Rattle.hub_core.proofs.Legal.{journal_push}
+use Rattle.hub_core.proofs.counted.CountedJournal.push.Goals as goal
+
+pub invariant_of-self-2 : goal.invariant_of-self-2
+invariant_of-self-2 g c =
+    let rules = g.M.Machine.rules in
+    let entry = c.args.entry in
+    let tag = c.tag-tag.result in
+    let journal = c.self.inside.journal.items in
+    let items : c.push_reserved.new.self.items ≡ journal ++ entry ∷ [] = rw (c.push_reserved.ensures.items, c.make_ready.ensures.journal) refl in
+    let taken : rules.takes (replay rules journal) entry ≡ true = rw c.self.view_is c.requires.taken in
+    let next : (rules.tag_of entry).call ≡ calls_of rules.tag_of (rules.tag_of entry).session journal + 1 = rw c.self.view_is c.requires.next in
+    let next_of : tag.call ≡ calls_of rules.tag_of tag.session journal + 1 = rw c.tag-tag.ensures next in
+    let counted : AreCounted rules.tag_of c.make_ready.new.calls journal = λ session. c.make_ready.ensures.calls session ∙ c.self.invariant.1 session in
+    rw items (
+      journal_push rules g.met.M.Machine.after_consistent journal entry c.self.invariant.0 taken next,
+      counted_push rules.tag_of c.make_ready.new.calls c.set_count.new.calls journal entry tag counted (sym c.tag-tag.ensures) c.set_count.ensures next_of,
+    )
