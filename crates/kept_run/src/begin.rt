@@ -27,7 +27,7 @@ pub struct Begun<Y, V: Device, P> {
 /// Takes up the journal in the file at that path. Where it can't, the file is given back, and the error
 /// is the program's status: as `take_up` says, and 8 too where links aren't served on from such a
 /// journal.
-fn take_up_fit<R: Threads + Sync, E: Send + Drop, S: KeptJournal<E>, J: Journals>(
+fn take_up_fit<R: Threads + Sync, E: Send + Sync + Drop, S: KeptJournal<E> + Send, J: Journals>(
     rt: &R,
     alloc: Global,
     path: &str,
@@ -55,7 +55,13 @@ fn take_up_fit<R: Threads + Sync, E: Send + Drop, S: KeptJournal<E>, J: Journals
 /// Takes up the journal in the file at that path, reads the users of the text at theirs, and opens so
 /// many ports at that address. Where it can't, the file is given back, and the error is the program's
 /// status. The standard link is left alone.
-pub fn begin_kept<R: Threads + Sync, E: Send + Drop, S: KeptJournal<E>, H: Host, J: Journals>(
+pub fn begin_kept<
+    R: Threads + Sync,
+    E: Send + Sync + Drop,
+    S: KeptJournal<E> + Send,
+    H: Host,
+    J: Journals,
+>(
     rt: &R,
     alloc: Global,
     users: &str,

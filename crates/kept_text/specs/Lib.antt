@@ -1,3 +1,4 @@
+pub mod Judged
 pub mod OneLine
 pub mod Parts
 pub mod Restarts

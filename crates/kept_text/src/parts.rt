@@ -13,7 +13,7 @@ use osm_base::split_once;
 use std::alloc::Global;
 use std::thread::{Threads, join};
 
-/// A shorter text is read sooner than a thread begins.
+/// A shorter text is read by one thread, in a millisecond or so.
 const SMALL_TEXT: usize = 65_536;
 
 /// Reads the lines of a text, by at most so many threads. Where none can be had, one does it all.

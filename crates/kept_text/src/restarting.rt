@@ -8,7 +8,7 @@ ghost use Rattle.journal_file.specs.Whole.{text_of};
 ghost use Rattle.kept_text.specs.Restarts.{IsCause, StandsFor};
 
 use crate::faults::TextFault;
-use crate::judging::EntryJudge;
+use crate::judging::{EntryJudge, judge};
 use crate::parts::read_lines;
 use crate::reading::KeptText;
 use journal_file::{Device, JournalFile, OpenFault, is_damaged, kept_text};
@@ -46,11 +46,12 @@ impl From<TextFault> for RestartFault {
 }
 
 /// Reads the text that these bytes of a file stand for, and judges its entries.
-fn read_text<R: Threads + Sync, E: Send + Drop, T: KeptText<E> + Send, S: EntryJudge<E>>(
-    rt: &R,
-    alloc: Global,
-    file: &[u8],
-) -> Result<S::Journal, RestartFault>
+fn read_text<
+    R: Threads + Sync,
+    E: Send + Sync + Drop,
+    T: KeptText<E> + Send,
+    S: EntryJudge<E> + Send,
+>(rt: &R, alloc: Global, file: &[u8]) -> Result<S::Journal, RestartFault>
     ensures text { IfOk result (λ journal. text_of file.now ≡ T.text (S.entries journal)) }
     ensures legal { IfOk result (λ journal. S.is_legal (S.entries journal)) }
     ensures only { IfOk result (λ journal. (entries : List E) → All T.is_entry entries → text_of file.now ≡ T.text entries → S.entries journal ≡ entries) }
@@ -64,7 +65,7 @@ fn read_text<R: Threads + Sync, E: Send + Drop, T: KeptText<E> + Send, S: EntryJ
         return Err(RestartFault::NoJournal);
     };
     let entries = read_lines::<R, E, T>(rt, alloc, lines, READERS)?;
-    let journal = S::judge(alloc, entries)?;
+    let journal = judge::<R, E, S>(rt, alloc, entries)?;
     Ok(journal)
 }
 
@@ -73,9 +74,9 @@ fn read_text<R: Threads + Sync, E: Send + Drop, T: KeptText<E> + Send, S: EntryJ
 pub fn restart<
     R: Threads + Sync,
     D: Device,
-    E: Send + Drop,
+    E: Send + Sync + Drop,
     T: KeptText<E> + Send,
-    S: EntryJudge<E>,
+    S: EntryJudge<E> + Send,
 >(
     rt: &R,
     alloc: Global,

@@ -38,9 +38,9 @@ fn status_of_restart(fault: RestartFault) -> u8
 pub fn take_up<
     R: Threads + Sync,
     J: Journals,
-    E: Send + Drop,
+    E: Send + Sync + Drop,
     T: KeptText<E> + Send,
-    S: EntryJudge<E>,
+    S: EntryJudge<E> + Send,
 >(
     rt: &R,
     alloc: Global,

@@ -1,6 +1,7 @@
 //! A mirror whose entries are kept in a file, as what a program runs.
-ghost use Rattle.std.specs.Prelude.{◌≡◌, map, vec_len, IfErr, IfOk};
+ghost use Rattle.std.specs.Prelude.{◌≡◌, map, vec_len};
 ghost use Rattle.journal_text.specs.Text.{text_of};
+ghost use Rattle.kept_text.specs.Judged.{IsJudged};
 ghost use Rattle.kept_text.specs.declared.faults.TextFault.{TextFault};
 ghost use Rattle.osm_model.specs.Journal.{IsLegal};
 ghost use Rattle.mirror_serve.specs.Mirrors.{MirrorsKeptPorts};
@@ -29,7 +30,11 @@ use user_table::UserTable;
 pub struct MirrorJournal;
 
 impl EntryJudge<Entry> for MirrorJournal {
+    ghost use Rattle.std.specs.Prelude.{⊤};
     ghost use Rattle.osm_model.specs.Journal.{IsLegal};
+
+    /// A mirror has one copy, so nothing follows the entries before it is begun.
+    type World = ();
 
     type Journal = Follower;
 
@@ -37,10 +42,19 @@ impl EntryJudge<Entry> for MirrorJournal {
 
     ghost is_legal = { λ entries. IsLegal entries };
 
-    fn judge(alloc: Global, read: Vec<Entry>) -> Result<Follower, TextFault>
-        ensures kept { IfOk result (λ follower. follower ≡ read.items) }
-        ensures legal { IfOk result (λ _. IsLegal read.items) }
-        ensures refused { IfErr result (λ fault. fault ≡ TextFault.NoJournal → IsLegal read.items → ⊥) }
+    ghost follows = { λ _ _. ⊤ };
+
+    fn follow(_alloc: Global, _read: &[Entry]) -> Result<(), TextFault> {
+        Ok(())
+    }
+
+    fn journal_of(
+        alloc: Global,
+        read: Vec<Entry>,
+        _first: (),
+        _second: (),
+    ) -> Result<Follower, TextFault>
+        ensures { IsJudged (λ follower. follower) (λ entries. IsLegal entries) read.items result }
     {
         let mut keeper = BookKeeper::new(alloc);
         match keep_all(alloc, read, &mut keeper) {

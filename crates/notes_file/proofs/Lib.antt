@@ -1,3 +1,2 @@
-mod InTurn
 mod OneLine
 mod WholeEntries

@@ -15,7 +15,6 @@ ghost use Rattle.kept_serve.specs.Ports.{ServesKeptPorts};
 use crate::desk::NotesKeptDesk;
 use crate::makers::NotesKeptDesks;
 use desk_serve::points_are_consistent;
-use hub_core::Book;
 use journal_file::{Device, JournalFile};
 use kept_entries::{Board, Lines, Receipt, Told, receipts_stay};
 use kept_serve::{KeptBack, outcome_of, serve_kept_by, shelve};
@@ -25,7 +24,7 @@ use notes_desk::{NotesHub, NotesSession};
 use osm_base::Memory;
 use osm_outside::{NoGate, Port, PortOutside};
 use shared_front::{HubName, Opened};
-use snapshot_hub::{Seats, Shown};
+use snapshot_hub::{Seats, Shown, Twins};
 use std::alloc::Global;
 use std::sync::{Mutex, Wait};
 use std::thread::Threads;
@@ -70,8 +69,8 @@ fn serve_by_sessions<
     >(rt, alloc, maker, sessions, ports)
 }
 
-/// Serves the links of the ports by the first sessions of a hub that goes on from the journal of this
-/// book, under the names of these seats and receipts, one worker a port, each in a thread of its own, until no port
+/// Serves the links of the ports by the first sessions of a hub that goes on from the journal of these
+/// twins, under the names of these seats and receipts, one worker a port, each in a thread of its own, until no port
 /// has a link to come or accepting fails. Then it closes the hub. A reply is sent only once the file
 /// holds what it tells of. The ports come back in their order, and the file's device does.
 pub fn serve_kept_ports<
@@ -86,7 +85,7 @@ pub fn serve_kept_ports<
     alloc: Global,
     seats: Seats<NoteEntry>,
     receipts: Opened<Receipt>,
-    book: Book<NotesMachine>,
+    twins: Twins<NotesMachine>,
     file: JournalFile<V>,
     users: &UserTable,
     ports: &mut Vec<P>,
@@ -96,16 +95,16 @@ pub fn serve_kept_ports<
     requires receipts { receipts ≡ K.book }
     requires some { 0 < vec_len ports.old }
     requires count { vec_len ports.old ≤ seats.sessions }
-    requires own { AreSeated note_rules.tag_of N.sessions book }
-    requires text { file.text ≡ T.text book }
-    ensures serves { ServesKeptPorts note_rules note_row T.text V.moment V.left_since V.faults users.now seats.sessions book result.1
+    requires own { AreSeated note_rules.tag_of N.sessions twins }
+    requires text { file.text ≡ T.text twins }
+    ensures serves { ServesKeptPorts note_rules note_row T.text V.moment V.left_since V.faults users.now seats.sessions twins result.1
         (map P.told ports.old.items) (map P.told ports.new.items) result.0 }
     ensures count { vec_len ports.new ≡ vec_len ports.old }
 {
     // What the machine keeps, and what is kept of its journal.
     points_are_consistent::<NotesMachine>();
     receipts_stay::<NoteEntry, T, V>();
-    let begun = NotesHub::<N, NoGate, &R>::begin(alloc, rt, seats, NoGate, book);
+    let begun = NotesHub::<N, NoGate, &R>::begin(alloc, rt, seats, NoGate, twins);
     let Ok((mut hub, mut sessions)) = begun else {
         return (Outcome::LacksMemory, file.into_device());
     };

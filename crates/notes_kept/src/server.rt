@@ -1,25 +1,27 @@
 //! The server of notes whose journal is kept in a file, as what a program runs.
-ghost use Rattle.std.specs.Prelude.{◌≡◌, ◌<◌, ◌≤◌, map, vec_len, IfErr, IfOk};
+ghost use Rattle.std.specs.Prelude.{◌≡◌, ◌<◌, ◌≤◌, map, vec_len};
 ghost use Rattle.osm_base.specs.declared.limits.TheConstants.{SESSION_LIMIT};
+ghost use Rattle.kept_text.specs.Judged.{IsFollowed, IsJudged};
 ghost use Rattle.kept_text.specs.declared.faults.TextFault.{TextFault};
 ghost use Rattle.notes_text.specs.Text.{text_of, IsLegal};
 ghost use Rattle.notes_core.specs.Machine.{note_rules};
 ghost use Rattle.snapshot_hub.specs.Closings.{AreSeated};
+ghost use Rattle.notes_kept.specs.Followed.{HasFollowed};
 ghost use Rattle.notes_kept.specs.Run.{RunsServeNotesKept, ServesFrom};
 
 use crate::ports::serve_kept_ports;
-use hub_core::Book;
 use journal_file::{Device, JournalFile};
 use journal_host::Journals;
 use kept_run::{Begun, KeptJournal, begin_kept};
 use kept_serve::{has_seats, seats_for};
 use kept_text::{EntryJudge, TextFault};
 use link_workers::Outcome;
-use notes_core::{NoteEntry, NotesMachine};
-use notes_file::{NoteLines, book_of};
+use notes_core::{NoteEntry, NotesMachine, NotesWorld};
+use notes_file::NoteLines;
 use osm_outside::{Host, Link, Outside, Port, PortOutside};
 use server_frame::{Listening, close_ports};
 use shared_front::Opened;
+use snapshot_hub::{Twins, follow_all, twins_of};
 use std::alloc::Global;
 use std::marker::Brand;
 use std::sync::Wait;
@@ -31,19 +33,41 @@ pub struct NotesJournal;
 
 impl EntryJudge<NoteEntry> for NotesJournal {
     ghost use Rattle.notes_text.specs.Text.{IsLegal};
+    ghost use Rattle.notes_kept.specs.Followed.{HasFollowed};
 
-    type Journal = Book<NotesMachine>;
+    type World = NotesWorld;
 
-    ghost entries = { λ book. book };
+    type Journal = Twins<NotesMachine>;
+
+    ghost entries = { λ twins. twins };
 
     ghost is_legal = { IsLegal };
 
-    fn judge(alloc: Global, read: Vec<NoteEntry>) -> Result<Book<NotesMachine>, TextFault>
-        ensures kept { IfOk result (λ book. book ≡ read.items) }
-        ensures legal { IfOk result (λ _. IsLegal read.items) }
-        ensures refused { IfErr result (λ fault. fault ≡ TextFault.NoJournal → IsLegal read.items → ⊥) }
+    ghost follows = { HasFollowed };
+
+    fn follow(alloc: Global, read: &[NoteEntry]) -> Result<NotesWorld, TextFault>
+        ensures { IsFollowed HasFollowed IsLegal read.now result }
     {
-        book_of(alloc, read)
+        match follow_all::<NotesMachine>(alloc, read)? {
+            Some(world) => Ok(world),
+            None => Err(TextFault::NoJournal),
+        }
+    }
+
+    fn journal_of(
+        alloc: Global,
+        read: Vec<NoteEntry>,
+        first: NotesWorld,
+        second: NotesWorld,
+    ) -> Result<Twins<NotesMachine>, TextFault>
+        requires first { HasFollowed first read.items }
+        requires second { HasFollowed second read.items }
+        ensures { IsJudged (λ twins. twins) IsLegal read.items result }
+    {
+        match twins_of::<NotesMachine>(alloc, read, first, second)? {
+            Some(twins) => Ok(twins),
+            None => Err(TextFault::NoJournal),
+        }
     }
 }
 
@@ -56,32 +80,32 @@ impl KeptJournal<NoteEntry> for NotesJournal {
 
     ghost fits = { AreSeated note_rules.tag_of SESSION_LIMIT };
 
-    fn fits(journal: &Book<NotesMachine>) -> bool {
-        has_seats::<NotesMachine>(journal)
+    fn fits(journal: &Twins<NotesMachine>) -> bool {
+        has_seats::<NotesMachine>(journal.journal())
     }
 }
 
-/// Serves the links of each port by a session of a hub that goes on from the journal of that book.
+/// Serves the links of each port by a session of a hub that goes on from the journal of those twins.
 fn serve_handed<V: Device + Drop + Send, R: Threads + Wait + Sync, P: Port + Drop + Send>(
     rt: &R,
     alloc: Global,
     users: &UserTable,
-    book: Book<NotesMachine>,
+    twins: Twins<NotesMachine>,
     file: JournalFile<V>,
     ports: &mut Vec<P>,
 ) -> (Outcome, V)
     requires some { 0 < vec_len ports.old }
     requires few { vec_len ports.old ≤ SESSION_LIMIT }
-    requires seated { AreSeated note_rules.tag_of SESSION_LIMIT book }
-    requires text { file.text ≡ text_of book }
-    ensures serves { ServesFrom V.moment V.left_since V.faults book result.1 users.now
+    requires seated { AreSeated note_rules.tag_of SESSION_LIMIT twins }
+    requires text { file.text ≡ text_of twins }
+    ensures serves { ServesFrom V.moment V.left_since V.faults twins result.1 users.now
         (map P.told ports.old.items) (map P.told ports.new.items) result.0 }
     ensures count { vec_len ports.new ≡ vec_len ports.old }
 {
-    let seats = seats_for::<NotesMachine>(&book, ports.len());
+    let seats = seats_for::<NotesMachine>(twins.journal(), ports.len());
     let receipts = Opened::new();
     serve_kept_ports::<Brand, Brand, NoteLines, V, R, P>(
-        rt, alloc, seats, receipts, book, file, users, ports,
+        rt, alloc, seats, receipts, twins, file, users, ports,
     )
 }
 

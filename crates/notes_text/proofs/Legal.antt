@@ -45,7 +45,7 @@ module _ {E : Type 0} (tag_of : E → Tag) where
       (numbered_more (before ++ x ∷ []) es e both.1 (next ∙ ap (λ (xs : List E). calls_of tag_of (tag_of e).session xs + 1) (sym (append_assoc before (x ∷ []) es))))
 
 -- an entry of a legal list may follow those before it
-pub may_follow_there : (es : List NoteEntry) (e : NoteEntry) (more : List NoteEntry) → IsLegal (es ++ e ∷ more) → may_follow es e ≡ true
+may_follow_there : (es : List NoteEntry) (e : NoteEntry) (more : List NoteEntry) → IsLegal (es ++ e ∷ more) → may_follow es e ≡ true
 may_follow_there es e more legal =
     and_from (note_rules.takes (replay note_rules es) e) (e.call == calls_of tag_of e.session es + 1)
     (taken_last note_rules empty es e more legal.legal)

@@ -3,10 +3,9 @@ ghost use Rattle.std.specs.Prelude.{◌≡◌, ◌+◌, ℕ, true, List, [], ◌
 ghost use Rattle.osm_base.specs.Parts.{parted};
 ghost use Rattle.osm_json.specs.Again.{is_one_line};
 ghost use Rattle.notes_core.specs.declared.commands.NoteEntry.{NoteEntry};
-ghost use Rattle.notes_text.specs.Kept.{may_follow};
 ghost use Rattle.notes_text.specs.Line.{line, IsEntry};
 ghost use Rattle.notes_text.specs.Lines.{Follows, FollowsAlone, IsLineFault, IsLinesFault, IsRefused, Reads};
-ghost use Rattle.notes_text.specs.Text.{lines, IsLegal};
+ghost use Rattle.notes_text.specs.Text.{lines};
 ghost use Rattle.notes_text.specs.declared.faults.NotesFault.{NotesFault};
 ghost use Rattle.notes_text.specs.declared.faults.NotesFault.TheVariants.{Line};
 
@@ -19,11 +18,6 @@ pub fn lines_tell_entries()
     texts_are_read_again();
     values_are_read_again();
 }
-
-/// Each entry of a legal journal may follow those before it.
-pub fn legal_notes_follow()
-    ensures { (journal more : List NoteEntry) (entry : NoteEntry) → IsLegal (journal ++ entry ∷ more) → may_follow journal entry ≡ true }
-{}
 
 /// The line of an entry begins with `{`, and no byte 10 stands in it.
 pub fn lines_are_plain()

@@ -18,7 +18,7 @@ mod write;
 pub use entries::read_entry;
 pub use faults::{LineFault, NotesFault};
 pub use keepers::NoteKeeper;
-pub use law::{legal_notes_follow, lines_are_plain, lines_are_read_in_turn, lines_tell_entries};
+pub use law::{lines_are_plain, lines_are_read_in_turn, lines_tell_entries};
 pub use limits::NOTES_TEXT_LIMIT;
 pub use line::entry_line;
 pub use texts::{

@@ -24,7 +24,6 @@ use api_desk::{HubDesk, MapHub, MapSession};
 use desk_serve::{points_are_consistent, serve_kept_link};
 use entry_file::EntryLines;
 use http_link::LinkEnd;
-use hub_core::Book;
 use journal_file::{Device, JournalFile};
 use kept_desk::Keeper;
 use kept_entries::{Board, Receipt, Shelf, Told, receipts_stay};
@@ -36,7 +35,7 @@ use osm_model::Entry;
 use osm_outside::{Link, NoGate, Outside, Port, PortOutside};
 use route_table::Routes;
 use shared_front::{Front, HubName, Opened};
-use snapshot_hub::{Seats, Shown};
+use snapshot_hub::{Seats, Shown, Twins};
 use std::alloc::Global;
 use std::sync::{Mutex, Wait};
 use std::thread::Threads;
@@ -208,8 +207,8 @@ fn serve_by_sessions<
     })
 }
 
-/// Serves the links of the ports by the first sessions of a hub that goes on from the journal of this
-/// book, under the names of these seats and receipts, one worker a port, each in a thread of its own, until no port
+/// Serves the links of the ports by the first sessions of a hub that goes on from the journal of these
+/// twins, under the names of these seats and receipts, one worker a port, each in a thread of its own, until no port
 /// has a link to come or accepting fails. Then it closes the hub. A reply is sent only once the file
 /// holds what it tells of. The ports come back in their order, and the file's device does.
 pub fn serve_kept_ports<
@@ -223,7 +222,7 @@ pub fn serve_kept_ports<
     alloc: Global,
     seats: Seats<Entry>,
     receipts: Opened<Receipt>,
-    book: Book<MapMachine>,
+    twins: Twins<MapMachine>,
     file: JournalFile<V>,
     users: &UserTable,
     ports: &mut Vec<P>,
@@ -233,9 +232,9 @@ pub fn serve_kept_ports<
     requires receipts { receipts ≡ K.book }
     requires some { 0 < vec_len ports.old }
     requires count { vec_len ports.old ≤ seats.sessions }
-    requires own { AreSeated map_rules.tag_of N.sessions book }
-    requires text { file.text ≡ text_of book }
-    ensures serves { ServesKeptPorts map_rules map_row text_of V.moment V.left_since V.faults users.now seats.sessions book result.1
+    requires own { AreSeated map_rules.tag_of N.sessions twins }
+    requires text { file.text ≡ text_of twins }
+    ensures serves { ServesKeptPorts map_rules map_row text_of V.moment V.left_since V.faults users.now seats.sessions twins result.1
         (map P.told ports.old.items) (map P.told ports.new.items) result.0 }
     ensures count { vec_len ports.new ≡ vec_len ports.old }
 {
@@ -245,7 +244,7 @@ pub fn serve_kept_ports<
     let Ok(routes) = Routes::new(alloc) else {
         return (Outcome::LacksMemory, file.into_device());
     };
-    let begun = MapHub::<N, NoGate, &R>::begin(alloc, rt, seats, NoGate, book);
+    let begun = MapHub::<N, NoGate, &R>::begin(alloc, rt, seats, NoGate, twins);
     let Ok((mut hub, mut sessions)) = begun else {
         return (Outcome::LacksMemory, file.into_device());
     };

@@ -1,27 +1,29 @@
 //! The map server whose journal is kept in a file, as what a program runs.
-ghost use Rattle.std.specs.Prelude.{◌≡◌, ◌<◌, ◌≤◌, map, vec_len, IfErr, IfOk};
+ghost use Rattle.std.specs.Prelude.{◌≡◌, ◌<◌, ◌≤◌, map, vec_len};
 ghost use Rattle.osm_base.specs.declared.limits.TheConstants.{SESSION_LIMIT};
 ghost use Rattle.journal_text.specs.Text.{text_of};
+ghost use Rattle.kept_text.specs.Judged.{IsFollowed, IsJudged};
 ghost use Rattle.kept_text.specs.declared.faults.TextFault.{TextFault};
 ghost use Rattle.osm_model.specs.Journal.{IsLegal};
 ghost use Rattle.map_machine.specs.Machine.{map_rules};
 ghost use Rattle.snapshot_hub.specs.Closings.{AreSeated};
+ghost use Rattle.osm_kept.specs.Followed.{HasFollowed};
 ghost use Rattle.osm_kept.specs.Run.{RunsServeKept, ServesFrom};
 
 use crate::ports::serve_kept_ports;
-use entry_file::{EntryLines, keep_all};
-use hub_core::Book;
+use entry_file::EntryLines;
 use journal_file::{Device, JournalFile};
 use journal_host::Journals;
 use kept_run::{Begun, KeptJournal, begin_kept};
 use kept_serve::{has_seats, seats_for};
 use kept_text::{EntryJudge, TextFault};
 use link_workers::Outcome;
-use map_machine::{BookKeeper, MapMachine};
+use map_machine::{MapMachine, MapWorld, journals_are_the_maps};
 use osm_model::Entry;
 use osm_outside::{Host, Link, Outside, Port, PortOutside};
 use server_frame::{Listening, close_ports};
 use shared_front::Opened;
+use snapshot_hub::{Twins, follow_all, twins_of};
 use std::alloc::Global;
 use std::marker::Brand;
 use std::sync::Wait;
@@ -33,22 +35,43 @@ pub struct MapJournal;
 
 impl EntryJudge<Entry> for MapJournal {
     ghost use Rattle.osm_model.specs.Journal.{IsLegal};
+    ghost use Rattle.osm_kept.specs.Followed.{HasFollowed};
 
-    type Journal = Book<MapMachine>;
+    type World = MapWorld;
 
-    ghost entries = { λ book. book };
+    type Journal = Twins<MapMachine>;
+
+    ghost entries = { λ twins. twins };
 
     ghost is_legal = { λ entries. IsLegal entries };
 
-    fn judge(alloc: Global, read: Vec<Entry>) -> Result<Book<MapMachine>, TextFault>
-        ensures kept { IfOk result (λ book. book ≡ read.items) }
-        ensures legal { IfOk result (λ _. IsLegal read.items) }
-        ensures refused { IfErr result (λ fault. fault ≡ TextFault.NoJournal → IsLegal read.items → ⊥) }
+    ghost follows = { HasFollowed };
+
+    #[tactic(auto, using(crate::proofs::Journals::refused))]
+    fn follow(alloc: Global, read: &[Entry]) -> Result<MapWorld, TextFault>
+        ensures { IsFollowed HasFollowed (λ entries. IsLegal entries) read.now result }
     {
-        let mut keeper = BookKeeper::new(alloc);
-        match keep_all(alloc, read, &mut keeper) {
-            Ok(()) => Ok(keeper.into_book()),
-            Err(fault) => Err(fault),
+        match follow_all::<MapMachine>(alloc, read)? {
+            Some(world) => Ok(world),
+            None => Err(TextFault::NoJournal),
+        }
+    }
+
+    #[tactic(auto, using(crate::proofs::Journals::unnumbered))]
+    fn journal_of(
+        alloc: Global,
+        read: Vec<Entry>,
+        first: MapWorld,
+        second: MapWorld,
+    ) -> Result<Twins<MapMachine>, TextFault>
+        requires first { HasFollowed first read.items }
+        requires second { HasFollowed second read.items }
+        ensures { IsJudged (λ twins. twins) (λ entries. IsLegal entries) read.items result }
+    {
+        journals_are_the_maps();
+        match twins_of::<MapMachine>(alloc, read, first, second)? {
+            Some(twins) => Ok(twins),
+            None => Err(TextFault::NoJournal),
         }
     }
 }
@@ -62,31 +85,31 @@ impl KeptJournal<Entry> for MapJournal {
 
     ghost fits = { AreSeated map_rules.tag_of SESSION_LIMIT };
 
-    fn fits(journal: &Book<MapMachine>) -> bool {
-        has_seats::<MapMachine>(journal)
+    fn fits(journal: &Twins<MapMachine>) -> bool {
+        has_seats::<MapMachine>(journal.journal())
     }
 }
 
-/// Serves the links of each port by a session of a hub that goes on from the journal of that book.
+/// Serves the links of each port by a session of a hub that goes on from the journal of those twins.
 fn serve_handed<V: Device + Drop + Send, R: Threads + Wait + Sync, P: Port + Drop + Send>(
     rt: &R,
     alloc: Global,
     users: &UserTable,
-    book: Book<MapMachine>,
+    twins: Twins<MapMachine>,
     file: JournalFile<V>,
     ports: &mut Vec<P>,
 ) -> (Outcome, V)
     requires some { 0 < vec_len ports.old }
     requires few { vec_len ports.old ≤ SESSION_LIMIT }
-    requires seated { AreSeated map_rules.tag_of SESSION_LIMIT book }
-    requires text { file.text ≡ text_of book }
-    ensures serves { ServesFrom V.moment V.left_since V.faults book result.1 users.now
+    requires seated { AreSeated map_rules.tag_of SESSION_LIMIT twins }
+    requires text { file.text ≡ text_of twins }
+    ensures serves { ServesFrom V.moment V.left_since V.faults twins result.1 users.now
         (map P.told ports.old.items) (map P.told ports.new.items) result.0 }
     ensures count { vec_len ports.new ≡ vec_len ports.old }
 {
-    let seats = seats_for::<MapMachine>(&book, ports.len());
+    let seats = seats_for::<MapMachine>(twins.journal(), ports.len());
     let receipts = Opened::new();
-    serve_kept_ports::<Brand, Brand, V, R, P>(rt, alloc, seats, receipts, book, file, users, ports)
+    serve_kept_ports::<Brand, Brand, V, R, P>(rt, alloc, seats, receipts, twins, file, users, ports)
 }
 
 /// Takes up the journal in the file at that path, reads the users of the text at theirs, and serves

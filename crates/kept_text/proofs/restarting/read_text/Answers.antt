@@ -42,7 +42,7 @@ returns-in_err-journal-clause-cause g c =
     let alone : read ≡ entries =
     only g.T.KeptText.line g.T.Lines.lines g.T.KeptText.is_entry law.none law.first law.one law.tell rest read entries
     c.in_ok-entries.ensures (record { is = lines; typed = typed }) in
-    c.in_err-journal.ensures.refused told (subst g.S.EntryJudge.is_legal (sym alone) legal))
+    c.in_err-journal.ensures told (subst g.S.EntryJudge.is_legal (sym alone) legal))
 
 pub returns-clause-text : goal.returns-clause-text
 returns-clause-text g c =

@@ -11,13 +11,13 @@ pub shelve-requires-clause-text : goal.shelve-requires-clause-text
 shelve-requires-clause-text g c =
     let sessions = c.in-Ok.sessions.items in
     let some : 0 < length sessions = omega (arith, c.in-Ok.ensures.count, c.requires.count, c.requires.some) in
-    let front = front_of_first note_rules c.args.book sessions c.index.result.now c.again-front.result c.in-Ok.ensures.back some
+    let front = front_of_first note_rules c.args.twins sessions c.index.result.now c.again-front.result c.in-Ok.ensures.back some
     c.index.ensures (c.again-front.ensures ∙ c.front.ensures) in
     c.requires.text ∙ ap g.T.Lines.text (sym front)
 
 pub returns-clause-serves : goal.returns-clause-serves
 returns-clause-serves g c =
-    let J = c.args.book in
+    let J = c.args.twins in
     let text = g.T.Lines.text in
     let told = g.P.PortOutside.told in
     let before = map told c.args.ports.now.items in
