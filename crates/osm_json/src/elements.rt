@@ -6,7 +6,8 @@ ghost use Rattle.osm_change.specs.Moments.{HasShownStamp};
 ghost use Rattle.osm_json.specs.Sent.{Sends, SendsFields, tokens_of};
 
 use crate::contents::{edges, visible, visible_tags};
-use crate::send::{FieldValue, kind_name, members, moment, optional, version};
+use crate::moment::ShownMoment;
+use crate::send::{FieldValue, kind_name, members, moment_behind, optional, version};
 use json::Writer;
 use osm_base::Box7;
 use osm_change::ElementRow;
@@ -46,7 +47,8 @@ fn origin(out: &mut Writer, row: &ElementRow<'_>) -> Result<(), AllocError>
     )
 }
 
-fn element(out: &mut Writer, row: &ElementRow<'_>) -> Result<(), AllocError>
+/// A row, behind one whose moment was the last that was shown.
+fn element(out: &mut Writer, row: &ElementRow<'_>, last: &mut ShownMoment) -> Result<(), AllocError>
     requires { HasShownStamp row.now }
     ensures { Sends result out.old out.new (tokens_of (element_data row.now)) }
 {
@@ -55,7 +57,7 @@ fn element(out: &mut Writer, row: &ElementRow<'_>) -> Result<(), AllocError>
     visible(out, row.version)?;
     redaction(out, row.version)?;
     visible_tags(out, row.version)?;
-    moment(out, "timestamp", row.version.stamp())?;
+    moment_behind(out, "timestamp", row.version.stamp(), last)?;
     origin(out, row)?;
     out.end_object()
 }
@@ -64,8 +66,12 @@ fn element_rows(out: &mut Writer, rows: &[ElementRow<'_>]) -> Result<(), AllocEr
     requires { All HasShownStamp rows.now }
     ensures { Sends result out.old out.new (flat_map (λ r. tokens_of (element_data r)) rows.now) }
 {
+    let Some(first) = rows.first() else {
+        return Ok(());
+    };
+    let mut last = ShownMoment::of(first.version.stamp());
     for row in rows {
-        element(out, row)?;
+        element(out, row, &mut last)?;
     }
     Ok(())
 }
@@ -116,14 +122,14 @@ fn action_name(row: &ElementRow<'_>) -> &'static str
     }
 }
 
-fn block(out: &mut Writer, row: &ElementRow<'_>) -> Result<(), AllocError>
+fn block(out: &mut Writer, row: &ElementRow<'_>, last: &mut ShownMoment) -> Result<(), AllocError>
     requires { HasShownStamp row.now }
     ensures { Sends result out.old out.new (tokens_of (block_data row.now)) }
 {
     out.begin_object()?;
     out.key(action_name(row))?;
     out.begin_array()?;
-    element(out, row)?;
+    element(out, row, last)?;
     out.end_array()?;
     out.end_object()
 }
@@ -132,8 +138,12 @@ fn blocks(out: &mut Writer, rows: &[ElementRow<'_>]) -> Result<(), AllocError>
     requires { All HasShownStamp rows.now }
     ensures { Sends result out.old out.new (flat_map (λ r. tokens_of (block_data r)) rows.now) }
 {
+    let Some(first) = rows.first() else {
+        return Ok(());
+    };
+    let mut last = ShownMoment::of(first.version.stamp());
     for row in rows {
-        block(out, row)?;
+        block(out, row, &mut last)?;
     }
     Ok(())
 }
