@@ -1,14 +1,14 @@
 -- One user more, or one less, of each that passes a test: one after the other, and back again.
-use Rattle.std.proofs.Common.{◌≡◌, ℕ, ◌+◌, Bool, true, false, ◌||◌, ◌&&◌, refl, sym, ap, ◌∙◌, subst, arith, true≢false, ⊎_elim, Some, Ok, Err}
+use Rattle.std.proofs.Common.{◌≡◌, ℕ, ◌+◌, List, Bool, true, false, ◌||◌, ◌&&◌, refl, sym, ap, ◌∙◌, subst, arith, true≢false, ⊎_elim, Some, Ok, Err}
 use Rattle.std.specs.Prelude.{Option, Result, OnOk, IsOk, not, is_some, unwrap_or, if◌then◌else◌}
 use Rattle.std.proofs.lemmas.Bool.{cases_Bool}
-use Rattle.osm_base.specs.Key.{key_eq}
+use Rattle.osm_base.specs.Key.{key_eq, lists_key}
 use Rattle.osm_base.specs.declared.keys.Key.{Key}
 use Rattle.osm_base.proofs.KeyOrder.{key_eq-same, key_eq-refl}
 use Rattle.osm_element.specs.declared.elements.Elements.{Elements}
 use Rattle.upload_check.specs.Overlay.{Notes, noted, standing_before, standing_in}
 use Rattle.upload_check.specs.Effects.{user_counts, AreAsBefore, StayNoted, IsSet, IsRevised}
-use Rattle.upload_check.specs.Shifts.{opposite, Goes, AreShifted, HasOne, Fits, IsReady, AreReady, IsShifted, unless}
+use Rattle.upload_check.specs.Shifts.{opposite, Goes, AreShifted, HasOne, Fits, IsReady, AreReady, IsShifted, apart, unless}
 use Rattle.upload_check.specs.Users.{one_if}
 use Rattle.upload_check.specs.declared.shifts.Shift.{Shift}
 use Rattle.upload_check.specs.declared.shifts.Shift.TheVariants.{More, Less}
@@ -193,6 +193,24 @@ shifted_back s p E a b c d first same next k =
     (next.same.holds k ∙ ap (λ (x : Standing). x.holds) (same k) ∙ first.same.holds k)
     (goes-back s (one_if (p k)) (user_counts E a k) (user_counts E b k) (user_counts E d k) (first.counts k)
     (subst (λ (n : ℕ). Goes (opposite s) (one_if (p k)) n (user_counts E d k)) (ap (λ (x : Standing). x.users) (same k)) (next.counts k)))
+
+-- an element doesn't shift itself
+pub shifted_itself :
+    (s : Shift) (E : Elements) (k : Key) (ks left : List Key) (at : Standing) (old new : Notes)
+    → IsShifted s (apart k ks left) E old new
+    → at ≡ standing_in E old k
+    → at ≡ standing_in E new k
+shifted_itself s E k ks left at old new shifted before =
+    before
+    ∙ sym (standing-same (standing_in E new k) (standing_in E old k) (shifted.same.versions k) (shifted.same.holds k)
+    (shifted_not s (apart k ks left) E old new k shifted itself))
+  where
+    never : (p q : Bool) → ((p && not true) && not q) ≡ false
+    never true q = refl
+    never false q = refl
+
+    itself : apart k ks left k ≡ false
+    itself = ap (λ (p : Bool). (lists_key ks k && not p) && not (lists_key left k)) (key_eq-refl k) ∙ never (lists_key ks k) (lists_key left k)
 
 -- ---- and a version more of an element, which changes no number of users
 

@@ -82,6 +82,10 @@ abbrev pub AreNotesOf : Bool → Sight → Op → Key → Notes → Type 0
 AreNotesOf true s o k new = IsApplied s o k new
 AreNotesOf false s o k new = new ≡ s.over.notes
 
+-- what a step does to an element of so many versions
+abbrev pub done_with : Step → ℕ → OpDone
+done_with step versions = if step.applies then Applied (versions + 1) else Skipped versions
+
 abbrev pub done_of : Sight → Step → OpDone
 done_of s step = if step.applies then Applied ((standing s step.key).versions + 1) else Skipped (standing s step.key).versions
 

@@ -6,7 +6,7 @@ ghost use Rattle.osm_base.specs.declared.keys.Key.{Key};
 ghost use Rattle.changeset_core.specs.Changeset.{new_position, widen_all};
 ghost use Rattle.osm_world.specs.Beds.{content_of_op};
 ghost use Rattle.upload_check.specs.Effects.{IsFresh};
-ghost use Rattle.upload_check.specs.Overlay.{position_now};
+ghost use Rattle.upload_check.specs.Overlay.{position_now, standing};
 
 use crate::sights::View;
 use crate::standings::Holds;
@@ -49,11 +49,12 @@ fn has_at(keys: &[Key], place: usize, key: Key) -> bool
 }
 
 impl<'a> View<'a> {
-    /// Where an element lies, if it is a visible node.
-    fn place_of(&self, key: Key) -> Option<Coord>
+    /// Where an element lies whose content stands there, if it is a visible node.
+    fn place_held(&self, key: Key, holds: Holds) -> Option<Coord>
+        requires { holds ≡ (standing self.now key).holds }
         ensures { result ≡ position_now self.now key }
     {
-        match self.holds(key) {
+        match holds {
             Holds::AsBefore => self.world.store().place_of(key),
             Holds::Nothing => None,
             Holds::FromOperation(place) => match self.operations.get(place as usize) {
@@ -63,14 +64,23 @@ impl<'a> View<'a> {
         }
     }
 
-    /// Where the element of an operation lies before it. What it creates isn't looked for.
-    fn place_before(&self, operation: &Op, key: Key) -> Option<Coord>
-        requires { IsFresh self.now operation.now key }
+    /// Where an element lies, if it is a visible node.
+    fn place_of(&self, key: Key) -> Option<Coord>
+        ensures { result ≡ position_now self.now key }
+    {
+        self.place_held(key, self.holds(key))
+    }
+
+    /// Where the element of an operation lies before it, whose content stands there. What it creates
+    /// isn't looked for.
+    fn place_before(&self, operation: &Op, key: Key, holds: Holds) -> Option<Coord>
+        requires fresh { IsFresh self.now operation.now key }
+        requires holds { holds ≡ (standing self.now key).holds }
         ensures { result ≡ position_now self.now key }
     {
         match operation {
             Op::Create { .. } => None,
-            Op::Modify { .. } | Op::Delete { .. } => self.place_of(key),
+            Op::Modify { .. } | Op::Delete { .. } => self.place_held(key, holds),
         }
     }
 
@@ -108,13 +118,21 @@ impl<'a> View<'a> {
         both
     }
 
-    /// The least box of what an operation touches: where its element lies, where what the element
-    /// listed and what it lists lies, and the element's new place.
-    pub fn touched(&self, operation: &Op, key: Key, ended: &[Key], begun: &[Key]) -> Option<Box7>
-        requires { IsFresh self.now operation.now key }
+    /// The least box of what an operation touches: where its element lies, whose content stands there,
+    /// where what the element listed and what it lists lies, and the element's new place.
+    pub fn touched(
+        &self,
+        operation: &Op,
+        key: Key,
+        holds: Holds,
+        ended: &[Key],
+        begun: &[Key],
+    ) -> Option<Box7>
+        requires fresh { IsFresh self.now operation.now key }
+        requires holds { holds ≡ (standing self.now key).holds }
         ensures { result ≡ widen_all None (filter_map (position_now self.now) (key ∷ (ended.now ++ begun.now)) ++ option_to_list (new_position (content_of_op self.now.over.keys operation.now))) }
     {
-        let area = with_place(None, self.place_before(operation, key));
+        let area = with_place(None, self.place_before(operation, key, holds));
         let area = self.with_lists(area, ended, begun);
         with_place(area, place_given(operation))
     }

@@ -1,7 +1,7 @@
 //! The tests of one operation, on what those before it left.
 ghost use Rattle.std.specs.Prelude.{◌≡◌, ◌+◌, ◌<◌, ◌^◌, length, map, find, IfOk};
 ghost use Rattle.osm_change.specs.Change.{named, named_member, names_listed};
-ghost use Rattle.upload_check.specs.Effects.{done_of};
+ghost use Rattle.upload_check.specs.Effects.{done_with};
 ghost use Rattle.upload_check.specs.Checks.{place_of, element, current_version, is_missing, missing, references, gone, used, makes, leaves, next_key, check_create, check_modify, check_used, check_unused, check_delete, check};
 
 use crate::counts::increased;
@@ -34,6 +34,20 @@ fn leaves(key: Key) -> Step
     }
 }
 
+impl Step {
+    /// What the operation does to an element of so many versions.
+    pub fn done(self, versions: u64) -> Result<OpDone, Memory>
+        ensures { IfOk result (λ done. done ≡ done_with self versions) }
+    {
+        if self.applies {
+            let version = increased(versions)?;
+            Ok(OpDone::Applied { version })
+        } else {
+            Ok(OpDone::Skipped { version: versions })
+        }
+    }
+}
+
 impl<'a> View<'a> {
     /// The place of the operation that is judged, counted from 1.
     fn place(&self) -> Option<u32>
@@ -63,7 +77,7 @@ impl<'a> View<'a> {
         requires { length self.now.over.keys + 1 < 2 ^ 32 }
         ensures { result ≡ current_version self.now kind name key version }
     {
-        let found = self.standing(key).versions;
+        let found = self.versions(key);
         if found == version {
             Ok(())
         } else {
@@ -91,7 +105,7 @@ impl<'a> View<'a> {
         ensures { result ≡ missing self.now named }
     {
         let version = match self.known(named.kind, named.name) {
-            Some(key) => self.standing(key).versions,
+            Some(key) => self.versions(key),
             None => 0,
         };
         Refusal::Missing {
@@ -157,7 +171,7 @@ impl<'a> View<'a> {
             id: self.said(name),
             op: self.place(),
             kind,
-            version: self.standing(key).versions,
+            version: self.versions(key),
         }
     }
 
@@ -172,7 +186,7 @@ impl<'a> View<'a> {
             kind,
             user_id: self.said_key(user),
             user_kind: user.kind,
-            user_version: self.standing(user).versions,
+            user_version: self.versions(user),
         }
     }
 
@@ -258,19 +272,6 @@ impl<'a> View<'a> {
         }
         self.current_version(kind, name, key, version)?;
         self.check_unused(kind, name, key, if_unused)
-    }
-
-    /// What an operation that is passed does.
-    pub fn done(&self, step: Step) -> Result<OpDone, Memory>
-        ensures { IfOk result (λ done. done ≡ done_of self.now step) }
-    {
-        let versions = self.standing(step.key).versions;
-        if step.applies {
-            let version = increased(versions)?;
-            Ok(OpDone::Applied { version })
-        } else {
-            Ok(OpDone::Skipped { version: versions })
-        }
     }
 
     /// Judges an operation on what those before it left.

@@ -7,6 +7,7 @@
 ghost use Rattle.std.specs.Prelude.{◌≡◌, ◌+◌, ◌<◌, true, if◌then◌else◌, IfOk, OnOk, OnErr};
 ghost use Rattle.osm_base.specs.Key.{key_eq, IsRising};
 ghost use Rattle.osm_base.specs.declared.keys.Key.{Key};
+ghost use Rattle.osm_element.specs.declared.elements.Elements.{Elements};
 ghost use Rattle.osm_world.specs.World.{state_of};
 ghost use Rattle.upload_check.specs.Effects.{user_counts, AreAsBefore, StayNoted, IsRevised, IsMade};
 ghost use Rattle.upload_check.specs.Overlay.{standing_in};
@@ -15,7 +16,7 @@ ghost use Rattle.upload_check.specs.Users.{others};
 ghost use Rattle.upload_check.specs.declared.shifts.Shift.TheVariants.{More};
 
 use crate::shifts::{Shift, shift_all, shift_ready};
-use crate::standings::{Holds, Standing, Standings, standing_in};
+use crate::standings::{Holds, Standing, Standings};
 use osm_base::{Key, Memory};
 use osm_world::World;
 
@@ -29,33 +30,34 @@ pub fn increased(number: u64) -> Result<u64, Memory>
     }
 }
 
-/// A version more of an element, which then holds what is given.
-fn revise(world: &World, standings: &mut Standings, key: Key, holds: Holds) -> Result<(), Memory>
-    ensures revised { OnOk result (IsRevised (state_of world.now).elements key holds standings.old standings.new) }
+/// A version more of an element that stood there, which then holds what is given.
+fn revise(standings: &mut Standings, key: Key, stood: Standing, holds: Holds) -> Result<(), Memory>
+    ensures revised { OnOk result ((E : Elements) → stood ≡ standing_in E standings.old key → IsRevised E key holds standings.old standings.new) }
     ensures memory { OnErr result (standings.new ≡ standings.old) }
 {
-    let standing = standing_in(world, standings, key);
-    let versions = increased(standing.versions)?;
+    let versions = increased(stood.versions)?;
     standings.set(
         key,
         Standing {
             versions,
             holds,
-            users: standing.users,
+            users: stood.users,
         },
     )
 }
 
-/// A version more of an element, once each that it lists anew has a user more. After `Memory` each
-/// element stands as before.
+/// A version more of an element that stood there, once each that it lists anew has a user more. After
+/// `Memory` each element stands as before.
 fn raise_and_revise(
     world: &World,
     standings: &mut Standings,
     key: Key,
+    stood: Standing,
     holds: Holds,
     ended: &[Key],
     begun: &[Key],
 ) -> Result<(), Memory>
+    requires stood { stood ≡ standing_in (state_of world.now).elements standings.old key }
     requires ended { IsRising ended.now }
     requires begun { IsRising begun.now }
     ensures raised { OnOk result (AreShifted More (apart key begun.now ended.now) (user_counts (state_of world.now).elements standings.old) (user_counts (state_of world.now).elements standings.new)) }
@@ -67,7 +69,7 @@ fn raise_and_revise(
     ensures memory { OnErr result (AreAsBefore (state_of world.now).elements standings.old standings.new) }
 {
     shift_all(world, standings, key, begun, ended, Shift::More)?;
-    match revise(world, standings, key, holds) {
+    match revise(standings, key, stood, holds) {
         Ok(()) => Ok(()),
         Err(Memory) => {
             shift_ready(world, standings, key, begun, ended, Shift::Less);
@@ -76,17 +78,19 @@ fn raise_and_revise(
     }
 }
 
-/// A version more of an element, which then holds what is given: each that it listed has a user
-/// less, and each that it lists a user more. Those that it listed and still lists stay as they are.
-/// After `Memory` each element stands as before.
+/// A version more of an element that stood there, which then holds what is given: each that it listed
+/// has a user less, and each that it lists a user more. Those that it listed and still lists stay as
+/// they are, and so does the element, so it isn't looked for. After `Memory` each stands as before.
 pub fn make(
     world: &World,
     standings: &mut Standings,
     key: Key,
+    stood: Standing,
     holds: Holds,
     ended: &[Key],
     begun: &[Key],
 ) -> Result<(), Memory>
+    requires stood { stood ≡ standing_in (state_of world.now).elements standings.old key }
     requires ended { IsRising ended.now }
     requires begun { IsRising begun.now }
     requires used { (b : Key) → others key ended.now b ≡ true → 0 < user_counts (state_of world.now).elements standings.old b }
@@ -94,7 +98,7 @@ pub fn make(
     ensures memory { OnErr result (AreAsBefore (state_of world.now).elements standings.old standings.new) }
 {
     shift_all(world, standings, key, ended, begun, Shift::Less)?;
-    match raise_and_revise(world, standings, key, holds, ended, begun) {
+    match raise_and_revise(world, standings, key, stood, holds, ended, begun) {
         Ok(()) => Ok(()),
         Err(Memory) => {
             shift_ready(world, standings, key, ended, begun, Shift::More);

@@ -63,7 +63,8 @@ pub fn check_op<L: Ledger>(
     }
 }
 
-/// Enters an operation that is passed, and tells what it did.
+/// Enters an operation that is passed, and tells what it did. Where its element stands is looked up
+/// once.
 #[tactic(auto, using(crate::proofs::Alike::all_alike))]
 fn pass(
     alloc: Global,
@@ -80,12 +81,13 @@ fn pass(
     ensures done { IfOk result (λ done. done ≡ done_of (sight (state_of world.now).elements operations.now over.old) step) }
     ensures memory { OnErr result (StandsAlike (state_of world.now).elements over.old over.new) }
 {
-    let done = View {
+    let stood = View {
         world,
         operations,
         over,
     }
-    .done(step)?;
-    over.enter(alloc, world, operations, operation, step)?;
+    .standing(step.key);
+    let done = step.done(stood.versions)?;
+    over.enter(alloc, world, operations, operation, step, stood)?;
     Ok(done)
 }

@@ -9,13 +9,13 @@ ghost use Rattle.osm_model.specs.Fold.{start};
 ghost use Rattle.osm_world.specs.Beds.{first_ids, content_of_op};
 ghost use Rattle.osm_world.specs.World.{state_of};
 ghost use Rattle.upload_check.specs.Effects.{holds_of, HasUsers, IsApplied, IsEntered, IsFresh};
-ghost use Rattle.upload_check.specs.Overlay.{content_now, sight, touched_now, StandsAlike, StandsFor};
+ghost use Rattle.upload_check.specs.Overlay.{content_now, sight, standing, touched_now, StandsAlike, StandsFor};
 
 use crate::checks::Step;
 use crate::counts::make;
 use crate::references::add_given;
 use crate::sights::View;
-use crate::standings::{Holds, Standings};
+use crate::standings::{Holds, Standing, Standings};
 use changeset_core::join_boxes;
 use osm_base::{Box7, Key, Kind, Memory};
 use osm_change::{FirstIds, Op};
@@ -95,7 +95,8 @@ impl Overlay {
         &self.standings
     }
 
-    /// Enters an operation that is passed. After `Memory` the overlay stands for what it did.
+    /// Enters an operation that is passed, whose element stood there before it. After `Memory` the
+    /// overlay stands for what it did.
     pub(crate) fn enter(
         &mut self,
         alloc: Global,
@@ -103,15 +104,17 @@ impl Overlay {
         operations: &[Op],
         operation: &Op,
         step: Step,
+        stood: Standing,
     ) -> Result<(), Memory>
         requires few { length self.old.keys < 2 ^ 32 }
         requires users { HasUsers (sight (state_of world.now).elements operations.now self.old) step.key }
         requires fresh { IsFresh (sight (state_of world.now).elements operations.now self.old) operation.now step.key }
+        requires stood { stood ≡ standing (sight (state_of world.now).elements operations.now self.old) step.key }
         ensures entered { OnOk result (IsEntered (sight (state_of world.now).elements operations.now self.old) operation.now step self.new) }
         ensures memory { OnErr result (StandsAlike (state_of world.now).elements self.old self.new) }
     {
         if step.applies {
-            self.apply(alloc, world, operations, operation, step.key)
+            self.apply(alloc, world, operations, operation, step.key, stood)
         } else {
             self.skip(operation, step.key)
         }
@@ -128,9 +131,9 @@ impl Overlay {
         Ok(())
     }
 
-    /// Enters an operation that makes a version of an element, counts the users of what it listed and
-    /// of what it lists, and joins the box of what it touches. Room for the key is taken before the
-    /// counts change, so that want of memory leaves what the overlay stands for.
+    /// Enters an operation that makes a version of an element which stood there, counts the users of
+    /// what it listed and of what it lists, and joins the box of what it touches. Room for the key is
+    /// taken before the counts change, so that want of memory leaves what the overlay stands for.
     fn apply(
         &mut self,
         alloc: Global,
@@ -138,10 +141,12 @@ impl Overlay {
         operations: &[Op],
         operation: &Op,
         key: Key,
+        stood: Standing,
     ) -> Result<(), Memory>
         requires few { length self.old.keys < 2 ^ 32 }
         requires users { HasUsers (sight (state_of world.now).elements operations.now self.old) key }
         requires fresh { IsFresh (sight (state_of world.now).elements operations.now self.old) operation.now key }
+        requires stood { stood ≡ standing (sight (state_of world.now).elements operations.now self.old) key }
         ensures keys { OnOk result (self.new.keys ≡ self.old.keys ++ key ∷ []) }
         ensures next { OnOk result (self.new.next ≡ ids_after self.old.next operation.now) }
         ensures notes { OnOk result (IsApplied (sight (state_of world.now).elements operations.now self.old) operation.now key self.new.notes) }
@@ -149,14 +154,20 @@ impl Overlay {
         ensures memory { OnErr result (StandsAlike (state_of world.now).elements self.old self.new) }
     {
         let next = self.next.after(operation)?;
-        let ended = self.ended_uses(alloc, world, operations, operation, key)?;
+        let ended = self.ended_uses(alloc, world, operations, operation, key, stood.holds)?;
         let begun = self.begun_uses(alloc, operation)?;
         let touched = View {
             world,
             operations,
             over: self,
         }
-        .touched(operation, key, ended.as_slice(), begun.as_slice());
+        .touched(
+            operation,
+            key,
+            stood.holds,
+            ended.as_slice(),
+            begun.as_slice(),
+        );
         let holds = holds_of(self.keys().len() as u32, operation);
         self.keys.reserve(1)?;
         let ended = keys_sorted_once(ended);
@@ -165,6 +176,7 @@ impl Overlay {
             world,
             &mut self.standings,
             key,
+            stood,
             holds,
             ended.as_slice(),
             begun.as_slice(),
@@ -177,8 +189,8 @@ impl Overlay {
         Ok(())
     }
 
-    /// What the element of an operation lists before it, in list order, in the list of the last
-    /// operation.
+    /// What the element of an operation lists before it, where its content stands there, in list
+    /// order, in the list of the last operation.
     fn ended_uses(
         &mut self,
         alloc: Global,
@@ -186,8 +198,10 @@ impl Overlay {
         operations: &[Op],
         operation: &Op,
         key: Key,
+        holds: Holds,
     ) -> Result<Vec<Key>, Memory>
-        requires { IsFresh (sight (state_of world.now).elements operations.now self.old) operation.now key }
+        requires fresh { IsFresh (sight (state_of world.now).elements operations.now self.old) operation.now key }
+        requires holds { holds ≡ (standing (sight (state_of world.now).elements operations.now self.old) key).holds }
         ensures same { self.new ≡ self.old }
         ensures listed { IfOk result
             (λ listed. listed.items ≡ refs_in (content_now (sight (state_of world.now).elements operations.now self.old) key)) }
@@ -199,7 +213,7 @@ impl Overlay {
             operations,
             over: self,
         };
-        view.add_replaced(operation, key, &mut listed)?;
+        view.add_replaced(operation, key, holds, &mut listed)?;
         Ok(listed)
     }
 

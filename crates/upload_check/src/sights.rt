@@ -74,6 +74,16 @@ impl<'a> View<'a> {
         standing_in(self.world, self.over.standings(), key)
     }
 
+    /// How many versions an element has. Its users aren't looked for.
+    pub fn versions(&self, key: Key) -> u64
+        ensures { result ≡ (standing self.now key).versions }
+    {
+        match self.over.standings().look(key) {
+            Some(standing) => standing.versions,
+            None => self.world.store().count(key),
+        }
+    }
+
     /// Where an element's content stands.
     pub fn holds(&self, key: Key) -> Holds
         ensures { result ≡ (standing self.now key).holds }
@@ -122,11 +132,12 @@ impl<'a> View<'a> {
         }
     }
 
-    /// Adds what an element lists, in list order.
-    fn add_listed(&self, user: Key, listed: &mut Vec<Key>) -> Result<(), Memory>
+    /// Adds what an element lists whose content stands there, in list order.
+    fn add_listed(&self, user: Key, holds: Holds, listed: &mut Vec<Key>) -> Result<(), Memory>
+        requires { holds ≡ (standing self.now user).holds }
         ensures { OnOk result (listed.new.items ≡ listed.old.items ++ refs_in (content_now self.now user)) }
     {
-        match self.holds(user) {
+        match holds {
             Holds::AsBefore => match stored(self.world, user) {
                 Some(content) => add_refs(content, listed),
                 None => Ok(()),
@@ -139,19 +150,22 @@ impl<'a> View<'a> {
         }
     }
 
-    /// Adds what the element of an operation lists before it. What it creates isn't looked for.
+    /// Adds what the element of an operation lists before it, where its content stands there. What it
+    /// creates isn't looked for.
     pub fn add_replaced(
         &self,
         operation: &Op,
         key: Key,
+        holds: Holds,
         listed: &mut Vec<Key>,
     ) -> Result<(), Memory>
-        requires { IsFresh self.now operation.now key }
+        requires fresh { IsFresh self.now operation.now key }
+        requires holds { holds ≡ (standing self.now key).holds }
         ensures { OnOk result (listed.new.items ≡ listed.old.items ++ refs_in (content_now self.now key)) }
     {
         match operation {
             Op::Create { .. } => Ok(()),
-            Op::Modify { .. } | Op::Delete { .. } => self.add_listed(key, listed),
+            Op::Modify { .. } | Op::Delete { .. } => self.add_listed(key, holds, listed),
         }
     }
 

@@ -6,11 +6,16 @@ use Rattle.upload_check.specs.Shifts.{apart}
 use Rattle.upload_check.specs.Users.{others}
 use Rattle.upload_check.specs.declared.shifts.Shift.TheVariants.{More, Less}
 use Rattle.upload_check.proofs.Changed.{made_is}
-use Rattle.upload_check.proofs.Shifted.{ready_before, shifted_back}
+use Rattle.upload_check.proofs.Shifted.{ready_before, shifted_back, shifted_itself}
 use Rattle.upload_check.proofs.counts.make.Goals as goal
 
 pub shift_all-requires-clause-some : goal.shift_all-requires-clause-some
 shift_all-requires-clause-some c = λ b there. c.requires.used b (and_parts (others c.args.key c.args.ended.now b) (not (lists_key c.args.begun.now b)) there).0
+
+pub raise_and_revise-requires-clause-stood : goal.raise_and_revise-requires-clause-stood
+raise_and_revise-requires-clause-stood c =
+    shifted_itself Less (state_of c.args.world.now).elements c.args.key c.args.ended.now c.args.begun.now c.args.stood c.args.standings.now c.shift_all.new.standings
+    c.in_ok-shift_all.ensures.shifted c.requires.stood
 
 pub returns-in-Ok-clause-made : goal.returns-in-Ok-clause-made
 returns-in-Ok-clause-made c =

@@ -18,4 +18,4 @@ returns-in-None-get c =
     in
     sym (append-nil c.args.listed.now.items)
     ∙ ap (λ (x : Option (Content ℕ)). c.args.listed.now.items ++ refs_in x)
-    (sym (ap (content_by s c.args.user) (sym c.holds.ensures ∙ c.in-FromOperation.is) ∙ ap (λ (o : Option Op). option_and_then (content_of_op (take place s.over.keys)) o) none))
+    (sym (ap (content_by s c.args.user) (sym c.requires ∙ c.in-FromOperation.is) ∙ ap (λ (o : Option Op). option_and_then (content_of_op (take place s.over.keys)) o) none))
