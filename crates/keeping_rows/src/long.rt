@@ -1,4 +1,4 @@
-//! Runs of `serve` on a journal that is long enough for several threads to read it.
+//! Runs of `serve` on a journal that is long enough to be read in several parts, by several threads each.
 use crate::faults::creation_line;
 use crate::journals::{Call, Given, one_port, serve_kept, text_of};
 use crate::refusals::is_refused;
@@ -9,15 +9,16 @@ use std::alloc::Global;
 use std::sync::Wait;
 use std::thread::Threads;
 
-/// So many lines are 137 thousand bytes: each of four threads gets a part.
-const LINES: u64 = 1_000;
+/// So many lines are more than two million bytes: three parts, of which the later ones are read while the
+/// entries of those before are followed, each by two threads.
+const LINES: u64 = 17_000;
 
 /// What alice creates behind them.
 const NEXT_CREATION: Call = Call {
     caller: "alice",
     asks: "PUT /api/0.6/changeset/create",
     body: "",
-    reply: "1001",
+    reply: "17001",
 };
 
 /// The text of that many creations in one session. The line of one number has this call.
@@ -49,7 +50,7 @@ fn goes_on<R: Threads + Wait + Sync>(rt: &R, alloc: Global) -> Result<bool, Memo
 
 /// Whether a file is refused in which one line has the call of the line before.
 fn repeats_a_call<R: Threads + Wait + Sync>(rt: &R, alloc: Global) -> Result<bool, Memory> {
-    is_refused(rt, alloc, &closed(creations(alloc, 900, 899)?)?)
+    is_refused(rt, alloc, &closed(creations(alloc, 16_900, 16_899)?)?)
 }
 
 /// Whether a file is refused in which this byte is another one.
@@ -73,7 +74,7 @@ pub fn play<R: Threads + Wait + Sync + Print>(rt: &R, alloc: Global, tally: &mut
         "a call twice in a long journal",
         repeats_a_call(rt, alloc),
     );
-    for at in [1_000, 50_000, 90_000, 130_000] {
+    for at in [1_000, 900_000, 1_500_000, 2_300_000] {
         tally.note(
             rt,
             "another byte in a long journal",

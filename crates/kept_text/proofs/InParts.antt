@@ -10,7 +10,7 @@ use Rattle.kept_text.proofs.Cuts.{cut_at, cut_is, same_lines, line_first, some_c
 -- over the line of an entry, those of entries, and what the fields of an entry allow
 module _ {E : Type 0} (line : E → List ℕ) (lines : List E → List ℕ) (is_entry : E → Type 0)
     (no_line : lines [] ≡ []) (first_line : (e : E) (es : List E) → lines (e ∷ es) ≡ line e ++ 10 ∷ lines es) where
-  lines-append : (es more : List E) → lines (es ++ more) ≡ lines es ++ lines more
+  pub lines-append : (es more : List E) → lines (es ++ more) ≡ lines es ++ lines more
   lines-append [] more = sym (ap (λ (l : List ℕ). l ++ lines more) no_line)
   lines-append (e ∷ es) more =
       first_line e (es ++ more)
@@ -118,7 +118,7 @@ module _ {E : Type 0} (line : E → List ℕ) (lines : List E → List ℕ) (is_
 
     module _ (tell : (e o : E) → is_entry e → is_entry o → line e ≡ line o → e ≡ o) where
       -- what has the lines of these entries in front is the lines of these and others
-      goes_on : (es os : List E) (rest : List ℕ) → All is_entry es → All is_entry os → lines es ++ rest ≡ lines os
+      pub goes_on : (es os : List E) (rest : List ℕ) → All is_entry es → All is_entry os → lines es ++ rest ≡ lines os
           → (more : List E) × (os ≡ es ++ more) × (rest ≡ lines more) × All is_entry more
       goes_on [] os rest typed others same = (os, refl, sym (ap (λ (l : List ℕ). l ++ rest) no_line) ∙ same, others)
       goes_on (e ∷ es) [] rest typed others same =

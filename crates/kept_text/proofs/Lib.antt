@@ -4,3 +4,4 @@ mod Cuts
 mod Exits
 mod InParts
 mod Moments
+mod TakenIn

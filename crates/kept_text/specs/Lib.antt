@@ -1,3 +1,4 @@
+pub mod Intakes
 pub mod Judged
 pub mod OneLine
 pub mod Parts

@@ -2,7 +2,7 @@
 //!
 //! A server has two copies of what its entries come to, and each follows and tests every entry. They
 //! do so at the same time, in two threads.
-ghost use Rattle.std.specs.Prelude.{◌≡◌, IfErr, IfOk};
+ghost use Rattle.std.specs.Prelude.{◌≡◌, ◌≤◌, length, take, IfErr, IfOk};
 ghost use Rattle.kept_text.specs.Judged.{IsFollowed, IsJudged};
 ghost use Rattle.kept_text.specs.declared.faults.TextFault.{TextFault};
 
@@ -12,7 +12,7 @@ use std::thread::{Threads, join};
 
 /// Judges entries that were read, each behind those before it.
 pub trait EntryJudge<E> {
-    ghost use Rattle.std.specs.Prelude.{List};
+    ghost use Rattle.std.specs.Prelude.{List, []};
 
     /// A copy of what entries come to.
     type World: Drop + Send;
@@ -29,8 +29,20 @@ pub trait EntryJudge<E> {
     // The world is one that followed these entries, and tested each.
     ghost follows: { Self.World → List E → Type 0 };
 
-    /// A world that follows these entries, each of which it tests.
-    fn follow(alloc: Global, read: &[E]) -> Result<Self::World, TextFault>
+    /// A world that has followed no entry yet.
+    fn begin(alloc: Global) -> Self::World
+        ensures { follows result [] };
+
+    /// The world, which followed the entries before this place, once it has followed the others too, each
+    /// of which it tests.
+    fn follow(
+        alloc: Global,
+        world: Self::World,
+        read: &[E],
+        from: usize,
+    ) -> Result<Self::World, TextFault>
+        requires within { from ≤ length read.now }
+        requires followed { follows world (take from read.now) }
         ensures { IsFollowed follows is_legal read.now result };
 
     /// The journal of these entries, with the worlds that followed them.
@@ -45,29 +57,43 @@ pub trait EntryJudge<E> {
         ensures { IsJudged entries is_legal read.items result };
 }
 
-/// The journal of these entries, which two worlds follow at the same time. Where no thread can be had
-/// one follows after the other.
-pub(crate) fn judge<R: Threads + Sync, E: Send + Sync + Drop, S: EntryJudge<E> + Send>(
+/// The worlds of the two copies that a server begins with.
+#[derive(Drop)]
+pub(crate) struct Worlds<W> {
+    pub first: W,
+    pub second: W,
+}
+
+/// Both worlds, which followed the entries before this place, once they have followed the others too, at
+/// the same time. Where no thread can be had one follows after the other.
+pub(crate) fn follow_both<R: Threads + Sync, E: Send + Sync + Drop, S: EntryJudge<E> + Send>(
     rt: &R,
     alloc: Global,
-    read: Vec<E>,
-) -> Result<S::Journal, TextFault>
-    ensures { IsJudged S.entries S.is_legal read.items result }
+    worlds: Worlds<S::World>,
+    entries: &[E],
+    from: usize,
+) -> Result<Worlds<S::World>, TextFault>
+    requires within { from ≤ length entries.now }
+    requires first { S.follows worlds.first (take from entries.now) }
+    requires second { S.follows worlds.second (take from entries.now) }
+    ensures { IsFollowed (λ w es. S.follows w.first es × S.follows w.second es) S.is_legal entries.now result }
 {
-    let entries = read.as_slice();
+    let Worlds { first, second } = worlds;
     let follow_first = move || -> Result<S::World, TextFault>
+        requires { (from ≤ length entries.now) × S.follows first (take from entries.now) }
         ensures { IsFollowed S.follows S.is_legal entries.entry.now result }
-    { S::follow(alloc, entries) };
+    { S::follow(alloc, first, entries, from) };
     let follow_second = move || -> Result<S::World, TextFault>
+        requires { (from ≤ length entries.now) × S.follows second (take from entries.now) }
         ensures { IsFollowed S.follows S.is_legal entries.entry.now result }
-    { S::follow(alloc, entries) };
-    let (first, second) = join(rt, follow_first, follow_second);
-    let first = match first {
+    { S::follow(alloc, second, entries, from) };
+    let (one, other) = join(rt, follow_first, follow_second);
+    let first = match one {
         Ok(world) => world,
         Err(fault) => return Err(fault),
     };
-    match second {
-        Ok(world) => S::journal_of(alloc, read, first, world),
+    match other {
+        Ok(second) => Ok(Worlds { first, second }),
         Err(fault) => Err(fault),
     }
 }

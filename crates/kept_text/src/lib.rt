@@ -3,6 +3,7 @@
 #![tactic(auto)]
 
 mod faults;
+mod intake;
 mod judging;
 mod parts;
 mod reading;

@@ -68,7 +68,7 @@ fn read_in_turn<E: Drop, T: KeptText<E>>(alloc: Global, text: &[u8]) -> Result<V
 }
 
 /// Cuts a text behind the first byte 10 that stands from this place on, where there is one.
-fn cut_behind(text: &[u8], from: usize) -> Option<(&[u8], &[u8])>
+pub(crate) fn cut_behind(text: &[u8], from: usize) -> Option<(&[u8], &[u8])>
     requires { from ≤ length text.now }
     ensures { IfSome result (λ cut. IsCut text.now cut.0.now cut.1.now) }
 {

@@ -8,16 +8,12 @@ ghost use Rattle.journal_file.specs.Whole.{text_of};
 ghost use Rattle.kept_text.specs.Restarts.{IsCause, StandsFor};
 
 use crate::faults::TextFault;
-use crate::judging::{EntryJudge, judge};
-use crate::parts::read_lines;
+use crate::intake::take_in_all;
+use crate::judging::EntryJudge;
 use crate::reading::KeptText;
 use journal_file::{Device, JournalFile, OpenFault, is_damaged, kept_text};
 use std::alloc::Global;
 use std::thread::Threads;
-
-/// In how many threads a text is read: as many as most machines have processors. On fewer they take
-/// turns, and it takes no longer than one would.
-const READERS: usize = 4;
 
 /// Why a file was not taken up again. All but a fault of its device leave it untouched.
 #[derive(Clone, Copy, PartialEq, Eq)]
@@ -64,8 +60,7 @@ fn read_text<
     let Some(lines) = kept_text(file).strip_prefix(T::header()) else {
         return Err(RestartFault::NoJournal);
     };
-    let entries = read_lines::<R, E, T>(rt, alloc, lines, READERS)?;
-    let journal = judge::<R, E, S>(rt, alloc, entries)?;
+    let journal = take_in_all::<R, E, T, S>(rt, alloc, lines)?;
     Ok(journal)
 }
 

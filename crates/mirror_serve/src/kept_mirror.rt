@@ -44,7 +44,9 @@ impl EntryJudge<Entry> for MirrorJournal {
 
     ghost follows = { λ _ _. ⊤ };
 
-    fn follow(_alloc: Global, _read: &[Entry]) -> Result<(), TextFault> {
+    fn begin(_alloc: Global) {}
+
+    fn follow(_alloc: Global, _world: (), _read: &[Entry], _from: usize) -> Result<(), TextFault> {
         Ok(())
     }
 

@@ -1,5 +1,5 @@
 //! The server of notes whose journal is kept in a file, as what a program runs.
-ghost use Rattle.std.specs.Prelude.{◌≡◌, ◌<◌, ◌≤◌, map, vec_len};
+ghost use Rattle.std.specs.Prelude.{◌≡◌, ◌<◌, ◌≤◌, [], length, map, take, vec_len};
 ghost use Rattle.osm_base.specs.declared.limits.TheConstants.{SESSION_LIMIT};
 ghost use Rattle.kept_text.specs.Judged.{IsFollowed, IsJudged};
 ghost use Rattle.kept_text.specs.declared.faults.TextFault.{TextFault};
@@ -16,12 +16,13 @@ use kept_run::{Begun, KeptJournal, begin_kept};
 use kept_serve::{has_seats, seats_for};
 use kept_text::{EntryJudge, TextFault};
 use link_workers::Outcome;
+use machine_law::Machine;
 use notes_core::{NoteEntry, NotesMachine, NotesWorld};
 use notes_file::NoteLines;
 use osm_outside::{Host, Link, Outside, Port, PortOutside};
 use server_frame::{Listening, close_ports};
 use shared_front::Opened;
-use snapshot_hub::{Twins, follow_all, twins_of};
+use snapshot_hub::{Twins, follow_from, twins_of};
 use std::alloc::Global;
 use std::marker::Brand;
 use std::sync::Wait;
@@ -45,10 +46,23 @@ impl EntryJudge<NoteEntry> for NotesJournal {
 
     ghost follows = { HasFollowed };
 
-    fn follow(alloc: Global, read: &[NoteEntry]) -> Result<NotesWorld, TextFault>
+    fn begin(alloc: Global) -> NotesWorld
+        ensures { HasFollowed result [] }
+    {
+        NotesMachine::empty(alloc)
+    }
+
+    fn follow(
+        alloc: Global,
+        world: NotesWorld,
+        read: &[NoteEntry],
+        from: usize,
+    ) -> Result<NotesWorld, TextFault>
+        requires within { from ≤ length read.now }
+        requires followed { HasFollowed world (take from read.now) }
         ensures { IsFollowed HasFollowed IsLegal read.now result }
     {
-        match follow_all::<NotesMachine>(alloc, read)? {
+        match follow_from::<NotesMachine>(alloc, world, read, from)? {
             Some(world) => Ok(world),
             None => Err(TextFault::NoJournal),
         }

@@ -17,9 +17,9 @@ numbered_same : (before es : List Entry) → numbered_by tag_of before es ≡ is
 numbered_same before [] = refl
 numbered_same before (e ∷ es) = ap (λ (b : Bool). (e.call == calls_of e.session before + 1) && b) (numbered_same (before ++ e ∷ []) es)
 
--- entries that the machine's rules refuse are not legal
-pub refused : (es : List Entry) → is_legal map_rules es ≡ false → IsLegal es → ⊥
-refused es never legal = true≢false (sym legal.taken ∙ sym (legal_same empty es) ∙ never)
+-- entries that the machine's rules refuse, whatever comes behind them, are the beginning of nothing legal
+pub refused : (es : List Entry) → ((more : List Entry) → is_legal map_rules (es ++ more) ≡ false) → (more : List Entry) → IsLegal (es ++ more) → ⊥
+refused es never more legal = true≢false (sym legal.taken ∙ sym (legal_same empty (es ++ more)) ∙ never more)
 
 -- nor are entries that are not numbered
 pub unnumbered : (es : List Entry) → numbered_by tag_of [] es ≡ false → IsLegal es → ⊥

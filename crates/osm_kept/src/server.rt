@@ -1,5 +1,5 @@
 //! The map server whose journal is kept in a file, as what a program runs.
-ghost use Rattle.std.specs.Prelude.{◌≡◌, ◌<◌, ◌≤◌, map, vec_len};
+ghost use Rattle.std.specs.Prelude.{◌≡◌, ◌<◌, ◌≤◌, [], length, map, take, vec_len};
 ghost use Rattle.osm_base.specs.declared.limits.TheConstants.{SESSION_LIMIT};
 ghost use Rattle.journal_text.specs.Text.{text_of};
 ghost use Rattle.kept_text.specs.Judged.{IsFollowed, IsJudged};
@@ -18,12 +18,13 @@ use kept_run::{Begun, KeptJournal, begin_kept};
 use kept_serve::{has_seats, seats_for};
 use kept_text::{EntryJudge, TextFault};
 use link_workers::Outcome;
+use machine_law::Machine;
 use map_machine::{MapMachine, MapWorld, journals_are_the_maps};
 use osm_model::Entry;
 use osm_outside::{Host, Link, Outside, Port, PortOutside};
 use server_frame::{Listening, close_ports};
 use shared_front::Opened;
-use snapshot_hub::{Twins, follow_all, twins_of};
+use snapshot_hub::{Twins, follow_from, twins_of};
 use std::alloc::Global;
 use std::marker::Brand;
 use std::sync::Wait;
@@ -47,11 +48,24 @@ impl EntryJudge<Entry> for MapJournal {
 
     ghost follows = { HasFollowed };
 
+    fn begin(alloc: Global) -> MapWorld
+        ensures { HasFollowed result [] }
+    {
+        MapMachine::empty(alloc)
+    }
+
     #[tactic(auto, using(crate::proofs::Journals::refused))]
-    fn follow(alloc: Global, read: &[Entry]) -> Result<MapWorld, TextFault>
+    fn follow(
+        alloc: Global,
+        world: MapWorld,
+        read: &[Entry],
+        from: usize,
+    ) -> Result<MapWorld, TextFault>
+        requires within { from ≤ length read.now }
+        requires followed { HasFollowed world (take from read.now) }
         ensures { IsFollowed HasFollowed (λ entries. IsLegal entries) read.now result }
     {
-        match follow_all::<MapMachine>(alloc, read)? {
+        match follow_from::<MapMachine>(alloc, world, read, from)? {
             Some(world) => Ok(world),
             None => Err(TextFault::NoJournal),
         }

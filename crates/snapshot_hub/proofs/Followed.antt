@@ -29,19 +29,21 @@ module _ {S C Q P E K : Type 0} (rules : Rules S C Q P E K) where
             (legal_push rules rules.start begun e so.legal (subst (λ (s : S). rules.takes s e ≡ true) so.after taken));
       }
 
-  -- where an entry may not come next the entries are not legal
+  -- where an entry may not come next the entries are not legal, whatever comes behind them
   pub stops : (entries : List E) (i : ℕ) (e : E) (state : S) → i < length entries → e ≡ get_or entries i e → Follows state (take i entries)
-      → rules.takes state e ≡ false → is_legal rules entries ≡ false
-  stops entries i e state within is so never = by (is_legal rules entries) refl
+      → rules.takes state e ≡ false → (more : List E) → is_legal rules (entries ++ more) ≡ false
+  stops entries i e state within is so never more = by (is_legal rules (entries ++ more)) refl
     where
-      by : (b : Bool) → is_legal rules entries ≡ b → b ≡ false
+      by : (b : Bool) → is_legal rules (entries ++ more) ≡ b → b ≡ false
       by false same = refl
       by true same =
-          let more = more_entries entries i e within is in
-          let split : (take i entries ++ e ∷ []) ++ drop (i + 1) entries ≡ entries =
-          ap (λ (l : List E). l ++ drop (i + 1) entries) (sym more) ∙ take-append-drop (i + 1) entries in
-          let there : take i entries ++ e ∷ drop (i + 1) entries ≡ entries = sym (append_assoc (take i entries) (e ∷ []) (drop (i + 1) entries)) ∙ split in
-          let taken = legal_next rules rules.start (take i entries) e (drop (i + 1) entries) (subst (λ (l : List E). is_legal rules l ≡ true) (sym there) same) in
+          let begun = take i entries in
+          let rest = drop (i + 1) entries in
+          let split : (begun ++ e ∷ []) ++ rest ≡ entries =
+          ap (λ (l : List E). l ++ rest) (sym (more_entries entries i e within is)) ∙ take-append-drop (i + 1) entries in
+          let there : begun ++ e ∷ (rest ++ more) ≡ entries ++ more =
+          sym (append_assoc begun (e ∷ []) (rest ++ more)) ∙ sym (append_assoc (begun ++ e ∷ []) rest more) ∙ ap (λ (l : List E). l ++ more) split in
+          let taken = legal_next rules rules.start begun e (rest ++ more) (subst (λ (l : List E). is_legal rules l ≡ true) (sym there) same) in
           absurd (true≢false (sym taken ∙ ap (λ (s : S). rules.takes s e) (sym so.after) ∙ never))
 
   -- all entries

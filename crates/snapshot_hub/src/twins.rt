@@ -1,5 +1,5 @@
 //! A journal with two worlds after it, of which a hub's two copies begin.
-ghost use Rattle.std.specs.Prelude.{◌≡◌, ◌==◌, ◌+◌, ◌++◌, ◌∷◌, [], true, false, IfOk, IsTrue, MatchOption};
+ghost use Rattle.std.specs.Prelude.{◌≡◌, ◌==◌, ◌+◌, ◌≤◌, ◌++◌, ◌∷◌, [], List, take, length, true, false, IfOk, IsTrue, MatchOption};
 ghost use Rattle.machine_law.specs.Rules.{replay, is_legal};
 ghost use Rattle.hub_core.specs.Journal.{calls_of, is_numbered, IsJournal};
 
@@ -65,18 +65,22 @@ impl<M: Machine> Twins<M> {
     }
 }
 
-/// A world that followed these entries, each of which it tested and took by a copy of its own: none
-/// exactly where one of them may not come next.
-pub fn follow_all<M: Machine>(
+/// The world, which followed the entries before this place, once it has followed the others too, each of
+/// which it tests and takes by a copy of its own: none exactly where one of them may not come next.
+pub fn follow_from<M: Machine>(
     alloc: Global,
+    mut world: M::World,
     entries: &[M::Entry],
+    from: usize,
 ) -> Result<Option<M::World>, Memory>
-    ensures { IfOk result (λ found. MatchOption found (is_legal M.rules entries.now ≡ false)
+    requires within { from ≤ length entries.now }
+    requires legal { is_legal M.rules (take from entries.now) ≡ true }
+    requires followed { M.state world ≡ replay M.rules (take from entries.now) }
+    ensures { IfOk result (λ found. MatchOption found ((more : List M.Entry) → is_legal M.rules (entries.now ++ more) ≡ false)
         (λ world. (is_legal M.rules entries.now ≡ true) × (M.state world ≡ replay M.rules entries.now))) }
 {
-    let mut world = M::empty(alloc);
-    for entry in entries {
-        let taken = follow_next::<M>(alloc, &mut world, entry)?;
+    for place in from..entries.len() {
+        let taken = follow_next::<M>(alloc, &mut world, &entries[place])?;
         if !taken {
             return Ok(None);
         }
