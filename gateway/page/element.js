@@ -13,10 +13,10 @@ const tagTable = (tags) =>
 function changesOf(tags, before) {
   const rows = [];
   for (const [key, value] of Object.entries(tags)) {
-    if (before[key] === undefined) rows.push(make("div", {}, make("ins", {}, `${key} = ${value}`)));
+    if (!Object.hasOwn(before, key)) rows.push(make("div", {}, make("ins", {}, `${key} = ${value}`)));
     else if (before[key] !== value) rows.push(make("div", {}, `${key} = `, make("del", {}, before[key]), " ", make("ins", {}, value)));
   }
-  for (const key of Object.keys(before)) if (tags[key] === undefined) rows.push(make("div", {}, make("del", {}, `${key} = ${before[key]}`)));
+  for (const key of Object.keys(before)) if (!Object.hasOwn(tags, key)) rows.push(make("div", {}, make("del", {}, `${key} = ${before[key]}`)));
   return rows;
 }
 
