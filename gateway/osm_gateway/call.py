@@ -13,12 +13,17 @@ from urllib.parse import quote
 
 from aiohttp import web
 
+from .callers import UNPERMITTED, Caller, Callers, scope_of
 from .degrees import NotDecimal, degrees_of, units_of
+from .discussions import Discussions
+from .limits import Rates
 from .links import Links
 from .log import shown, tell
+from .oauth import OAuth
 from .people import People, User
 from .refusals import Asked, Refused, refusal
 from .spool import Coding, Spool
+from .store import Store
 from .turns import Turns
 from .walk import OPENED, Event, NotJson, Walk
 from .words import Words
@@ -36,6 +41,8 @@ WHOLE = 1 << 16
 class Form(Enum):
     XML = "application/xml"
     JSON = "application/json"
+    RSS = "application/rss+xml"
+    GPX = "application/gpx+xml"
 
 
 @dataclass
@@ -44,7 +51,22 @@ class Gateway:
     people: People
     server: Links
     notes: Links | None
+    store: Store
     turns: Turns = field(default_factory=Turns)
+    counted: dict[int, tuple[float, int]] = field(default_factory=dict)
+    """How many changesets a user has, and when they were counted."""
+    last_note: int = 0
+    """The largest id of a note that was seen."""
+
+    def __post_init__(self) -> None:
+        self.oauth = OAuth(self.store, self.people)
+        self.callers = Callers(self.people, self.oauth.grants, self.words.forwarded)
+        self.rates = Rates(self.words.rate)
+        self.discussions = Discussions(self.store, self.people)
+
+    def site(self, request: web.Request) -> str:
+        """How clients call this host: as --public-url says, or as they did."""
+        return self.words.public_url or f"{request.scheme}://{request.host}"
 
 
 def quality(accepted: str, *types: str) -> float:
@@ -63,7 +85,7 @@ def form_of(request: web.Request) -> Form:
     """By the end of the path, or else by the field Accept; XML where it doesn't matter."""
     end = request.match_info.get("end", "")
     if end:
-        return Form.JSON if end == ".json" else Form.XML
+        return Form[end[1:].upper()]
     accepted = request.headers.get("Accept", "")
     xml = quality(accepted, "application/xml", "text/xml", "*/*", "application/*", "text/*")
     return Form.JSON if quality(accepted, "application/json") > xml else Form.XML
@@ -73,9 +95,11 @@ class Call:
     def __init__(self, gateway: Gateway, request: web.Request) -> None:
         self.gateway, self.request = gateway, request
         self.form, self.texts = form_of(request), Texts()
-        self.token = gateway.people.token_of(request.headers.get("Authorization"))
-        user = gateway.people.by_token.get(self.token or "")
-        request["user"] = user.name if user else None
+        self.caller: Caller = gateway.callers.of(request)
+        self.token = self.caller.token
+        request["user"] = self.caller.user.name if self.caller.user else None
+        if not self.caller.may(scope_of(request.method, request.path)):
+            raise Refused(403, UNPERMITTED)
         request["texts"] = self.texts
 
     @property

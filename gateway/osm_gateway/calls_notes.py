@@ -3,7 +3,7 @@
 from __future__ import annotations
 
 import json
-from collections.abc import Iterator
+from collections.abc import Iterator, Sequence
 from datetime import datetime, timedelta, timezone
 from functools import partial
 from typing import Any
@@ -11,8 +11,8 @@ from urllib.parse import parse_qsl
 
 from aiohttp import web
 
-from . import documents, json_write, xml_write
-from .call import Call, box_of, events_of
+from . import documents, hidden, json_write, notes_forms, notes_search, xml_write
+from .call import Call, Form, box_of, events_of
 from .changes import ENCODER
 from .degrees import NotDecimal, units_of
 from .json_read import DecimalText
@@ -61,23 +61,25 @@ def place(given: dict[str, str], name: str) -> int:
 
 
 def site(call: Call) -> str:
-    return f"{call.request.scheme}://{call.request.host}"
+    return call.gateway.site(call.request)
 
 
 def form_of(call: Call) -> NoteForm:
     where = site(call)
+    if call.form in (Form.RSS, Form.GPX):
+        return (notes_forms.rss if call.form is Form.RSS else notes_forms.gpx)(call.texts, where)
     if call.wants_json:
-        return NoteForm(partial(json_write.note_start, site=where), json_write.comment, ",", json_write.NOTE_END)
+        return NoteForm(partial(json_write.note_start, site=where), json_write.comment, ",", lambda _: json_write.NOTE_END)
     start, comment = partial(xml_write.note_start, call.texts, site=where), partial(xml_write.comment, call.texts)
-    return NoteForm(start, comment, "", xml_write.NOTE_END)
+    return NoteForm(start, comment, "", lambda _: xml_write.NOTE_END)
 
 
-async def heads_of(call: Call, reply: Spool, base: Path) -> list[Note]:
+async def heads_of(call: Call, replies: Sequence[Spool], base: Path) -> list[Note]:
     """Notes without their comments, read in turns."""
     found: list[Note] = []
 
     def reading() -> Iterator[str]:
-        for it in documents.heads(events_of(reply), base):
+        for it in documents.heads(events_of(*replies), base):
             if it is not None:
                 found.append(it)
             yield ""
@@ -87,6 +89,11 @@ async def heads_of(call: Call, reply: Spool, base: Path) -> list[Note]:
     return found
 
 
+AROUND = {
+    Form.XML: ("", xml_write.closed("osm")), Form.RSS: (notes_forms.RSS, notes_forms.RSS_END), Form.GPX: (notes_forms.GPX, notes_forms.GPX_END),
+}  # fmt: skip
+
+
 def wrapped(call: Call, pieces: Iterator[str], one: bool) -> Iterator[str]:
     """A whole document of notes, or of one of them."""
     if call.wants_json:
@@ -94,14 +101,15 @@ def wrapped(call: Call, pieces: Iterator[str], one: bool) -> Iterator[str]:
         yield from pieces
         yield "\n" if one else "\n]}\n"
     else:
-        yield xml_write.opened("osm")
+        start, end = AROUND[call.form]
+        yield start or xml_write.opened("osm")
         yield from pieces
-        yield xml_write.closed("osm")
+        yield end
 
 
 async def answered(call: Call, reply: Spool) -> web.StreamResponse:
     """The note that a reply of the server has."""
-    wanted: list[Note | None] = [*await heads_of(call, reply, documents.ONE)]
+    wanted = [*hidden.shown(call, await heads_of(call, [reply], documents.ONE))]
     pieces = documents.notes(events_of(reply), documents.ONE, wanted, form_of(call))
     return await call.answer_in_parts(wrapped(call, pieces, one=True))
 
@@ -118,6 +126,7 @@ async def create(call: Call) -> web.StreamResponse:
 
 
 async def read(call: Call) -> web.StreamResponse:
+    hidden.refuse_hidden(call, call.path("id"))
     return await answered(call, await call.ask("GET", f"notes/{call.path('id')}", server=notes_of(call)))
 
 
@@ -128,6 +137,10 @@ async def change(call: Call) -> web.StreamResponse:
     what = call.request.match_info["what"]
     if what == "comment" and not given.get("text"):
         raise Refused(400, "No text was given")
+    hidden.refuse_hidden(call, call.path("id"))
+    if what == "reopen" and hidden.is_hidden(call, call.path("id")):
+        hidden.show(call, call.path("id"))
+        return await read(call)
     row: dict[str, Any] = {"text": given.get("text", "")}
     path = f"notes/{call.path('id')}/{what}"
     return await answered(call, await call.ask("POST", path, body=await call.sent([ENCODER.encode(row)]), server=server))
@@ -142,19 +155,46 @@ def number(call: Call, name: str, standard: int, least: int, most: int) -> int:
 
 
 async def search(call: Call) -> web.StreamResponse:
-    """The newest hundred of a box. `closed` says for how many days closed ones are shown, 7 if not said; -1 is for ever."""
+    """Those of a box, the newest first. `closed` says for how many days closed ones are shown, 7 if not said; -1 is for ever."""
     server, box = notes_of(call), box_of(call.query("bbox"))
     days, limit = number(call, "closed", 7, -1, 100_000), number(call, "limit", 100, 1, 10_000)
-    query = {"bbox": box} if days == 0 else {"bbox": box, "closed": "true"}
-    reply = await call.ask("GET", "notes", query, server=server)
-    found: list[Note | None] = [*await heads_of(call, reply, documents.SOME)]
-    since = datetime.now(timezone.utc) - timedelta(days=days)
-    left = limit
+    replies = await notes_search.box_replies(call, server, box, days != 0, limit)
+    found = [*hidden.shown(call, await heads_of(call, replies, documents.SOME))]
+    since, seen = datetime.now(timezone.utc) - timedelta(days=days), set[int]()
     for place, it in enumerate(found):
         is_old = days > 0 and it is not None and "closed_at" in it and moment_of(it["closed_at"]) < since
-        if is_old or not left:
+        # One on an edge between two parts of the box is in both.
+        if it is None or is_old or it["id"] in seen or len(seen) == limit:
             found[place] = None
         else:
-            left -= 1
-    pieces = documents.notes(events_of(reply), documents.SOME, found, form_of(call))
+            seen.add(it["id"])
+    pieces = documents.notes(events_of(*replies), documents.SOME, found, form_of(call))
     return await call.answer_in_parts(wrapped(call, pieces, one=False))
+
+
+async def search_texts(call: Call) -> web.StreamResponse:
+    """By words of their texts, users, moments; of a box or of all."""
+    server, box = notes_of(call), box_of(call.query("bbox")) if call.query("bbox") is not None else None
+    days, limit = number(call, "closed", 7, -1, 100_000), number(call, "limit", 100, 1, 1_000)
+    since = datetime.now(timezone.utc) - timedelta(days=days) if days > 0 else None
+    ids = await notes_search.searched(call, server, box, notes_search.wanted_of(call, days, since), limit)
+    replies = [await call.ask("GET", f"notes/{it}", server=server) for it in ids]
+    found = [*hidden.shown(call, await heads_of(call, replies, documents.ONE))]
+    pieces = documents.notes(events_of(*replies), documents.ONE, found, form_of(call))
+    return await call.answer_in_parts(wrapped(call, pieces, one=False))
+
+
+async def feed(call: Call) -> web.StreamResponse:
+    """The newest of a box, or of all, as RSS."""
+    call.form = Form.RSS
+    return await (search(call) if call.query("bbox") is not None else search_texts(call))
+
+
+async def hide(call: Call) -> web.StreamResponse:
+    """From everybody but moderators."""
+    if not call.user().moderator:
+        raise Refused(403, "Only a moderator may do this")
+    await call.body(FORM_BYTES)
+    reply = await call.ask("GET", f"notes/{call.path('id')}", server=notes_of(call))
+    hidden.hide(call, call.path("id"))
+    return await answered(call, reply)

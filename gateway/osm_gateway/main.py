@@ -8,12 +8,15 @@ import signal
 
 from aiohttp import web
 
+from . import json_write, xml_write
 from .app import app_of
 from .call import Gateway
 from .links import Address, Links
 from .log import CommonLog, hear_faults, tell
 from .people import BadUsers, People, people_of
+from .store import BadStore, Store
 from .words import Words, read_words
+from .xml_texts import Texts
 
 ENDING = 20.0
 """Seconds that calls which are being answered have at the end."""
@@ -43,10 +46,27 @@ def links_of(name: str, address: Address, words: Words) -> Links:
     return Links(f"the server of {name}, http://{address.host}:{address.port},", address, words.links, tell)
 
 
-async def serve(words: Words, people: People) -> int:
+def opened(words: Words) -> Store:
+    """The gateway's own file."""
+    try:
+        return Store(words.data)
+    except BadStore as why:
+        raise SystemExit(f"gateway: {why}") from None
+
+
+def licensed(words: Words) -> None:
+    """The strings of a licence in all documents."""
+    texts = Texts()
+    xml_write.licence = "".join(f' {name}="{texts(value)}"' for name, value in words.licence)
+    json_write.licence = "".join(f',"{name}":{json_write.value_of(value)}' for name, value in words.licence)
+
+
+async def serve(words: Words, people: People, store: Store) -> int:
     server = links_of("the map", words.server, words)
     notes = links_of("notes", words.notes, words) if words.notes else None
-    gateway = Gateway(words, people, server, notes)
+    gateway = Gateway(words, people, server, notes, store)
+    if not words.data:
+        tell("authorizations, preferences and discussions are in memory alone: --data names a file for them")
     ended = asyncio.Event()
     for number in (signal.SIGTERM, signal.SIGINT):
         asyncio.get_running_loop().add_signal_handler(number, ended.set)
@@ -69,6 +89,7 @@ async def serve(words: Words, people: People) -> int:
     await runner.cleanup()
     for links in filter(None, (server, notes)):
         links.close()
+    store.close()
     tell("ended")
     return 0
 
@@ -76,6 +97,7 @@ async def serve(words: Words, people: People) -> int:
 def main() -> int:
     words = read_words()
     people = read_people(words.users)
+    licensed(words)
     many_files()
     hear_faults()
-    return asyncio.run(serve(words, people))
+    return asyncio.run(serve(words, people, opened(words)))

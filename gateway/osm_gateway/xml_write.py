@@ -2,11 +2,12 @@
 
 from __future__ import annotations
 
-from collections.abc import Iterator
+from collections.abc import Iterator, Sequence
 
 from .degrees import degrees_of
+from .discussions import Remark
 from .people import User
-from .rows import Box, Changeset, Comment, Done, Element, Note, edges
+from .rows import Box, Changeset, Comment, Counts, Done, Element, Note, edges
 from .times import utc
 from .xml_texts import Texts
 
@@ -17,8 +18,12 @@ SLICE = 1000
 """Members that are written in one piece."""
 
 
+licence = ""
+"""Attributes that each document has besides (--copyright, --attribution, --license); set once, at the start."""
+
+
 def opened(name: str) -> str:
-    return f'{HEAD}<{name} version="0.6" generator="{GENERATOR}">\n'
+    return f'{HEAD}<{name} version="0.6" generator="{GENERATOR}"{licence}>\n'
 
 
 def closed(name: str) -> str:
@@ -61,13 +66,22 @@ def bounds(it: Box) -> str:
     return "<bounds" + "".join(f' {side}="{degrees_of(units)}"' for side, units in edges(it).items()) + "/>\n"
 
 
-def changeset(texts: Texts, it: Changeset, discussed: bool = False) -> str:
+def changeset(texts: Texts, it: Changeset, comments: int = 0, talk: Sequence[Remark] | None = None) -> str:
+    """With so many comments, and these where they are asked for."""
     start = texts.attributes(
         id=it["id"], created_at=it["created_at"], closed_at=it.get("closed_at"), open=it["open"], user=it["user"], uid=it["uid"]
     )
     start += "".join(f' {side[:3]}_{side[3:]}="{degrees_of(units)}"' for side, units in edges(it).items())
-    start += texts.attributes(comments_count=0, changes_count=it["changes_count"])
-    return f"<changeset{start}>\n{tags(texts, it['tags'])}{'  <discussion/>' if discussed else ''}</changeset>\n"
+    start += texts.attributes(comments_count=comments, changes_count=it["changes_count"])
+    return f"<changeset{start}>\n{tags(texts, it['tags'])}{discussion(texts, talk) if talk is not None else ''}</changeset>\n"
+
+
+def discussion(texts: Texts, talk: Sequence[Remark]) -> str:
+    rows = [
+        f"    <comment{texts.attributes(id=it.id, visible=it.visible, date=it.date, uid=it.uid, user=it.user)}><text>{texts(it.text)}</text></comment>\n"
+        for it in talk
+    ]
+    return f"  <discussion>\n{''.join(rows)}  </discussion>\n" if rows else "  <discussion/>\n"
 
 
 def done(it: Done) -> str:
@@ -75,11 +89,14 @@ def done(it: Done) -> str:
     return f"<{it['type']}{rest}/>\n"
 
 
-def user(texts: Texts, it: User, mine: bool) -> str:
-    """What the users text says of a user; counts aren't known here and left out, and JOSM can't do without a beginning."""
+def user(texts: Texts, it: User, counts: Counts, mine: bool) -> str:
+    """What is known of a user. JOSM can't do without a moment at which the account was made, and nobody knows it."""
     roles = "<roles><moderator/></roles>" if it.moderator else "<roles/>"
-    more = "<languages><lang>en</lang></languages>" if mine else ""
-    return f"<user{texts.attributes(id=it.id, display_name=it.name, account_created=BEGINNING)}><description/>{roles}{more}</user>\n"
+    changesets = f'<changesets count="{counts.changesets}"/>' if counts.changesets is not None else ""
+    rest = f'{roles}{changesets}<traces count="0"/><blocks><received count="0" active="0"/></blocks>'
+    if mine:
+        rest += '<languages><lang>en</lang></languages><messages><received count="0" unread="0"/><sent count="0"/></messages>'
+    return f"<user{texts.attributes(id=it.id, display_name=it.name, account_created=BEGINNING)}><description/>{rest}</user>\n"
 
 
 # ---- notes

@@ -1,0 +1,100 @@
+"""Who calls: a user's name and token, the token alone, or a token of OAuth that stands for a user and allows less."""
+
+from __future__ import annotations
+
+import base64
+import binascii
+from collections.abc import Set
+from dataclasses import dataclass
+
+from aiohttp import web
+
+from .limits import Guesses, address_of
+from .oauth import Grants
+from .people import People, User
+from .refusals import Refused
+
+UNPERMITTED = "You have not permitted the application access to this facility"
+
+
+@dataclass(frozen=True)
+class Caller:
+    """`token` is that of the users text, which the server knows; `scopes` is None where all is allowed that its user may."""
+
+    token: str | None = None
+    user: User | None = None
+    scopes: Set[str] | None = None
+
+    def may(self, scope: str | None) -> bool:
+        return scope is None or self.scopes is None or scope in self.scopes
+
+
+def scope_of(method: str, path: str) -> str | None:
+    """What a token of OAuth must allow for a call, as on OSM's servers; None where nobody need say who he is."""
+    call = path.removeprefix("/api/0.6/")
+    if call.startswith(("user/details", "user/preferences", "user/gpx_files")):
+        return "read_prefs" if method in ("GET", "HEAD") else "write_prefs"
+    if method in ("GET", "HEAD", "OPTIONS"):
+        return None
+    if call.startswith("notes"):
+        return "write_notes"
+    return "write_redactions" if call.startswith("redactions") or "/redact" in call else "write_api"
+
+
+def named(field: str) -> str:
+    """The name that a field of Basic has, as far as its first colon; empty of all else."""
+    kind, _, text = field.strip().partition(" ")
+    if kind.lower() != "basic":
+        return ""
+    try:
+        return base64.b64decode(text.strip(), validate=True).decode("utf-8").partition(":")[0]
+    except (binascii.Error, UnicodeDecodeError):
+        return ""
+
+
+class Callers:
+    def __init__(self, people: People, grants: Grants, forwarded: bool) -> None:
+        self.people, self.grants, self.forwarded, self.guesses = people, grants, forwarded, Guesses()
+
+    def of(self, request: web.Request) -> Caller:
+        field = request.headers.get("Authorization")
+        if not field:
+            return Caller()
+        address, name = address_of(request, self.forwarded), named(field)
+        self.guesses.check(address, name)
+        try:
+            found = self.found(self.people.token_of(field))
+        except Refused:
+            self.guesses.wrong(address, name)
+            raise
+        if found.user is None:
+            self.guesses.wrong(address)
+        elif name:
+            self.guesses.right(address, name)
+        return found
+
+    def guessed(self, request: web.Request) -> None:
+        """Counts a wrong code or secret of an application."""
+        self.guesses.wrong(address_of(request, self.forwarded))
+
+    def check(self, request: web.Request) -> None:
+        """Refuses an address that has guessed too often."""
+        self.guesses.check(address_of(request, self.forwarded))
+
+    def found(self, token: str | None) -> Caller:
+        user = self.people.by_token.get(token or "")
+        if user is not None or token is None:
+            return Caller(token, user)
+        granted = self.grants.user_of(token)
+        return Caller(granted[0].token, granted[0], granted[1]) if granted else Caller(token)
+
+    def log_in(self, request: web.Request, name: str, token: str) -> User | None:
+        """The user of a form, or None where name and token don't belong together."""
+        address = address_of(request, self.forwarded)
+        self.guesses.check(address, name)
+        user = self.people.by_token.get(token)
+        if user is None or user.name != name:
+            self.guesses.wrong(address, name)
+            return None
+        self.guesses.right(address, name)
+        return user
