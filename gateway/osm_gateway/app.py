@@ -9,7 +9,7 @@ from collections.abc import Awaitable, Callable
 
 from aiohttp import web
 
-from . import calls_about, calls_changesets, calls_discussions, calls_elements, calls_notes, calls_oauth, calls_preferences
+from . import calls_about, calls_changesets, calls_discussions, calls_elements, calls_notes, calls_oauth, calls_preferences, id_editor
 from .call import Call, Gateway
 from .limits import TooMany, address_of
 from .log import shown, tell
@@ -173,6 +173,10 @@ FORMS: tuple[tuple[tuple[str, ...], str, Callable[[Gateway, web.Request], Awaita
     (("GET", "POST"), "/oauth2/authorized_applications", calls_oauth.authorized),
     (("GET",), "/history/comments/feed", calls_discussions.feed),
     (("GET",), "/changeset/{id:[0-9]{1,19}}/comments/feed", calls_discussions.feed),
+    (("GET",), "/id", id_editor.moved),
+    (("GET",), "/id/", id_editor.index),
+    (("GET",), "/id/land.html", id_editor.land),
+    (("GET",), "/id/{path:.+}", id_editor.file),
     (("GET",), "/.well-known/oauth-authorization-server", calls_oauth.metadata),
     # Where JOSM looks for it.
     (("GET",), "/api/.well-known/oauth-authorization-server", calls_oauth.metadata),

@@ -60,7 +60,7 @@ class Gateway:
 
     def __post_init__(self) -> None:
         self.oauth = OAuth(self.store, self.people)
-        self.callers = Callers(self.people, self.oauth.grants, self.words.forwarded)
+        self.callers = Callers(self.people, self.oauth.grants, self.words.forwarded, self.words.guesses)
         self.rates = Rates(self.words.rate)
         self.discussions = Discussions(self.store, self.people)
 

@@ -53,8 +53,8 @@ def named(field: str) -> str:
 
 
 class Callers:
-    def __init__(self, people: People, grants: Grants, forwarded: bool) -> None:
-        self.people, self.grants, self.forwarded, self.guesses = people, grants, forwarded, Guesses()
+    def __init__(self, people: People, grants: Grants, forwarded: bool, guesses: int) -> None:
+        self.people, self.grants, self.forwarded, self.guesses = people, grants, forwarded, Guesses(guesses)
 
     def of(self, request: web.Request) -> Caller:
         field = request.headers.get("Authorization")

@@ -160,14 +160,13 @@ async def search(call: Call) -> web.StreamResponse:
     days, limit = number(call, "closed", 7, -1, 100_000), number(call, "limit", 100, 1, 10_000)
     replies = await notes_search.box_replies(call, server, box, days != 0, limit)
     found = [*hidden.shown(call, await heads_of(call, replies, documents.SOME))]
-    since, seen = datetime.now(timezone.utc) - timedelta(days=days), set[int]()
+    since, left = datetime.now(timezone.utc) - timedelta(days=days), limit
     for place, it in enumerate(found):
         is_old = days > 0 and it is not None and "closed_at" in it and moment_of(it["closed_at"]) < since
-        # One on an edge between two parts of the box is in both.
-        if it is None or is_old or it["id"] in seen or len(seen) == limit:
+        if it is None or is_old or not left:
             found[place] = None
         else:
-            seen.add(it["id"])
+            left -= 1
     pieces = documents.notes(events_of(*replies), documents.SOME, found, form_of(call))
     return await call.answer_in_parts(wrapped(call, pieces, one=False))
 

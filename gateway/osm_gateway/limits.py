@@ -48,11 +48,11 @@ class Buckets:
 
 
 class Guesses:
-    """Wrong names and tokens: an address has twenty and then one in six seconds; a name fifty and then one in ten seconds,
-    but for addresses from which it came rightly within a day, so that nobody is locked out by others."""
+    """Wrong names and tokens: an address has so many and then one in six seconds; a name thrice as many and then one in ten
+    seconds, but for addresses from which it came rightly within a day, so that nobody is locked out by others."""
 
-    def __init__(self) -> None:
-        self.addresses, self.names = Buckets(1 / 6, 20), Buckets(1 / 10, 50)
+    def __init__(self, count: int) -> None:
+        self.addresses, self.names = Buckets(1 / 6, count), Buckets(1 / 10, 3 * count)
         self.known: OrderedDict[tuple[str, str], float] = OrderedDict()
 
     def check(self, address: str, name: str = "") -> None:

@@ -11,6 +11,7 @@ from aiohttp import web
 from . import json_write, xml_write
 from .app import app_of
 from .call import Gateway
+from .id_editor import program_of
 from .links import Address, Links
 from .log import CommonLog, hear_faults, tell
 from .people import BadUsers, People, people_of
@@ -51,6 +52,14 @@ def opened(words: Words) -> Store:
     try:
         return Store(words.data)
     except BadStore as why:
+        raise SystemExit(f"gateway: {why}") from None
+
+
+def check_editor(folder: str) -> None:
+    try:
+        if folder:
+            program_of(folder)
+    except ValueError as why:
         raise SystemExit(f"gateway: {why}") from None
 
 
@@ -97,6 +106,7 @@ async def serve(words: Words, people: People, store: Store) -> int:
 def main() -> int:
     words = read_words()
     people = read_people(words.users)
+    check_editor(words.id)
     licensed(words)
     many_files()
     hear_faults()

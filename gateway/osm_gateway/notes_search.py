@@ -25,22 +25,31 @@ WALKED = 2_000
 """Notes that a search without a box looks at, the newest first."""
 
 
+async def count_of(call: Call, reply: Spool) -> int:
+    """The notes of a reply, counted in turns."""
+    def reading() -> Iterator[str]:
+        for it in events_of(reply):
+            yield "." if it.path == documents.SOME and it.sort is Sort.CLOSED else ""
+
+    return sum([len(part) async for part in call.gateway.turns.parts(reading())])
+
+
 async def box_replies(call: Call, server: Links, box: str, closed: bool, limit: int) -> list[Spool]:
-    """Replies with the notes of a box. Where there are more than the server lists, of its quarters, and so on."""
-    boxes, full, asked = [[units_of(edge) for edge in box.split(",")]], list[Spool](), 0
-    found = 0
+    """Replies with the notes of a box. Where there are more than the server lists, of its quarters, which have no edge in common."""
+    boxes, full, asked, found = [[units_of(edge) for edge in box.split(",")]], list[Spool](), 0, 0
     while boxes and found < limit and asked < ASKED:
         west, south, east, north = boxes.pop()
         query = {"bbox": ",".join(map(degrees_of, (west, south, east, north)))} | ({"closed": "true"} if closed else {})
         reply, asked = await call.ask("GET", "notes", query, server=server), asked + 1
-        count = sum(1 for it in events_of(reply) if it.path == documents.SOME and it.sort is Sort.CLOSED)
-        if count < LISTED or limit <= LISTED or (east - west) + (north - south) < 4:
+        count = await count_of(call, reply) if limit > LISTED else 0
+        if count < LISTED or (west, south) == (east, north):
             full.append(reply)
             found += count
             continue
         reply.close()
         x, y = (west + east) // 2, (south + north) // 2
-        boxes += [[west, south, x, y], [x, south, east, y], [west, y, x, north], [x, y, east, north]]
+        quarters = [[west, south, x, y], [x + 1, south, east, y], [west, y + 1, x, north], [x + 1, y + 1, east, north]]
+        boxes += [it for it in quarters if it[0] <= it[2] and it[1] <= it[3]]
     return full
 
 

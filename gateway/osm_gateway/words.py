@@ -9,7 +9,7 @@ from urllib.parse import urlsplit
 from .links import Address
 
 USAGE = """gateway/run --server URL --users FILE [--notes URL] [--listen ADDRESS] [--host NAME].. [--public-url URL] [--data FILE] [--id FOLDER]
-    [--rate N] [--forwarded] [--copyright TEXT] [--attribution URL] [--license URL] [--links N] [--quiet]"""
+    [--rate N] [--guesses N] [--forwarded] [--copyright TEXT] [--attribution URL] [--license URL] [--links N] [--quiet]"""
 
 
 @dataclass(frozen=True)
@@ -29,6 +29,8 @@ class Words:
     id: str = ""
     rate: float | None = None
     """Requests a second of one address."""
+    guesses: int = 20
+    """Wrong tokens that an address may show at once."""
     forwarded: bool = False
     licence: tuple[tuple[str, str], ...] = ()
     """Attributes of documents: `copyright`, `attribution`, `license`."""
@@ -65,6 +67,7 @@ def read_words(words: list[str] | None = None) -> Words:
     parser.add_argument("--data", default="", metavar="FILE", help="where authorizations, preferences and discussions are kept; else in memory")
     parser.add_argument("--id", default="", metavar="FOLDER", help="a build of the editor iD, which is then served at /id")
     parser.add_argument("--rate", type=float, metavar="N", help="requests a second that one address may ask, and sixty times as many at once")
+    parser.add_argument("--guesses", type=int, default=20, metavar="N", help="wrong tokens that an address may show at once, 20 if not said")
     parser.add_argument("--forwarded", action="store_true", help="a proxy in front writes who asks into X-Forwarded-For")
     for name in LICENCE:
         parser.add_argument(f"--{name}", metavar="TEXT", help=f"the attribute {name} of documents and of the capabilities")
@@ -79,8 +82,10 @@ def read_words(words: list[str] | None = None) -> Words:
         parser.error(str(why))
     if it.rate is not None and not 0.01 <= it.rate <= 1e6:
         parser.error("--rate takes a number from 0.01 to 1000000")
+    if not 1 <= it.guesses <= 10**6:
+        parser.error("--guesses takes a number from 1 to 1000000")
     if not 1 <= it.links <= 64:
         parser.error("--links takes a number from 1 to 64")
     hosts = frozenset({host.lower(), "localhost", "127.0.0.1", "::1", name.lower(), *(more.lower() for more in it.host)})
     licence = tuple((name, getattr(it, name)) for name in LICENCE if getattr(it, name))
-    return Words(server, notes, it.users, host, port, hosts, it.links, it.quiet, site, it.data, it.id, it.rate, it.forwarded, licence)
+    return Words(server, notes, it.users, host, port, hosts, it.links, it.quiet, site, it.data, it.id, it.rate, it.guesses, it.forwarded, licence)

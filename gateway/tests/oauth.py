@@ -220,7 +220,7 @@ def guesses(server: int) -> None:
         form = address("josm", redirect_uri="http://127.0.0.1:8111/oauth_authorization")
         want(post(gateway, form, {"name": "alice", "token": "x", "answer": "yes"}, X_Forwarded_For="1.1.1.1").status, 429, "the same in the form")
         want(tried("2.2.2.2", BOB).status, 200, "another address")
-        many = [tried(f"3.3.{place // 15}.1", basic("alice", f"wrong{place}")).status for place in range(60)]
+        many = [tried(f"3.3.{place // 15}.1", basic("alice", f"wrong{place}")).status for place in range(75)]
         want((many[0], many[-1]), (401, 429), "guesses of a name by many addresses")
         want((tried("4.4.4.4", ALICE).status, tried("9.9.9.9", ALICE).status), (429, 200), "alice from a new address, and from her own")
 
