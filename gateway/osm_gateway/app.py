@@ -9,7 +9,7 @@ from collections.abc import Awaitable, Callable
 
 from aiohttp import web
 
-from . import calls_about, calls_changesets, calls_discussions, calls_elements, calls_notes, calls_oauth, calls_preferences, id_editor
+from . import calls_about, calls_changesets, calls_discussions, calls_elements, calls_notes, calls_oauth, calls_preferences, id_editor, overview
 from .call import Call, Gateway
 from .limits import TooMany, address_of
 from .log import shown, tell
@@ -72,6 +72,7 @@ OWN_ENDS = (
     ("GET", "/api/0.6/user/preferences/{key:.+}", calls_preferences.read),
     ("PUT", "/api/0.6/user/preferences/{key:.+}", calls_preferences.write),
     ("DELETE", "/api/0.6/user/preferences/{key:.+}", calls_preferences.delete),
+    ("GET", "/overview/{z:1[0-2]}/{x:[0-9]{1,4}}/{y:[0-9]{1,4}}", overview.tile),
     ("GET", r"/api/0.6/notes{end:\.rss|\.gpx}", calls_notes.search),
     ("GET", r"/api/0.6/notes/search{end:\.rss|\.gpx}", calls_notes.search_texts),
     ("GET", f"/api/0.6/notes/{ID}{{end:\\.rss|\\.gpx}}", calls_notes.read),
@@ -175,6 +176,7 @@ FORMS: tuple[tuple[tuple[str, ...], str, Callable[[Gateway, web.Request], Awaita
     (("GET",), "/changeset/{id:[0-9]{1,19}}/comments/feed", calls_discussions.feed),
     (("GET",), "/id", id_editor.moved),
     (("GET",), "/id/", id_editor.index),
+    (("GET",), "/id/there", id_editor.there),
     (("GET",), "/id/land.html", id_editor.land),
     (("GET",), "/id/{path:.+}", id_editor.file),
     (("GET",), "/.well-known/oauth-authorization-server", calls_oauth.metadata),
@@ -198,7 +200,15 @@ def file_of(path: str) -> Callable[[web.Request], Awaitable[web.StreamResponse]]
     return answer
 
 
+ADDRESSES = (
+    f"/{KIND}/{ID}{{rest:(?:/history)?/?}}", f"/changeset/{ID}{{rest:/?}}", f"/note/{ID}{{rest:/?}}", "/user/{name:[^/]+}{rest:/?}",
+    "/user/{name:[^/]+}/{what:history|notes}", "/history",
+)  # fmt: skip
+"""What JOSM, iD and people open: the page reads its own address."""
+
+
 def app_of(gateway: Gateway) -> web.Application:
+    gateway.overview = overview.Kept()
     app = web.Application(middlewares=[around(gateway)])  # type: ignore[list-item]
     for method, path, handler in TABLE:
         app.router.add_route(method, path + END, served(gateway, handler))
@@ -211,7 +221,8 @@ def app_of(gateway: Gateway) -> web.Application:
     for methods, path, page in FORMS:
         for method in methods:
             app.router.add_route(method, path, shown_by(gateway, page))
-    app.router.add_get("/", file_of(os.path.join(PAGE, "index.html")))
+    for path in ("/", *ADDRESSES):
+        app.router.add_get(path, file_of(os.path.join(PAGE, "index.html")))
     app.router.add_static("/page", PAGE)
     if os.path.isdir(LEAFLET):
         app.router.add_static("/leaflet", LEAFLET, follow_symlinks=True)

@@ -63,6 +63,7 @@ class Gateway:
         self.callers = Callers(self.people, self.oauth.grants, self.words.forwarded, self.words.guesses)
         self.rates = Rates(self.words.rate)
         self.discussions = Discussions(self.store, self.people)
+        self.overview: Any = None
 
     def site(self, request: web.Request) -> str:
         """How clients call this host: as --public-url says, or as they did."""

@@ -111,8 +111,8 @@ async def users(call: Call) -> web.StreamResponse:
     found = [it for it in map(call.gateway.people.by_id.get, sorted(set(map(int, ids)))) if it]
     rows = [(it, await counts_of(call, it) if place < MOST else Counts()) for place, it in enumerate(found)]
     if call.wants_json:
-        return call.answer("".join(documents.listed_json("users", iter(rows), lambda row: f'{{"user":{json_write.user(*row, False)}}}')))
-    return call.answer("".join(documents.listed_xml(iter(rows), lambda row: xml_write.user(call.texts, *row, False))))
+        return call.answer("".join(documents.listed_json("users", iter(rows), lambda row: f'{{"user":{json_write.user(row[0], row[1], False)}}}')))
+    return call.answer("".join(documents.listed_xml(iter(rows), lambda row: xml_write.user(call.texts, row[0], row[1], False))))
 
 
 # ---- GPS traces

@@ -141,7 +141,8 @@ async def change(call: Call) -> web.StreamResponse:
     if what == "reopen" and hidden.is_hidden(call, call.path("id")):
         hidden.show(call, call.path("id"))
         return await read(call)
-    row: dict[str, Any] = {"text": given.get("text", "")}
+    # OSM's clients open a note again without a word, and the server wants one character.
+    row: dict[str, Any] = {"text": given.get("text", "") or (" " if what == "reopen" else "")}
     path = f"notes/{call.path('id')}/{what}"
     return await answered(call, await call.ask("POST", path, body=await call.sent([ENCODER.encode(row)]), server=server))
 

@@ -6,6 +6,7 @@ from __future__ import annotations
 import asyncio
 import base64
 import binascii
+from html import escape
 from typing import Any
 from urllib.parse import parse_qsl, unquote, urlencode, urlsplit
 
@@ -78,7 +79,8 @@ async def authorize(gateway: Gateway, request: web.Request) -> web.StreamRespons
         # Whoever can't be led back to a known address stays here (RFC 6749, section 4.1.2.1).
         return pages.page("This can't be allowed", pages.paragraph(f"{why.error}: {why.description or 'the application is not known here'}"), status=400)
     except OAuth2Error as why:
-        return led(gateway, why.in_uri(why.redirect_uri)) if why.redirect_uri else pages.page("This can't be allowed", pages.paragraph(str(why)), status=400)
+        fault: Any = why
+        return led(gateway, fault.in_uri(fault.redirect_uri)) if why.redirect_uri else pages.page("This can't be allowed", pages.paragraph(str(why)), status=400)
 
 
 def consent(gateway: Gateway, scopes: list[str], found: dict[str, Any], name: str = "", wrong: str = "") -> web.Response:
@@ -102,7 +104,7 @@ async def native(gateway: Gateway, request: web.Request) -> web.StreamResponse:
     code = request.query.get("code")
     if not code:
         return pages.page("It wasn't allowed", pages.paragraph(request.query.get("error_description", "")))
-    return pages.page("The code for the application", pages.paragraph("Copy it into the application:"), f"<p><code>{pages.escape(code)}</code></p>\n")
+    return pages.page("The code for the application", pages.paragraph("Copy it into the application:"), f"<p><code>{escape(code)}</code></p>\n")
 
 
 # ---- /oauth2/token, /oauth2/revoke
@@ -176,7 +178,7 @@ async def applications(gateway: Gateway, request: web.Request) -> web.StreamResp
 
 def registering(given: dict[str, str], wrong: str) -> web.Response:
     boxes = "".join(pages.entry(text, scope, "yes", "checkbox", "checked" if scope in given or not given and "gpx" not in scope else "") for scope, text in SCOPES.items())
-    redirects = f'<label>Addresses that it may be led back to, one a line <textarea name="redirects" rows="3">{pages.escape(given.get("redirects", ""))}</textarea></label>\n'
+    redirects = f'<label>Addresses that it may be led back to, one a line <textarea name="redirects" rows="3">{escape(given.get("redirects", ""))}</textarea></label>\n'
     parts = (
         pages.paragraph(wrong, "wrong") if wrong else "", pages.entry("The application's name", "application", given.get("application", "")), redirects,
         pages.paragraph("What it may ask for:"), boxes,

@@ -64,7 +64,8 @@ async def given(call: Call) -> dict[str, str]:
 
 
 async def read_all(call: Call) -> web.StreamResponse:
-    rows = dict(call.gateway.store.all("SELECT key, value FROM preferences WHERE user = ? ORDER BY key", call.user().id))
+    found = call.gateway.store.all("SELECT key, value FROM preferences WHERE user = ? ORDER BY key", call.user().id)
+    rows = {str(key): str(value) for key, value in found}
     if call.wants_json:
         return call.answer(json_write.document(preferences=json_write.value_of(rows)))
     text = "".join(f"<preference{call.texts.attributes(k=key, v=value)}/>\n" for key, value in rows.items())

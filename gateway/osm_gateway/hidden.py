@@ -28,7 +28,8 @@ def shown(call: Call, notes: Iterable[Note | None]) -> Iterator[Note | None]:
     """The heads of notes with None in place of a hidden one, which a moderator sees as hidden."""
     for it in notes:
         if it is not None and is_hidden(call, it["id"]):
-            yield {**it, "status": "hidden"} if is_moderator(call) else None
+            it["status"] = "hidden"
+            yield it if is_moderator(call) else None
         else:
             yield it
 

@@ -42,6 +42,11 @@ async def moved(_: Gateway, request: web.Request) -> web.StreamResponse:
     return web.Response(status=302, headers={"Location": f"/id/{'?' if request.query_string else ''}{request.query_string}"})
 
 
+async def there(gateway: Gateway, _: web.Request) -> web.StreamResponse:
+    """Whether there is a build, for the page's link to it."""
+    return web.json_response({"there": bool(gateway.words.id)}, headers={"Cache-Control": "no-cache"})
+
+
 async def index(gateway: Gateway, _: web.Request) -> web.StreamResponse:
     if not gateway.words.id:
         return pages.page(

@@ -3,13 +3,14 @@
 from __future__ import annotations
 
 import asyncio
+import os
 import resource
 import signal
 
 from aiohttp import web
 
 from . import json_write, xml_write
-from .app import app_of
+from .app import LEAFLET, app_of
 from .call import Gateway
 from .id_editor import program_of
 from .links import Address, Links
@@ -91,6 +92,8 @@ async def serve(words: Words, people: People, store: Store) -> int:
         await runner.cleanup()
         return 6
     tell(f"http://{words.host}:{words.port} in front of http://{words.server.host}:{words.server.port}")
+    if not os.path.isdir(LEAFLET):
+        tell(f"there is no {LEAFLET}: the page has no map without Debian's libjs-leaflet")
     for links in filter(None, (server, notes)):
         links.rest()
     await ended.wait()

@@ -15,14 +15,14 @@ from dataclasses import dataclass
 from typing import Any
 from urllib.parse import urlsplit
 
-from oauthlib.common import Request
-from oauthlib.oauth2 import (
-    AuthorizationCodeGrant, AuthorizationEndpoint, BearerToken, RequestValidator, RevocationEndpoint, TokenEndpoint,
-)  # fmt: skip
+from oauthlib import oauth2
 
 from .people import People, User
 from .store import Store, now
 
+LIBRARY: Any = oauth2
+"""Untyped: where its validator is to answer, its stubs say that nothing comes back."""
+Request = Any
 SCOPES = {
     "read_prefs": "read who you are and your preferences",
     "write_prefs": "change your preferences",
@@ -90,7 +90,7 @@ def is_same(registered: str, found: str, host: str) -> bool:
     return False
 
 
-class Grants(RequestValidator):
+class Grants(LIBRARY.RequestValidator):  # type: ignore[misc]
     """What oauthlib asks of us: who is registered, what was granted, and what is to be kept."""
 
     def __init__(self, store: Store, people: People) -> None:
@@ -222,14 +222,14 @@ class Grants(RequestValidator):
         return self.store.do("DELETE FROM tokens WHERE user = ? AND application = ?", user.id, application)
 
 
-class Codes(AuthorizationCodeGrant):
+class Codes(LIBRARY.AuthorizationCodeGrant):  # type: ignore[misc]
     """Codes with PKCE by S256 alone: `plain` protects nobody who listens."""
 
     refresh_token = False
-    _code_challenge_methods = {"S256": AuthorizationCodeGrant._code_challenge_methods["S256"]}
+    _code_challenge_methods = {"S256": LIBRARY.AuthorizationCodeGrant._code_challenge_methods["S256"]}
 
 
-class Lasting(BearerToken):
+class Lasting(LIBRARY.BearerToken):  # type: ignore[misc]
     """Tokens that last until they are revoked, as those of OSM's servers."""
 
     def create_token(self, request: Request, refresh_token: bool = False, **more: Any) -> dict[str, Any]:
@@ -239,15 +239,15 @@ class Lasting(BearerToken):
         return token
 
 
-class OAuth(AuthorizationEndpoint, TokenEndpoint, RevocationEndpoint):  # type: ignore[misc]
+class OAuth(LIBRARY.AuthorizationEndpoint, LIBRARY.TokenEndpoint, LIBRARY.RevocationEndpoint):  # type: ignore[misc]
     """The three of oauthlib's endpoints that are served."""
 
     def __init__(self, store: Store, people: People) -> None:
         self.grants = Grants(store, people)
         codes, tokens = Codes(self.grants), Lasting(self.grants, token_generator=lambda _: secrets.token_urlsafe(32))
-        AuthorizationEndpoint.__init__(self, "code", tokens, {"code": codes})
-        TokenEndpoint.__init__(self, "authorization_code", tokens, {"authorization_code": codes})
-        RevocationEndpoint.__init__(self, self.grants, ["access_token"])
+        LIBRARY.AuthorizationEndpoint.__init__(self, "code", tokens, {"code": codes})
+        LIBRARY.TokenEndpoint.__init__(self, "authorization_code", tokens, {"authorization_code": codes})
+        LIBRARY.RevocationEndpoint.__init__(self, self.grants, ["access_token"])
 
     def metadata(self, site: str) -> dict[str, Any]:
         """Where the endpoints are, and what they take (RFC 8414, section 2)."""

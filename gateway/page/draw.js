@@ -18,6 +18,22 @@ export class Drawing {
     this.marked = null;
   }
 
+  /** Draws a tile's worth of the map from afar (api.overview), each way with its own places. */
+  showFar(tiles) {
+    const looks = new Map();
+    for (const { ways, places } of tiles) {
+      for (const { id, tags, closed, line } of ways) {
+        const points = [];
+        for (let i = 0; i < line.length; i += 2) points.push([line[i], line[i + 1]]);
+        looks.set(`way/${id}`, this.shape({ type: "way", id, tags }, tags, points, closed, 0.6));
+      }
+      for (const { id, lat, lon, tags } of places) {
+        looks.set(`node/${id}`, { it: { type: "node", id, tags }, level: 9, places: [[lat, lon]], layer: L.circleMarker([lat, lon], pointOf(tags)) });
+      }
+    }
+    this.put([...looks.values()]);
+  }
+
   show(elements) {
     const places = new Map();
     const ways = new Map();
@@ -25,9 +41,12 @@ export class Drawing {
       if (it.type === "node") places.set(it.id, [it.lat, it.lon]);
       if (it.type === "way") ways.set(it.id, it);
     }
+    this.put(elements.map((it) => this.lookOf(it, ways, places)).filter((look) => look !== null));
+  }
+
+  put(looks) {
     this.layer.clearLayers();
     this.drawn.clear();
-    const looks = elements.map((it) => this.lookOf(it, ways, places)).filter((look) => look !== null);
     looks.sort((a, b) => a.level - b.level);
     // All casings of roads lie below all roads, so that crossings are open.
     for (const look of looks) if (look.casing) this.add(look, L.polyline(look.places, look.casing));
@@ -52,8 +71,10 @@ export class Drawing {
     return line.length > 1 ? this.shape(it, tags, line, closed) : null;
   }
 
-  shape(it, tags, places, closed) {
+  /** `scale` makes lines thinner. */
+  shape(it, tags, places, closed, scale = 1) {
     const look = lookOf(tags, closed);
+    for (const style of [look.style, look.casing]) if (style?.weight) style.weight *= scale;
     const layer = look.style.fill ? L.polygon(places, look.style) : L.polyline(places, look.style);
     return { ...look, it, places, layer };
   }
@@ -70,15 +91,15 @@ export class Drawing {
     this.drawn.set(`${look.it.type}/${look.it.id}`, look);
   }
 
-  /** The element that is drawn nearest to a place, within so many pixels, small things first. */
-  nearest(place, pixels = 30) {
+  /** The elements that are drawn within so many pixels of a place, the nearest first, small things before large ones. */
+  near(place, pixels = 30) {
     const at = this.map.latLngToLayerPoint(place);
-    let best = null;
+    const rows = [];
     for (const look of this.drawn.values()) {
       const away = this.away(look, at) - look.level;
-      if (away <= pixels && (best === null || away < best.away)) best = { away, it: look.it };
+      if (away <= pixels) rows.push({ away, it: look.it });
     }
-    return best?.it ?? null;
+    return rows.sort((a, b) => a.away - b.away).map((row) => row.it);
   }
 
   away(look, at) {
