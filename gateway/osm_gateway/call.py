@@ -13,7 +13,7 @@ from urllib.parse import quote
 
 from aiohttp import web
 
-from .callers import UNPERMITTED, Caller, Callers, scope_of
+from .callers import UNPERMITTED, Caller, Callers, scopes_of
 from .degrees import NotDecimal, degrees_of, units_of
 from .discussions import Discussions
 from .limits import Rates
@@ -99,7 +99,7 @@ class Call:
         self.caller: Caller = gateway.callers.of(request)
         self.token = self.caller.token
         request["user"] = self.caller.user.name if self.caller.user else None
-        if not self.caller.may(scope_of(request.method, request.path)):
+        if not self.caller.may(*scopes_of(request.method, request.path)):
             raise Refused(403, UNPERMITTED)
         request["texts"] = self.texts
 

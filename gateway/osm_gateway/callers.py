@@ -4,7 +4,7 @@ from __future__ import annotations
 
 import base64
 import binascii
-from collections.abc import Set
+import re
 from dataclasses import dataclass
 
 from aiohttp import web
@@ -23,22 +23,26 @@ class Caller:
 
     token: str | None = None
     user: User | None = None
-    scopes: Set[str] | None = None
+    scopes: frozenset[str] | None = None
 
-    def may(self, scope: str | None) -> bool:
-        return scope is None or self.scopes is None or scope in self.scopes
+    def may(self, *scopes: str) -> bool:
+        """Whether one of these is allowed, where there are any."""
+        return not scopes or self.scopes is None or not self.scopes.isdisjoint(scopes)
 
 
-def scope_of(method: str, path: str) -> str | None:
-    """What a token of OAuth must allow for a call, as on OSM's servers; None where nobody need say who he is."""
+def scopes_of(method: str, path: str) -> tuple[str, ...]:
+    """Of what a token of OAuth must allow one thing for a call, as on OSM's servers; none where nobody need say who he is."""
     call = path.removeprefix("/api/0.6/")
     if call.startswith(("user/details", "user/preferences", "user/gpx_files")):
-        return "read_prefs" if method in ("GET", "HEAD") else "write_prefs"
+        return ("read_prefs",) if method in ("GET", "HEAD") else ("write_prefs",)
     if method in ("GET", "HEAD", "OPTIONS"):
-        return None
+        return ()
     if call.startswith("notes"):
-        return "write_notes"
-    return "write_redactions" if call.startswith("redactions") or "/redact" in call else "write_api"
+        return ("write_notes",)
+    if call.startswith("redactions") or "/redact" in call:
+        return ("write_redactions",)
+    talk = re.fullmatch(r"changeset/(comment/)?[0-9]+/(comment|subscribe|unsubscribe|hide|unhide)(\.\w+)?", call)
+    return ("write_api", "write_changeset_comments") if talk else ("write_api",)
 
 
 def named(field: str) -> str:

@@ -76,7 +76,7 @@ async function drawn(bounds, signal) {
   }
   const tiles = await farTiles(bounds, Math.min(map.getZoom(), FAR.most), past.at, signal);
   drawing.showFar(tiles);
-  const count = tiles.reduce((sum, it) => sum + it.ways.length + it.places.length, 0);
+  const count = drawing.drawn.size;
   const whole = tiles.every((it) => it.whole) ? "" : ", not of all of the box";
   return [count, count ? `Main roads, water and places${whole}: zoom in to see all` : "There is nothing here from afar: zoom in to see all"];
 }

@@ -89,6 +89,7 @@ def discussions(gateway: Gateway) -> None:
     items = ET.fromstring(gateway.ask("GET", "/history/comments/feed").body).findall("channel/item")
     want([it.findtext("description") for it in items], ["so", "why <&>\nü"], "the feed of all comments")
     has(items[0].findtext("link") or "", f"/changeset/{number}#c", "where it leads")
+    want(len(ET.fromstring(gateway.ask("GET", f"/changeset/{number}/comments/feed").body).findall("channel/item")), 2, "the feed of one changeset")
 
 
 def note(gateway: Gateway, text: str, lat: str = "48.1", who: str = "") -> int:
@@ -179,8 +180,11 @@ def kept(server: int) -> None:
         with Gateway(server, more=("--data", path)) as gateway:
             gateway.well("PUT", "user/preferences/k", "v", ALICE)
             gateway.well("POST", "changeset/1/comment?text=kept", "", BOB)
-        with Gateway(server, more=("--data", path)) as gateway:
+        with Gateway(server, more=("--data", path)) as gateway, Gateway(server, more=("--data", path)) as other:
             want(gateway.well("GET", "user/preferences/k", who=ALICE), "v", "a preference behind a new start")
+            for place in range(20):
+                (gateway, other)[place % 2].well("PUT", f"user/preferences/k{place}", "v", ALICE)
+            want(len(json.loads(other.well("GET", "user/preferences.json", who=ALICE))["preferences"]), 21, "what two gateways keep in one file")
             has(gateway.well("GET", "changeset/1?include_discussion=1"), "<text>kept</text>", "a comment behind a new start")
 
 

@@ -174,6 +174,11 @@ def scopes(gateway: Gateway) -> None:
         for other, who in whos.items():
             came = gateway.api(method, path, "" if method == "GET" else "v" if "pref" in path else "", who)
             want(came.status, 200 if scope == other else 403, f"{method} {path} with {other}: {came.text}")
+    talker = bearer(gateway, registered(gateway, BACK, ("write_changeset_comments",))[0], "write_changeset_comments")
+    talk = gateway.changeset()
+    gateway.well("PUT", f"changeset/{talk}/close", who=ALICE)
+    ends = [gateway.api("POST", f"changeset/{talk}/comment?text=x", "", it).status for it in (talker, whos["write_api"], whos["write_notes"])]
+    want((ends, gateway.api("PUT", "changeset/create", "", talker).status), ([200, 200, 403], 403), "comments")
     want(gateway.api("GET", "capabilities", who=whos["write_notes"]).status, 200, "what anybody may read")
     want(json.loads(gateway.well("GET", "permissions.json", who=whos["write_api"]))["permissions"], ["allow_write_api"], "permissions of a token")
     want(gateway.api("POST", "redactions", "title=x", bearer(gateway, number, "write_api", "bob")).status, 403, "a redaction without its scope")

@@ -106,7 +106,8 @@ def far(page: Page, gateway: Gateway) -> None:
     page.until("a line", lambda: "zoom in to see the map" in page.text("#state"))
     for path in ("/overview/9/1/1", "/overview/10/9999/1", "/overview/11/1/x"):
         want(gateway.ask("GET", path).status, 404, path)
-    want(severe(page), [], "errors of the map from afar")
+    # A map that has too many nodes is refused once.
+    want([it for it in severe(page) if "/map.json" not in it], [], "errors of the map from afar")
 
 
 # ---- addresses
@@ -195,18 +196,18 @@ def past(page: Page, gateway: Gateway, way: int) -> None:
     page.until("the note of now", lambda: "closed" in page.text("#note h1") and "done" in page.text("#note"))
 
 
-def keys(page: Page, way: int) -> None:
-    """Enter goes through what is around the middle, Shift and Enter back; then Tab leads to the panel."""
-    page.open(f"#map=18/{LAT}/{LON + 0.0019}")
+def keys(page: Page) -> None:
+    """Enter goes through what is around the middle, here two nodes at one place, Shift and Enter back."""
+    page.open(f"#map=18/{LAT + 0.001}/{LON}")
     page.driver.execute_script("document.getElementById('map').focus()")
     seen = []
     for _ in range(3):
         ActionChains(page.driver).send_keys(Keys.ENTER).perform()
         seen.append(page.one("#element").get_attribute("data-shown"))
-    want((seen[0].startswith("node/"), f"way/{way}" in seen[1:], len(set(seen)) > 1), (True, True, True), f"what Enter goes through: {seen}")
+        has(page.text("#state"), " of 2: node", "which of how many it is")
+    want((seen[0] == seen[2], seen[0] != seen[1]), (True, True), f"what Enter goes through: {seen}")
     ActionChains(page.driver).key_down(Keys.SHIFT).send_keys(Keys.ENTER).key_up(Keys.SHIFT).perform()
     want(page.one("#element").get_attribute("data-shown"), seen[1], "back by Shift and Enter")
-    has(page.text("#state"), " of ", "which of how many it is")
 
 
 def without_leaflet(page: Page) -> None:
@@ -228,7 +229,7 @@ def run(program: str) -> str:
             page.driver.get_log("browser")
             links(page, number)
             past(page, gateway, number)
-            keys(page, number)
+            keys(page)
             want(severe(page), [], "errors of the page")
             far(page, gateway)
             without_leaflet(page)
