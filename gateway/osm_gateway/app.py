@@ -4,15 +4,17 @@ from __future__ import annotations
 
 import os
 import re
-import traceback
 from collections.abc import Awaitable, Callable
 
-from aiohttp import web
+from aiohttp import ClientPayloadError, web
 
 from . import calls_about, calls_changesets, calls_elements, calls_notes
 from .call import Call, Gateway
-from .log import shown, tell
+from .doubts import unknown
+from .links import InDoubt
+from .log import shown, tell, where
 from .refusals import Refused
+from .spool import NoDisk
 
 Handler = Callable[[Call], Awaitable[web.StreamResponse]]
 PAGE = os.path.join(os.path.dirname(os.path.dirname(os.path.abspath(__file__))), "page")
@@ -69,7 +71,13 @@ UNSERVED = (
 
 def served(gateway: Gateway, handler: Handler) -> Callable[[web.Request], Awaitable[web.StreamResponse]]:
     async def answer(request: web.Request) -> web.StreamResponse:
-        return await handler(Call(gateway, request))
+        call = Call(gateway, request)
+        try:
+            return await handler(call)
+        except InDoubt as why:
+            raise unknown(why, "this was done", "Look whether it was before you send it again.") from None
+        finally:
+            call.close()
 
     return answer
 
@@ -143,13 +151,16 @@ def around(gateway: Gateway) -> object:
             check_host(gateway, request)
             reply = options(request) if request.method == "OPTIONS" else await handler(request)
         except Refused as why:
+            if isinstance(why, NoDisk):
+                tell(f"{shown(request.method)} {shown(request.path)}: no room on the disk: {why.why}")
             reply = refused(why)
         except web.HTTPException as why:
             reply = unfound(request, why)
-        except ConnectionError:
-            raise  # its sender is gone
+        except (ConnectionError, ClientPayloadError) as why:
+            tell(f"{shown(request.method)} {shown(request.path)}: its sender is gone: {shown(str(why))[:200]}")
+            reply = refused(Refused(400, "The document ends too early"))
         except Exception as why:
-            tell(f"{shown(request.method)} {shown(request.path)}: {''.join(traceback.format_exception(why))}")
+            tell(f"{shown(request.method)} {shown(request.path)}: {where(why)}")
             reply = refused(Refused(500, f"The gateway failed at this: {type(why).__name__}"))
         texts = request.get("texts")
         if texts is not None and texts.lost:

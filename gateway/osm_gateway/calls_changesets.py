@@ -2,6 +2,7 @@
 
 from __future__ import annotations
 
+import json
 from collections.abc import Iterator
 from dataclasses import dataclass
 from datetime import datetime
@@ -14,6 +15,9 @@ from . import documents, json_read, json_write, xml_write
 from .call import Call, events_of
 from .calls_elements import texts_of
 from .changes import ENCODER, change_of
+from .changes_once import Change, closed, made_once, retagged, unended
+from .created_once import changeset_created
+from .made_again import operations_of
 from .refusals import Asked, Operations, Refused
 from .rows import Changeset
 from .times import moment_of
@@ -40,7 +44,7 @@ async def create(call: Call) -> web.StreamResponse:
     call.user()
     tags = await tags_of(call)
     body = await call.sent([ENCODER.encode(tags)]) if tags is not None else None
-    return call.text(await call.value("PUT", "changeset/create", body=body))
+    return call.text(await changeset_created(call, (tags or {}).get("tags", {}), body))
 
 
 def one(call: Call, it: Changeset) -> web.StreamResponse:
@@ -60,11 +64,12 @@ async def update(call: Call) -> web.StreamResponse:
     if tags is None:
         raise Refused(400, "Cannot parse valid changeset from xml string . The document is empty")
     body = await call.sent([ENCODER.encode(tags)])
-    return one(call, (await call.value("PUT", f"changeset/{call.path('id')}", body=body))["changeset"])
+    return one(call, json.loads((await retagged(call, call.path("id"), tags["tags"], body)).whole())["changeset"])
 
 
 async def close(call: Call) -> web.StreamResponse:
-    await call.ask("PUT", f"changeset/{call.path('id')}/close")
+    call.user()
+    await closed(call, call.path("id"))
     return call.text("")
 
 
@@ -75,7 +80,8 @@ async def upload(call: Call) -> web.StreamResponse:
     found = json_read.change(texts_of(body)) if is_json else ChangeReader().read(body.pieces())
     sent = await call.sent(change_of(found, operations))
     body.close()
-    reply = await call.ask("POST", f"changeset/{number}/upload", body=sent, asked=Asked(number, operations))
+    change = Change("POST", f"changeset/{number}/upload", sent, Asked(number, operations), lambda: operations_of(sent), lambda: unended(sent))
+    reply = await made_once(call, change)
     write = documents.done_json if call.wants_json else documents.done_xml
     return await call.answer_in_parts(write(events_of(reply)))
 

@@ -13,6 +13,7 @@ from .call import Gateway
 from .links import Address, Links
 from .log import CommonLog, hear_faults, tell
 from .people import BadUsers, People, people_of
+from .room import MEGABYTE, Room
 from .words import Words, read_words
 
 ENDING = 20.0
@@ -40,13 +41,13 @@ def many_files() -> None:
 
 
 def links_of(name: str, address: Address, words: Words) -> Links:
-    return Links(f"the server of {name}, http://{address.host}:{address.port},", address, words.links, tell)
+    return Links(f"the server of {name}", address, words.links, tell)
 
 
 async def serve(words: Words, people: People) -> int:
     server = links_of("the map", words.server, words)
     notes = links_of("notes", words.notes, words) if words.notes else None
-    gateway = Gateway(words, people, server, notes)
+    gateway = Gateway(words, people, server, notes, Room(words.room * MEGABYTE, tell))
     ended = asyncio.Event()
     for number in (signal.SIGTERM, signal.SIGINT):
         asyncio.get_running_loop().add_signal_handler(number, ended.set)
