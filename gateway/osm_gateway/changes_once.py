@@ -184,6 +184,12 @@ class Lost:
     async def found(self, count: int) -> Spool | None:
         """The answer, of the rows behind those that were there before; None where the change isn't among them."""
         download = await seen(self.call, f"changeset/{self.change.changeset}/download")
+        try:
+            return await self.searched(download, count)
+        finally:
+            download.close()
+
+    async def searched(self, download: Spool, count: int) -> Spool | None:
         search = Search(self.change.begin, self.change.asked.operations, self.before)
         await self.call.work(search.exact(download))
         if not search.found:

@@ -24,9 +24,9 @@ class Lost(Exception):
     """A link ended, or what came on it is no reply."""
 
     def __init__(self, why: BaseException, asked: bool, kept: bool) -> None:
-        super().__init__(str(why) or type(why).__name__)
-        self.asked, self.kept = asked, kept
-        """Whether the whole request may have been read, and whether the link was there before it."""
+        super().__init__("the link ended" if isinstance(why, asyncio.IncompleteReadError) else str(why) or type(why).__name__)
+        self.asked, self.kept, self.is_strange = asked, kept, isinstance(why, (NoReply, asyncio.LimitOverrunError))
+        """Whether the whole request may have been read, whether the link was there before it, and whether something else came."""
 
 
 class NoReply(ValueError):
@@ -264,6 +264,8 @@ class Links:
             self.tell(f"{self.name}, http://{self.address.host}:{self.address.port}, can't be reached: {why}")
         if why.asked and request.changes:
             return InDoubt(self.name, str(why))
+        if why.is_strange:
+            return Refused(502, f"What {self.name} sent is no reply of it: {why}")
         return Refused(503, f"{self.name} can't be reached at the moment, nothing was done")
 
     def found(self) -> None:

@@ -59,6 +59,9 @@ class Standing:
         class Serving(socketserver.ThreadingTCPServer):
             daemon_threads, allow_reuse_address = True, True
 
+            def handle_error(self, *_: object) -> None:
+                """The gateway lets links go in the middle of a reply that it has no room for."""
+
         self.server = Serving(("127.0.0.1", 0), Answering)
         self.port = self.server.server_address[1]
         threading.Thread(target=self.server.serve_forever, daemon=True).start()
