@@ -478,26 +478,27 @@ def of_coding(it: Drawn) -> str:
     wanted: Any = body
     if it.draw.random() < 0.5:
         data = it.damaged(data)
-        try:
-            wanted = gzip.decompress(data) if name == "gzip" and data else zlib.decompress(data)
-            # Python passes over zeros behind the end, which RFC 1952 hasn't.
-            wanted = "refused" if name == "gzip" and gzip.compress(b"") and has_padding(data) else wanted
-        except (OSError, EOFError, zlib.error):
-            wanted = "refused"
+        wanted = outcome(lambda: coding_wanted(data, name))
     for _ in range(2):
         pieces = it.cuts(data)
         same(undone(pieces, name), wanted, f"{name} {data[:300]!r} of {len(data)} in pieces of {[len(piece) for piece in pieces][:50]}")
     return "refused" if wanted == "refused" else "read"
 
 
-def has_padding(data: bytes) -> bool:
-    while data:
-        inflate = zlib.decompressobj(31)
-        inflate.decompress(data)
-        data = inflate.unused_data
-        if data[:1] == b"\0":
-            return True
-    return False
+def coding_wanted(data: bytes, name: str) -> bytes:
+    """What Python makes of the whole; it passes over zeros behind gzip and anything behind zlib, which belongs to no format."""
+    try:
+        wanted = gzip.decompress(data) if name == "gzip" and data else zlib.decompress(data)
+        rest = data
+        while rest:
+            inflate = zlib.decompressobj(31 if name == "gzip" else 15)
+            inflate.decompress(rest)
+            rest = inflate.unused_data
+            if rest and name == "deflate":
+                raise Invalid
+        return wanted
+    except (OSError, EOFError, zlib.error):
+        raise Invalid from None
 
 
 def of_reply(it: Drawn) -> str:
