@@ -4,17 +4,19 @@ from __future__ import annotations
 
 import os
 import re
-import traceback
 from collections.abc import Awaitable, Callable
 
-from aiohttp import web
+from aiohttp import ClientPayloadError, web
 
 from . import calls_about, calls_changesets, calls_discussions, calls_elements, calls_notes, calls_oauth, calls_preferences, id_editor, overview
 from .call import Call, Gateway
+from .doubts import unknown
 from .limits import TooMany, address_of
-from .log import shown, tell
+from .links import InDoubt
+from .log import shown, tell, where
 from .origins import PAGE_CSP, check_host, cors, has_bearer, options
 from .refusals import Refused
+from .spool import NoDisk
 
 Handler = Callable[[Call], Awaitable[web.StreamResponse]]
 PAGE = os.path.join(os.path.dirname(os.path.dirname(os.path.abspath(__file__))), "page")
@@ -88,7 +90,13 @@ UNSERVED = (
 
 def served(gateway: Gateway, handler: Handler) -> Callable[[web.Request], Awaitable[web.StreamResponse]]:
     async def answer(request: web.Request) -> web.StreamResponse:
-        return await handler(Call(gateway, request))
+        call = Call(gateway, request)
+        try:
+            return await handler(call)
+        except InDoubt as why:
+            raise unknown(why, "this was done", "Look whether it was before you send it again.") from None
+        finally:
+            call.close()
 
     return answer
 
@@ -139,19 +147,22 @@ async def fields(request: web.Request, reply: web.StreamResponse) -> None:
 def around(gateway: Gateway) -> object:
     @web.middleware
     async def answer(request: web.Request, handler: Callable[[web.Request], Awaitable[web.StreamResponse]]) -> web.StreamResponse:
-        address = address_of(request, gateway.words.forwarded)
+        address = address_of(request)
         try:
             check_host(gateway.words, request)
             gateway.rates.check(address)
             reply = options(request) if request.method == "OPTIONS" else await handler(request)
         except Refused as why:
+            if isinstance(why, NoDisk):
+                tell(f"{shown(request.method)} {shown(request.path)}: no room on the disk: {why.why}")
             reply = refused(why)
         except web.HTTPException as why:
             reply = unfound(request, why)
-        except ConnectionError:
-            raise  # its sender is gone
+        except (ConnectionError, ClientPayloadError) as why:
+            tell(f"{shown(request.method)} {shown(request.path)}: its sender is gone: {shown(str(why))[:200]}")
+            reply = refused(Refused(400, "The document ends too early"))
         except Exception as why:
-            tell(f"{shown(request.method)} {shown(request.path)}: {''.join(traceback.format_exception(why))}")
+            tell(f"{shown(request.method)} {shown(request.path)}: {where(why)}")
             reply = refused(Refused(500, f"The gateway failed at this: {type(why).__name__}"))
         gateway.rates.count(address, reply.body_length or reply.content_length or 0)
         texts = request.get("texts")

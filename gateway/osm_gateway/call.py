@@ -16,12 +16,14 @@ from aiohttp import web
 from .callers import UNPERMITTED, Caller, Callers, scopes_of
 from .degrees import NotDecimal, degrees_of, units_of
 from .discussions import Discussions
-from .limits import Rates
-from .links import Links
-from .log import shown, tell
+from .doubts import Once
+from .limits import Rates, address_of
+from .links import InDoubt, Links
+from .log import shown, tell, where
 from .oauth import OAuth
 from .people import People, User
 from .refusals import Asked, Refused, refusal
+from .room import Room, Share
 from .spool import Coding, Spool
 from .store import Store
 from .turns import Turns
@@ -51,8 +53,10 @@ class Gateway:
     people: People
     server: Links
     notes: Links | None
+    room: Room
     store: Store
     turns: Turns = field(default_factory=Turns)
+    once: Once = field(default_factory=Once)
     counted: dict[int, tuple[float, int]] = field(default_factory=dict)
     """How many changesets a user has, and when they were counted."""
     last_note: int = 0
@@ -60,14 +64,14 @@ class Gateway:
 
     def __post_init__(self) -> None:
         self.oauth = OAuth(self.store, self.people)
-        self.callers = Callers(self.people, self.oauth.grants, self.words.forwarded, self.words.guesses)
+        self.callers = Callers(self.people, self.oauth.grants, self.words.guesses)
         self.rates = Rates(self.words.rate)
         self.discussions = Discussions(self.store, self.people)
         self.overview: Any = None
 
     def site(self, request: web.Request) -> str:
         """How clients call this host: as --public-url says, or as they did."""
-        return self.words.public_url or f"{request.scheme}://{request.host}"
+        return self.words.public or f"{request.scheme}://{request.host}"
 
 
 def quality(accepted: str, *types: str) -> float:
@@ -95,6 +99,7 @@ def form_of(request: web.Request) -> Form:
 class Call:
     def __init__(self, gateway: Gateway, request: web.Request) -> None:
         self.gateway, self.request = gateway, request
+        self.spools: list[Spool] = []
         self.form, self.texts = form_of(request), Texts()
         self.caller: Caller = gateway.callers.of(request)
         self.token = self.caller.token
@@ -106,6 +111,20 @@ class Call:
     @property
     def wants_json(self) -> bool:
         return self.form is Form.JSON
+
+    @property
+    def site(self) -> str:
+        """What stands before the paths of this host in its links."""
+        return self.gateway.site(self.request)
+
+    def spool(self, always: bool = False) -> Spool:
+        """Room for a body until the call has ended. `always` is for the answer to a change that was made."""
+        self.spools.append(Spool(Share(self.gateway.room, address_of(self.request), always)))
+        return self.spools[-1]
+
+    def close(self) -> None:
+        for spool in self.spools:
+            spool.close()
 
     def user(self) -> User:
         return self.gateway.people.known(self.token)
@@ -134,16 +153,17 @@ class Call:
 
     async def body(self, limit: int = JSON_BODY) -> Spool:
         """The body, as it was before it was coded."""
-        request, spool = self.request, Spool()
+        request, spool, raw = self.request, self.spool(), 0
         coding = Coding(request.headers.get("Content-Encoding", "").strip().lower())
         if not coding.known:
             raise Refused(415, "The Content-Encoding isn't gzip or deflate")
         try:
             async with asyncio.timeout(READING):
                 async for data in request.content.iter_any():
+                    raw += len(data)
                     for piece in coding.undone(data):
                         spool.write(piece)
-                        if spool.size > limit:
+                        if max(spool.size, raw) > limit:
                             raise Refused(413, f"The document has more than {limit} bytes")
                         await asyncio.sleep(0)
         except TimeoutError:
@@ -175,21 +195,29 @@ class Call:
         self, method: str, path: str, query: dict[str, str] | None = None, body: Spool | None = None, asked: Asked | None = None,
         server: Links | None = None,
     ) -> Spool:  # fmt: skip
-        """The body of the server's reply, or its refusal in OSM's words."""
+        """The body of the server's reply, or its refusal in OSM's words; InDoubt where nobody knows whether a change was made."""
         parameters = "&".join(f"{name}={quote(value, safe=',.-')}" for name, value in (query or {}).items())
-        target = f"/api/0.6/{path}{'?' if parameters else ''}{parameters}"
-        reply = await (server or self.gateway.server).ask(method, target, self.token, body)
-        if reply.status != 200:
-            raise refusal(reply.status, reply.body.whole(), asked or Asked())
-        return reply.body
+        target, links = f"/api/0.6/{path}{'?' if parameters else ''}{parameters}", server or self.gateway.server
+        reply = await links.ask(method, target, self.token, body, self.spool(always=method != "GET"))
+        if reply.status == 200:
+            return reply.body
+        refused = refusal(reply.status, reply.body.whole(), asked or Asked())
+        if reply.status >= 500 and method != "GET":
+            raise InDoubt(links.name, f"the answer has the status {reply.status}", refused if refused.said else None)
+        raise refused
 
     async def value(self, *words: Any, **more: Any) -> Any:
         """The same, of a small reply, as a value."""
         return json.loads((await self.ask(*words, **more)).whole())
 
-    async def sent(self, pieces: Iterable[str]) -> Spool:
+    async def work(self, pieces: Iterable[str]) -> None:
+        """Carries out in turns what tells nothing."""
+        async for _ in self.gateway.turns.parts(pieces):
+            pass
+
+    async def sent(self, pieces: Iterable[str], always: bool = False) -> Spool:
         """A body for the server, written in turns."""
-        spool = Spool()
+        spool = self.spool(always)
         try:
             async for part in self.gateway.turns.parts(pieces):
                 spool.write(part.encode("utf-8"))
@@ -238,9 +266,10 @@ class Call:
                 async for part in parts:
                     await reply.write(part.encode("utf-8"))
                 await reply.write_eof()
-        except (TimeoutError, ConnectionError, Refused) as why:
-            # The reply has begun, so all that its reader can be told is that the link ends.
-            tell(f"{self.request.method} {shown(self.request.path)} ended in its middle: {why or 'its reader was too slow'}")
+        except Exception as why:
+            # The reply has begun, so all that its reader can be told is that the link ends: nothing may be written behind this.
+            told = "its reader was too slow" if isinstance(why, TimeoutError) else where(why)
+            tell(f"{self.request.method} {shown(self.request.path)} ended in its middle: {told}")
             if self.request.transport:
                 self.request.transport.abort()
         return reply
@@ -259,6 +288,13 @@ def events_of(*spools: Spool) -> Iterator[Event]:
             yield from Walk(spool.texts(), OPENED).events()
         except (NotJson, UnicodeDecodeError) as why:
             raise Refused(502, f"The server's reply can't be read: {why}") from None
+
+
+def number_of(text: str, least: int, most: int) -> int | None:
+    """A number of the query within limits, however many zeros stand before it; None where it is none."""
+    found = re.fullmatch("(-?)0*([0-9]{1,18})", text)
+    number = int(found[1] + found[2]) if found else most + 1
+    return number if least <= number <= most else None
 
 
 FORM = "The parameter bbox is required, and must be of the form min_lon,min_lat,max_lon,max_lat"

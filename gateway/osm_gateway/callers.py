@@ -9,7 +9,7 @@ from dataclasses import dataclass
 
 from aiohttp import web
 
-from .limits import Guesses, address_of
+from .limits import Guesses, guesser_of
 from .oauth import Grants
 from .people import People, User
 from .refusals import Refused
@@ -57,14 +57,14 @@ def named(field: str) -> str:
 
 
 class Callers:
-    def __init__(self, people: People, grants: Grants, forwarded: bool, guesses: int) -> None:
-        self.people, self.grants, self.forwarded, self.guesses = people, grants, forwarded, Guesses(guesses)
+    def __init__(self, people: People, grants: Grants, guesses: int) -> None:
+        self.people, self.grants, self.guesses = people, grants, Guesses(guesses)
 
     def of(self, request: web.Request) -> Caller:
         field = request.headers.get("Authorization")
         if not field:
             return Caller()
-        address, name = address_of(request, self.forwarded), named(field)
+        address, name = guesser_of(request), named(field)
         self.guesses.check(address, name)
         try:
             found = self.found(self.people.token_of(field))
@@ -79,11 +79,11 @@ class Callers:
 
     def guessed(self, request: web.Request) -> None:
         """Counts a wrong code or secret of an application."""
-        self.guesses.wrong(address_of(request, self.forwarded))
+        self.guesses.wrong(guesser_of(request))
 
     def check(self, request: web.Request) -> None:
         """Refuses an address that has guessed too often."""
-        self.guesses.check(address_of(request, self.forwarded))
+        self.guesses.check(guesser_of(request))
 
     def found(self, token: str | None) -> Caller:
         user = self.people.by_token.get(token or "")
@@ -94,7 +94,7 @@ class Callers:
 
     def log_in(self, request: web.Request, name: str, token: str) -> User | None:
         """The user of a form, or None where name and token don't belong together."""
-        address = address_of(request, self.forwarded)
+        address = guesser_of(request)
         self.guesses.check(address, name)
         user = self.people.by_token.get(token)
         if user is None or user.name != name:

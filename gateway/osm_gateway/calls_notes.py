@@ -12,8 +12,9 @@ from urllib.parse import parse_qsl
 from aiohttp import web
 
 from . import documents, hidden, json_write, notes_forms, notes_search, xml_write
-from .call import Call, Form, box_of, events_of
+from .call import Call, Form, box_of, events_of, number_of
 from .changes import ENCODER
+from .created_once import note_changed, note_created
 from .degrees import NotDecimal, units_of
 from .json_read import DecimalText
 from .links import Links
@@ -25,6 +26,8 @@ from .times import moment_of
 from .walk import Path
 
 FORM_BYTES = 1 << 16
+LONGEST = 2000
+"""Characters of a text that the server takes; what it would refuse is refused before, so that a lost answer is no refusal."""
 
 
 def notes_of(call: Call) -> Links:
@@ -48,6 +51,11 @@ async def form(call: Call) -> dict[str, str]:
     return given
 
 
+def check_length(text: str) -> None:
+    if len(text) > LONGEST:
+        raise Refused(400, f"The text of a note has at most {LONGEST} characters")
+
+
 def place(given: dict[str, str], name: str) -> int:
     try:
         return units_of(given[name])
@@ -60,12 +68,8 @@ def place(given: dict[str, str], name: str) -> int:
 # ---- what is answered
 
 
-def site(call: Call) -> str:
-    return call.gateway.site(call.request)
-
-
 def form_of(call: Call) -> NoteForm:
-    where = site(call)
+    where = call.site
     if call.form in (Form.RSS, Form.GPX):
         return (notes_forms.rss if call.form is Form.RSS else notes_forms.gpx)(call.texts, where)
     if call.wants_json:
@@ -84,8 +88,7 @@ async def heads_of(call: Call, replies: Sequence[Spool], base: Path) -> list[Not
                 found.append(it)
             yield ""
 
-    async for _ in call.gateway.turns.parts(reading()):
-        pass
+    await call.work(reading())
     return found
 
 
@@ -122,7 +125,10 @@ async def create(call: Call) -> web.StreamResponse:
     row = {"lat7": place(given, "lat"), "lon7": place(given, "lon"), "text": given.get("text", "")}
     if not row["text"]:
         raise Refused(400, "No text was given")
-    return await answered(call, await call.ask("POST", "notes", body=await call.sent([ENCODER.encode(row)]), server=server))
+    if abs(row["lat7"]) > 900_000_000 or abs(row["lon7"]) > 1_800_000_000:
+        raise Refused(400, "The note is outside this world")
+    check_length(row["text"])
+    return await answered(call, await note_created(call, row, await call.sent([ENCODER.encode(row)]), server))
 
 
 async def read(call: Call) -> web.StreamResponse:
@@ -143,16 +149,16 @@ async def change(call: Call) -> web.StreamResponse:
         return await read(call)
     # OSM's clients open a note again without a word, and the server wants one character.
     row: dict[str, Any] = {"text": given.get("text", "") or (" " if what == "reopen" else "")}
-    path = f"notes/{call.path('id')}/{what}"
-    return await answered(call, await call.ask("POST", path, body=await call.sent([ENCODER.encode(row)]), server=server))
+    check_length(row["text"])
+    sent = await call.sent([ENCODER.encode(row)])
+    return await answered(call, await note_changed(call, call.path("id"), what, row["text"], sent, server))
 
 
 def number(call: Call, name: str, standard: int, least: int, most: int) -> int:
-    text = call.query(name) or str(standard)
-    digits = text.removeprefix("-")
-    if not (digits.isascii() and digits.isdigit() and least <= int(text[:9]) <= most):
+    found = number_of(call.query(name) or str(standard), least, most)
+    if found is None:
         raise Refused(400, f"The parameter {name} is a number from {least} to {most}")
-    return int(text)
+    return found
 
 
 async def search(call: Call) -> web.StreamResponse:

@@ -80,27 +80,33 @@ BYTES = 1 << 16
 
 
 class Rates:
-    """Requests a second of one address, and a minute's worth of them at once; each 64 kB of replies count as one more."""
+    """Requests a second of one address, and a minute's worth of them at once; each 64 kB of replies count as one more.
+    Calls of this host itself aren't counted."""
 
     def __init__(self, rate: float | None) -> None:
         self.buckets = Buckets(rate, 60 * rate) if rate else None
 
-    def check(self, address: str) -> None:
-        if self.buckets is None:
+    def check(self, address: str | None) -> None:
+        if self.buckets is None or address is None:
             return
         if (wait := self.buckets.wait(address)) > 0:
             raise TooMany(wait, "You have asked for too much")
         self.buckets.take(address)
 
-    def count(self, address: str, length: int) -> None:
-        if self.buckets is not None and length > BYTES:
+    def count(self, address: str | None, length: int) -> None:
+        if self.buckets is not None and address is not None and length > BYTES:
             self.buckets.take(address, length / BYTES)
 
 
-def address_of(request: web.BaseRequest, forwarded: bool) -> str:
-    """Who asks: the link's other end, or what the proxy in front wrote last into X-Forwarded-For."""
-    if forwarded:
-        last = request.headers.get("X-Forwarded-For", "").rpartition(",")[2].strip()
-        if last:
-            return last[:64]
-    return request.remote or "-"
+def address_of(request: web.BaseRequest) -> str | None:
+    """Whose call it is: behind a proxy on this host the address that it names last. None where a call of this host names none."""
+    address = request.remote or ""
+    if not (address.startswith("127.") or address == "::1"):
+        return address
+    named = request.headers.getall("X-Forwarded-For", [""])[-1].rpartition(",")[2].strip()
+    return named[:100] or None
+
+
+def guesser_of(request: web.BaseRequest) -> str:
+    """Whose guess it is; all of this host's own are one's."""
+    return address_of(request) or "this host"

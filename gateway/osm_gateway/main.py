@@ -16,6 +16,7 @@ from .id_editor import program_of
 from .links import Address, Links
 from .log import CommonLog, hear_faults, tell
 from .people import BadUsers, People, people_of
+from .room import MEGABYTE, Room
 from .store import BadStore, Store
 from .words import Words, read_words
 from .xml_texts import Texts
@@ -45,7 +46,7 @@ def many_files() -> None:
 
 
 def links_of(name: str, address: Address, words: Words) -> Links:
-    return Links(f"the server of {name}, http://{address.host}:{address.port},", address, words.links, tell)
+    return Links(f"the server of {name}", address, words.links, tell)
 
 
 def opened(words: Words) -> Store:
@@ -74,7 +75,7 @@ def licensed(words: Words) -> None:
 async def serve(words: Words, people: People, store: Store) -> int:
     server = links_of("the map", words.server, words)
     notes = links_of("notes", words.notes, words) if words.notes else None
-    gateway = Gateway(words, people, server, notes, store)
+    gateway = Gateway(words, people, server, notes, Room(words.room * MEGABYTE, tell), store)
     if not words.data:
         tell("authorizations, preferences and discussions are in memory alone: --data names a file for them")
     ended = asyncio.Event()

@@ -151,8 +151,10 @@ async def fill(call: Call, drawn: Drawn, tile: tuple[int, int, int], at: dict[st
     reply.close()
 
 
-async def made(call: Call, key: Key) -> bytes:
-    kept = call.gateway.overview
+async def made(asked: Call, key: Key) -> bytes:
+    kept = asked.gateway.overview
+    # A call of its own, since whoever asked first may hang up.
+    call = Call(asked.gateway, asked.request)
     try:
         async with kept.turns:
             drawn = Drawn(key[0])
@@ -161,6 +163,7 @@ async def made(call: Call, key: Key) -> bytes:
             kept.keep(key, text)
             return text
     finally:
+        call.close()
         kept.making.pop(key, None)
 
 

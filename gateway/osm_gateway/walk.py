@@ -12,7 +12,8 @@ Path = tuple[str, ...]
 """The members from the outermost value on; an item of a list is `*`."""
 
 SPACE = re.compile(r"[ \t\r\n]*")
-PIECE = 1 << 15
+EXPONENT = 3
+"""Characters from which on a part of a number behind its whole digits is read as such: a point and a digit, or `e-5`."""
 
 
 class Sort(Enum):
@@ -84,14 +85,17 @@ class Walk:
         self.place += 1
         return found
 
+    def may_go_on(self, end: int) -> bool:
+        """Whether the value that ends there may be a number whose rest hasn't come: `48.` and `5e-` have been read as 48 and 5."""
+        return end == len(self.text) or (self.text[end] in ".eE" and len(self.text) - end < EXPONENT)
+
     def whole(self) -> Any:
         """A value that isn't opened."""
         self.next_character()
         while True:
             try:
                 value, end = self.scan(self.text, self.place)
-                # A number at the end of what is there may go on.
-                if end < len(self.text) or self.ended:
+                if self.ended or not self.may_go_on(end):
                     self.place = end
                     return value
             except json.JSONDecodeError as why:

@@ -9,7 +9,7 @@ from urllib.parse import urlsplit
 from .links import Address
 
 USAGE = """gateway/run --server URL --users FILE [--notes URL] [--listen ADDRESS] [--host NAME].. [--public-url URL] [--data FILE] [--id FOLDER]
-    [--rate N] [--guesses N] [--forwarded] [--copyright TEXT] [--attribution URL] [--license URL] [--links N] [--quiet]"""
+    [--rate N] [--guesses N] [--copyright TEXT] [--attribution URL] [--license URL] [--links N] [--room MB] [--quiet]"""
 
 
 @dataclass(frozen=True)
@@ -21,27 +21,20 @@ class Words:
     port: int
     hosts: frozenset[str]
     """What may stand in the field Host, port aside."""
+    public: str | None
+    """What stands before the paths of this host in links, without a slash at its end; None where the request says it."""
     links: int
+    room: int
+    """Megabytes."""
     quiet: bool
-    public_url: str = ""
-    """How clients call this host, as https://map.example; no slash at its end."""
     data: str = ""
     id: str = ""
     rate: float | None = None
     """Requests a second of one address."""
     guesses: int = 20
     """Wrong tokens that an address may show at once."""
-    forwarded: bool = False
     licence: tuple[tuple[str, str], ...] = ()
     """Attributes of documents: `copyright`, `attribution`, `license`."""
-
-
-def public(url: str) -> tuple[str, str]:
-    """A public address without a slash at its end, and its host."""
-    parts = urlsplit(url)
-    if parts.scheme not in ("http", "https") or not parts.hostname or parts.path not in ("", "/") or parts.query or parts.fragment:
-        raise ValueError(f"{url} isn't https://HOST")
-    return url.rstrip("/"), parts.hostname
 
 
 LICENCE = ("copyright", "attribution", "license")
@@ -54,6 +47,14 @@ def listening(text: str) -> tuple[str, int]:
     return host.strip("[]"), int(port)
 
 
+def public_of(url: str) -> tuple[str, str]:
+    """What stands before the paths, and the name of the host."""
+    parts = urlsplit(url)
+    if parts.scheme not in ("http", "https") or not parts.hostname or parts.path not in ("", "/") or parts.query or parts.fragment:
+        raise ValueError(f"{url} isn't http://HOST or https://HOST, with a port or without")
+    return f"{parts.scheme}://{parts.netloc}", parts.hostname
+
+
 def read_words(words: list[str] | None = None) -> Words:
     parser = argparse.ArgumentParser(
         prog="gateway/run", usage=USAGE, description="OSM's API 0.6 in XML and JSON of degrees, and a page, in front of a server."
@@ -63,12 +64,12 @@ def read_words(words: list[str] | None = None) -> Words:
     parser.add_argument("--notes", metavar="URL", help="the server of notes; without it notes aren't served")
     parser.add_argument("--listen", default="127.0.0.1:8000", metavar="ADDRESS", help="where to listen, 127.0.0.1:8000 if not said")
     parser.add_argument("--host", action="append", default=[], metavar="NAME", help="a name by which clients know this host besides")
-    parser.add_argument("--public-url", default="", metavar="URL", help="how clients call this host, as https://map.example")
+    parser.add_argument("--public-url", metavar="URL", help="what clients know this host by in links, as https://map.example")
+    parser.add_argument("--room", type=int, default=1024, metavar="MB", help="what all bodies may take together, 1024 MB if not said")
     parser.add_argument("--data", default="", metavar="FILE", help="where authorizations, preferences and discussions are kept; else in memory")
     parser.add_argument("--id", default="", metavar="FOLDER", help="a build of the editor iD, which is then served at /id")
     parser.add_argument("--rate", type=float, metavar="N", help="requests a second that one address may ask, and sixty times as many at once")
     parser.add_argument("--guesses", type=int, default=20, metavar="N", help="wrong tokens that an address may show at once, 20 if not said")
-    parser.add_argument("--forwarded", action="store_true", help="a proxy in front writes who asks into X-Forwarded-For")
     for name in LICENCE:
         parser.add_argument(f"--{name}", metavar="TEXT", help=f"the attribute {name} of documents and of the capabilities")
     parser.add_argument("--links", type=int, default=8, metavar="N", help="links to each server, at most its workers; 8 if not said")
@@ -77,7 +78,7 @@ def read_words(words: list[str] | None = None) -> Words:
     try:
         host, port = listening(it.listen)
         server, notes = Address.of(it.server), Address.of(it.notes) if it.notes else None
-        site, name = public(it.public_url) if it.public_url else ("", "localhost")
+        public, name = public_of(it.public_url) if it.public_url else (None, host)
     except ValueError as why:
         parser.error(str(why))
     if it.rate is not None and not 0.01 <= it.rate <= 1e6:
@@ -86,6 +87,8 @@ def read_words(words: list[str] | None = None) -> Words:
         parser.error("--guesses takes a number from 1 to 1000000")
     if not 1 <= it.links <= 64:
         parser.error("--links takes a number from 1 to 64")
-    hosts = frozenset({host.lower(), "localhost", "127.0.0.1", "::1", name.lower(), *(more.lower() for more in it.host)})
+    if not 1 <= it.room <= 1_000_000:
+        parser.error("--room takes a number from 1 to 1000000")
+    hosts = frozenset({host.lower(), name.lower(), "localhost", "127.0.0.1", "::1", *(name.lower() for name in it.host)})
     licence = tuple((name, getattr(it, name)) for name in LICENCE if getattr(it, name))
-    return Words(server, notes, it.users, host, port, hosts, it.links, it.quiet, site, it.data, it.id, it.rate, it.guesses, it.forwarded, licence)
+    return Words(server, notes, it.users, host, port, hosts, public, it.links, it.room, it.quiet, it.data, it.id, it.rate, it.guesses, licence)

@@ -166,7 +166,7 @@ def licences(server: int) -> None:
 
 def rates(server: int) -> None:
     """An address has sixty requests at once and one a second; large replies count more; others aren't held up."""
-    with Gateway(server, more=("--rate", "1", "--forwarded")) as gateway:
+    with Gateway(server, more=("--rate", "1")) as gateway:
         ends = [gateway.api("GET", "capabilities", X_Forwarded_For="1.1.1.1").status for _ in range(70)]
         want((ends[:55], ends[-1]), ([200] * 55, 429), "seventy at once")
         came = gateway.api("GET", "capabilities", X_Forwarded_For="1.1.1.1")

@@ -213,7 +213,7 @@ def kept(server: int) -> None:
 
 def guesses(server: int) -> None:
     """An address guesses twenty times and then waits, by Basic, Bearer, in the form; others aren't held up, nor is the name for whom it is known."""
-    with Gateway(server, more=("--forwarded",)) as gateway:
+    with Gateway(server) as gateway:
         def tried(address: str, who: str) -> Came:
             return gateway.api("GET", "user/details", who=who, X_Forwarded_For=f"10.0.0.1, {address}")
 

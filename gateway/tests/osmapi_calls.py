@@ -150,16 +150,20 @@ def notes(it: Trial) -> None:
 
 
 def run(program: str) -> str:
-    logging.disable(logging.CRITICAL)
     with Site(program, notes=True) as gateway:
-        it = Trial(gateway)
-        want(it.call(it.nobody, "Capabilities")["area"]["maximum"], 0.25, "Capabilities")
-        changeset = it.call(it.alice, "ChangesetCreate", {"comment": "first & <é>"})
-        it.call(it.alice, "ChangesetUpdate", {"comment": "second"})
-        made = elements(it)
-        refusals(it, made)
-        changesets(it, changeset, made)
-        notes(it)
+        return tried(gateway)
+
+
+def tried(gateway: Gateway) -> str:
+    logging.disable(logging.CRITICAL)
+    it = Trial(gateway)
+    want(it.call(it.nobody, "Capabilities")["area"]["maximum"], 0.25, "Capabilities")
+    changeset = it.call(it.alice, "ChangesetCreate", {"comment": "first & <é>"})
+    it.call(it.alice, "ChangesetUpdate", {"comment": "second"})
+    made = elements(it)
+    refusals(it, made)
+    changesets(it, changeset, made)
+    notes(it)
     public = {name for name in dir(osmapi.OsmApi) if name[0].isupper()}
     want(public - it.called, set(), "calls that weren't tried")
     return f"osmapi {osmapi.__version__}: {len(public)} public calls, {it.calls} trials, each with its end"

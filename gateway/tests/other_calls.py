@@ -73,8 +73,9 @@ def changesets(gateway: Gateway) -> None:
     want(ids("time=2039-01-01T00:00:00Z"), [fourth, third, first], "those that aren't closed by then")
     want(ids("time=2000-01-01,2001-01-01"), [], "those of long ago")
     want((ids("from=2000-01-01"), ids("from=2000-01-01&to=2001-01-01")), ([fourth, third, second, first], []), "by their beginnings")
+    want((ids("order=oldest&limit=2"), ids("order=oldest&from=2000-01-01&user=2")), ([first, second], [second]), "the oldest first")
     for query, status, text in (
-        ("display_name=nobody", 404, "no user"), ("limit=0", 400, "between"), ("limit=x", 400, "between"), ("order=oldest", 400, "newest"),
+        ("display_name=nobody", 404, "no user"), ("limit=0", 400, "between"), ("limit=x", 400, "between"), ("order=other", 400, "newest or oldest"),
         ("time=yesterday", 400, "time"), ("changesets=", 400, "search"), ("user=x", 400, "number"), ("bbox=1", 400, "bbox"),
         ("user=1&display_name=alice", 400, "not both"),
     ):  # fmt: skip
