@@ -232,6 +232,8 @@ def app_of(gateway: Gateway) -> web.Application:
     for methods, path, page in FORMS:
         for method in methods:
             app.router.add_route(method, path, shown_by(gateway, page))
+            if method == "GET":
+                app.router.add_route("HEAD", path, shown_by(gateway, page))
     for path in ("/", *ADDRESSES):
         app.router.add_get(path, file_of(os.path.join(PAGE, "index.html")))
     app.router.add_static("/page", PAGE)

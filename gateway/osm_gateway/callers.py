@@ -69,17 +69,17 @@ class Callers:
         try:
             found = self.found(self.people.token_of(field))
         except Refused:
-            self.guesses.wrong(address, name)
+            self.guesses.wrong(address, name, field)
             raise
         if found.user is None:
-            self.guesses.wrong(address)
+            self.guesses.wrong(address, "", field)
         elif name:
             self.guesses.right(address, name)
         return found
 
-    def guessed(self, request: web.Request) -> None:
+    def guessed(self, request: web.Request, shown: str) -> None:
         """Counts a wrong code or secret of an application."""
-        self.guesses.wrong(guesser_of(request))
+        self.guesses.wrong(guesser_of(request), "", shown)
 
     def check(self, request: web.Request) -> None:
         """Refuses an address that has guessed too often."""
@@ -98,7 +98,7 @@ class Callers:
         self.guesses.check(address, name)
         user = self.people.by_token.get(token)
         if user is None or user.name != name:
-            self.guesses.wrong(address, name)
+            self.guesses.wrong(address, name, token)
             return None
         self.guesses.right(address, name)
         return user

@@ -6,6 +6,7 @@ from __future__ import annotations
 import asyncio
 import base64
 import binascii
+from collections.abc import Callable
 from html import escape
 from typing import Any
 from urllib.parse import parse_qsl, unquote, urlencode, urlsplit
@@ -103,7 +104,7 @@ async def native(gateway: Gateway, request: web.Request) -> web.StreamResponse:
     """The code of an application without an address."""
     code = request.query.get("code")
     if not code:
-        return pages.page("It wasn't allowed", pages.paragraph(request.query.get("error_description", "")))
+        return pages.page("It wasn't allowed", pages.paragraph("You may close this page."))
     return pages.page("The code for the application", pages.paragraph("Copy it into the application:"), f"<p><code>{escape(code)}</code></p>\n")
 
 
@@ -132,21 +133,20 @@ def said(found: tuple[dict[str, str], str, int]) -> web.Response:
 
 
 async def token(gateway: Gateway, request: web.Request) -> web.StreamResponse:
-    gateway.callers.check(request)
-    uri = f"{gateway.site(request)}/oauth2/token"
-    return guarded(gateway, request, said(gateway.oauth.create_token_response(uri, "POST", await asked(request), {})))
+    return await answered(gateway, request, gateway.oauth.create_token_response)
 
 
 async def revoke(gateway: Gateway, request: web.Request) -> web.StreamResponse:
+    return await answered(gateway, request, gateway.oauth.create_revocation_response)
+
+
+async def answered(gateway: Gateway, request: web.Request, answer: Callable[..., Any]) -> web.Response:
+    """What oauthlib answers; a wrong code or secret counts as a guess."""
     gateway.callers.check(request)
-    uri = f"{gateway.site(request)}/oauth2/revoke"
-    return guarded(gateway, request, said(gateway.oauth.create_revocation_response(uri, "POST", await asked(request), {})))
-
-
-def guarded(gateway: Gateway, request: web.Request, reply: web.Response) -> web.Response:
-    """Counts wrong codes and secrets as guesses."""
+    form = await asked(request)
+    reply = said(answer(f"{gateway.site(request)}{request.path}", "POST", form, {}))
     if reply.status in (400, 401):
-        gateway.callers.guessed(request)
+        gateway.callers.guessed(request, form)
     return reply
 
 

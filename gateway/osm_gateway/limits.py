@@ -2,10 +2,11 @@
 
 from __future__ import annotations
 
+import hashlib
+import math
 import time
 from collections import OrderedDict
 from dataclasses import dataclass, field
-from math import ceil
 
 from aiohttp import web
 
@@ -19,7 +20,7 @@ class TooMany(Refused):
     """429, and after how many seconds it may be tried again (RFC 6585, section 4)."""
 
     def __init__(self, seconds: float, what: str) -> None:
-        self.seconds = max(1, ceil(seconds))
+        self.seconds = max(1, math.ceil(seconds))
         super().__init__(429, f"{what}. Please try again in {self.seconds} seconds")
 
 
@@ -47,32 +48,50 @@ class Buckets:
             self.rows.popitem(last=False)
 
 
+class Recent:
+    """Keys of the last so many seconds, a bounded number of them."""
+
+    def __init__(self, seconds: float) -> None:
+        self.seconds, self.rows = seconds, OrderedDict[tuple[str, str], float]()
+
+    def __contains__(self, key: tuple[str, str]) -> bool:
+        return time.monotonic() - self.rows.get(key, -math.inf) < self.seconds
+
+    def add(self, key: tuple[str, str]) -> None:
+        self.rows[key] = time.monotonic()
+        self.rows.move_to_end(key)
+        while len(self.rows) > MOST:
+            self.rows.popitem(last=False)
+
+
 class Guesses:
     """Wrong names and tokens: an address has so many and then one in six seconds; a name thrice as many and then one in ten
-    seconds, but for addresses from which it came rightly within a day, so that nobody is locked out by others."""
+    seconds, but for addresses from which it came rightly within a day, so that nobody is locked out by others. The same wrong
+    token for a second time is no guess: a program that doesn't know of a revocation shows it with every call."""
 
     def __init__(self, count: int) -> None:
         self.addresses, self.names = Buckets(1 / 6, count), Buckets(1 / 10, 3 * count)
-        self.known: OrderedDict[tuple[str, str], float] = OrderedDict()
+        self.known, self.shown = Recent(86_400), Recent(3_600)
 
     def check(self, address: str, name: str = "") -> None:
         """Before a name and a token are compared."""
         wait = self.addresses.wait(address)
-        if name and time.monotonic() > self.known.get((address, name), 0.0):
+        if name and (address, name) not in self.known:
             wait = max(wait, self.names.wait(name))
         if wait > 0:
             raise TooMany(wait, "Too many wrong tokens")
 
-    def wrong(self, address: str, name: str = "") -> None:
+    def wrong(self, address: str, name: str, secret: str) -> None:
+        key = (address, hashlib.sha256(f"{name}\0{secret}".encode("utf-8", "surrogatepass")).hexdigest())
+        if key in self.shown:
+            return
+        self.shown.add(key)
         self.addresses.take(address)
         if name:
             self.names.take(name[:255])
 
     def right(self, address: str, name: str) -> None:
-        self.known[address, name] = time.monotonic() + 86_400
-        self.known.move_to_end((address, name))
-        while len(self.known) > MOST:
-            self.known.popitem(last=False)
+        self.known.add((address, name))
 
 
 BYTES = 1 << 16

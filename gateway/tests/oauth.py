@@ -6,7 +6,6 @@ import json
 import os
 import re
 import tempfile
-from typing import Any
 from urllib.parse import parse_qsl, urlencode, urlsplit
 
 from behind import ALICE, BOB, Came, Gateway, Site, basic, has, want
@@ -75,13 +74,11 @@ def session(gateway: Gateway) -> None:
     found = json.loads(gateway.ask("GET", "/.well-known/oauth-authorization-server").text)
     want((found["issuer"], found["code_challenge_methods_supported"]), (site, ["S256"]), "what the server says of itself")
     number, _ = registered(gateway, BACK, ("read_prefs", "write_api"))
-    it = OAuth2Session(number, redirect_uri="http://127.0.0.1:22999/back", scope=["read_prefs", "write_api"], pkce="S256") if "pkce" in OAuth2Session.__init__.__code__.co_varnames else plain_session(number)
-    more: dict[str, Any] = {} if getattr(it, "_pkce", None) else {"code_challenge": CHALLENGE, "code_challenge_method": "S256"}
-    start, state = it.authorization_url(found["authorization_endpoint"], **more)
+    it = OAuth2Session(number, redirect_uri="http://127.0.0.1:22999/back", scope=["read_prefs", "write_api"])
+    start, state = it.authorization_url(found["authorization_endpoint"], code_challenge=CHALLENGE, code_challenge_method="S256")
     back = allowed(gateway, start)
     want(code_of(back)["state"], state, "the state that comes back")
-    verifier: dict[str, Any] = {} if getattr(it, "_pkce", None) else {"code_verifier": VERIFIER}
-    token = it.fetch_token(found["token_endpoint"], authorization_response=back.fields["Location"], include_client_id=True, **verifier)
+    token = it.fetch_token(found["token_endpoint"], authorization_response=back.fields["Location"], include_client_id=True, code_verifier=VERIFIER)
     want((token["token_type"], sorted(token["scope"]), "refresh_token" in token), ("Bearer", ["read_prefs", "write_api"], False), "a token")
     want(it.get(f"{site}/api/0.6/user/details.json").json()["user"]["display_name"], "alice", "whom it stands for")
     made = it.put(f"{site}/api/0.6/changeset/create", data='<osm><changeset><tag k="comment" v="by OAuth"/></changeset></osm>')
@@ -90,10 +87,6 @@ def session(gateway: Gateway) -> None:
     want(it.put(f"{site}/api/0.6/user/preferences/a", data="b").status_code, 403, "what wasn't allowed")
     want(it.post(found["revocation_endpoint"], data={"token": token["access_token"], "client_id": number}).status_code, 200, "a revocation")
     want(it.get(f"{site}/api/0.6/user/details.json").status_code, 401, "a token that was revoked")
-
-
-def plain_session(number: str) -> Any:
-    return OAuth2Session(number, redirect_uri="http://127.0.0.1:22999/back", scope=["read_prefs", "write_api"])
 
 
 def with_secret(gateway: Gateway) -> None:
@@ -218,7 +211,8 @@ def guesses(server: int) -> None:
             return gateway.api("GET", "user/details", who=who, X_Forwarded_For=f"10.0.0.1, {address}")
 
         want(tried("9.9.9.9", ALICE).status, 200, "alice from her address")
-        ends = [tried("1.1.1.1", it).status for it in [basic("alice", "wrong"), "Bearer wrong"] * 11]
+        want([tried("5.5.5.5", "Bearer revoked").status for _ in range(30)], [401] * 30, "the same wrong token, which is no guess")
+        ends = [tried("1.1.1.1", basic("alice", f"w{it}") if it % 2 else f"Bearer w{it}").status for it in range(22)]
         want((ends[:20], ends[20:]), ([401] * 20, [429] * 2), "guesses of an address")
         came = tried("1.1.1.1", ALICE)
         want((came.status, 0 < int(came.fields["Retry-After"]) <= 6), (429, True), f"the right token among guesses: {came.text}")
