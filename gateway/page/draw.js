@@ -5,6 +5,9 @@ import { make } from "./dom.js";
 import { lookOf, nameOf, pointOf } from "./paint.js";
 import { polygonsOf } from "./rings.js";
 
+/** How thick lines and how large points are at a zoom. */
+const scaleAt = (zoom) => Math.max(0.45, Math.min(1, (zoom - 12) / 5));
+
 const MARKED = { color: "#d6008f", weight: 5, opacity: 0.8, fill: false, interactive: false };
 
 export class Drawing {
@@ -25,10 +28,10 @@ export class Drawing {
       for (const { id, tags, closed, line } of ways) {
         const points = [];
         for (let i = 0; i < line.length; i += 2) points.push([line[i], line[i + 1]]);
-        looks.set(`way/${id}`, this.shape({ type: "way", id, tags }, tags, points, closed, 0.6));
+        looks.set(`way/${id}`, this.shape({ type: "way", id, tags }, tags, points, closed));
       }
       for (const { id, lat, lon, tags } of places) {
-        looks.set(`node/${id}`, { it: { type: "node", id, tags }, level: 9, places: [[lat, lon]], layer: L.circleMarker([lat, lon], pointOf(tags)) });
+        looks.set(`node/${id}`, { it: { type: "node", id, tags }, level: 9, places: [[lat, lon]], layer: L.circleMarker([lat, lon], { ...pointOf(tags), radius: 2 }) });
       }
     }
     this.put([...looks.values()]);
@@ -59,7 +62,7 @@ export class Drawing {
     if (it.type === "node") {
       if (!it.tags) return null;
       const at = places.get(it.id);
-      return { it, level: 9, places: [at], layer: L.circleMarker(at, pointOf(tags)) };
+      return { it, level: 9, places: [at], layer: L.circleMarker(at, this.dotOf(tags)) };
     }
     if (it.type === "relation") {
       if (tags.type !== "multipolygon") return null;
@@ -71,10 +74,15 @@ export class Drawing {
     return line.length > 1 ? this.shape(it, tags, line, closed) : null;
   }
 
-  /** `scale` makes lines thinner. */
-  shape(it, tags, places, closed, scale = 1) {
+  dotOf(tags) {
+    const style = pointOf(tags);
+    return { ...style, radius: Math.max(2, style.radius * scaleAt(this.map.getZoom())) };
+  }
+
+  shape(it, tags, places, closed) {
     const look = lookOf(tags, closed);
-    for (const style of [look.style, look.casing]) if (style?.weight) style.weight *= scale;
+    const scale = scaleAt(this.map.getZoom());
+    for (const style of [look.style, look.casing]) if (style?.weight) style.weight = Math.max(1, style.weight * scale);
     const layer = look.style.fill ? L.polygon(places, look.style) : L.polyline(places, look.style);
     return { ...look, it, places, layer };
   }

@@ -141,7 +141,9 @@ export class Labels {
       const width = pen.measureText(words.text).width;
       for (const { at, angle } of this.spotsOf(look, words, width)) {
         const before = places.get(words.text) ?? [];
-        if (!view.contains(at) || before.some((it) => it.distanceTo(at) < APART) || !room.take(circlesOf(at, angle, width, words.size))) continue;
+        const circles = circlesOf(at, angle, width, words.size);
+        const isWhole = [circles[0], circles.at(-1)].every(([x, y]) => view.contains([x, y]));
+        if (!isWhole || before.some((it) => it.distanceTo(at) < APART) || !room.take(circles)) continue;
         places.set(words.text, [...before, at]);
         pen.save();
         pen.translate(at.x, at.y);
