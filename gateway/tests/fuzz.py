@@ -231,6 +231,10 @@ def json_wanted(data: bytes) -> Any:
             raise Invalid
         rows = [json_row(row, action) for row in (block[action] if named else [block])]
         blocks.append({action: rows, **({"if-unused": True} if unused else {})})
+    try:
+        json.dumps(blocks, ensure_ascii=False).encode("utf-8")
+    except UnicodeError:
+        raise Invalid from None  # half of a pair of surrogates, which is no character
     return {"osmChange": blocks}
 
 
