@@ -191,11 +191,13 @@ def registering(given: dict[str, str], wrong: str) -> web.Response:
         pages.entry(text, scope, "yes", "checkbox", "checked" if scope in given or not given and "gpx" not in scope else "")
         for scope, text in SCOPES.items()
     )
-    redirects = f'<label>Addresses that it may be led back to, one a line <textarea name="redirects" rows="3">{escape(given.get("redirects", ""))}</textarea></label>\n'
+    field = f'<textarea name="redirects" rows="3">{escape(given.get("redirects", ""))}</textarea>'
+    redirects = f"<label>Addresses that it may be led back to, one a line {field}</label>\n"
+    keeps = "It can keep a secret (a web server can, a page or a program on a desk can't)"
     parts = (
         pages.paragraph(wrong, "wrong") if wrong else "", pages.entry("The application's name", "application", given.get("application", "")), redirects,
         pages.paragraph("What it may ask for:"), boxes,
-        pages.entry("It can keep a secret (a web server can, a page or a program on a desk can't)", "secret", "yes", "checkbox", "checked" if "secret" in given else ""),
+        pages.entry(keeps, "secret", "yes", "checkbox", "checked" if "secret" in given else ""),
         pages.paragraph("Who you are:"), pages.who(given.get("name", "")), pages.button("do", "register", "Register it"),
     )  # fmt: skip
     return pages.page("Register an application", pages.form(*parts), status=400 if wrong else 200)

@@ -138,14 +138,18 @@ def as_the_editor(gateway: Gateway) -> None:
 def refusals(gateway: Gateway) -> None:
     number, _ = registered(gateway, BACK, ("read_prefs",))
     for why, path in (
-        ("an unknown application", address("nobody")), ("another address", address(number, redirect_uri="https://elsewhere.example/back")),
-        ("an address that only begins so", address(number, redirect_uri=f"{BACK}/more")), ("no address of iD's host", address("id", redirect_uri="http://elsewhere.example/id/land.html")),
+        ("an unknown application", address("nobody")),
+        ("another address", address(number, redirect_uri="https://elsewhere.example/back")),
+        ("an address that only begins so", address(number, redirect_uri=f"{BACK}/more")),
+        ("no address of iD's host", address("id", redirect_uri="http://elsewhere.example/id/land.html")),
     ):  # fmt: skip
         came = gateway.ask("GET", path)
         want((came.status, came.fields["Location"]), (400, None), f"{why}: nobody is led there")
     for why, more, error in (
-        ("without PKCE", {"code_challenge": "", "code_challenge_method": ""}, "invalid_request"), ("plain", {"code_challenge_method": "plain"}, "invalid_request"),
-        ("a scope that it hasn't", {"scope": "read_prefs write_api"}, "invalid_scope"), ("a token at once", {"response_type": "token"}, "unsupported_response_type"),
+        ("without PKCE", {"code_challenge": "", "code_challenge_method": ""}, "invalid_request"),
+        ("plain", {"code_challenge_method": "plain"}, "invalid_request"),
+        ("a scope that it hasn't", {"scope": "read_prefs write_api"}, "invalid_scope"),
+        ("a token at once", {"response_type": "token"}, "unsupported_response_type"),
     ):  # fmt: skip
         came = gateway.ask("GET", address(number, state="s", **more))
         want((came.status, code_of(came)["error"], code_of(came)["state"]), (302, error, "s"), why)

@@ -40,7 +40,8 @@ def with_bearer(gateway: Gateway, who: str) -> int:
         ("POST", f"changeset/{number}/upload", f'<osmChange><create><node id="-1" changeset="{number}" lat="1" lon="1"/></create></osmChange>'),
         ("PUT", f"changeset/{number}", "<osm><changeset/></osm>"), ("PUT", f"changeset/{number}/close", None), ("GET", f"changeset/{number}/download", None),
         ("POST", f"changeset/{number}/comment?text=x", ""), ("POST", f"changeset/{number}/unsubscribe", ""), ("GET", "changesets?user=1", None),
-        ("POST", "notes?lat=1&lon=1&text=x", ""), ("POST", "notes/1/comment?text=y", ""), ("POST", "notes/1/close", ""), ("POST", "notes/1/reopen", ""), ("GET", "notes?bbox=0,0,2,2", None),
+        ("POST", "notes?lat=1&lon=1&text=x", ""), ("POST", "notes/1/comment?text=y", ""), ("POST", "notes/1/close", ""),
+        ("POST", "notes/1/reopen", ""), ("GET", "notes?bbox=0,0,2,2", None),
     )  # fmt: skip
     for method, path, body in calls:
         preflight(gateway, method, f"/api/0.6/{path}")

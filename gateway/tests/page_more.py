@@ -154,9 +154,11 @@ def addresses(page: Page, gateway: Gateway, way: int) -> None:
     note = json.loads(gateway.well("POST", "notes.json", f"lat={LAT}&lon={LON}&text=a+bench"))["properties"]["id"]
     tree, site = made["node"][0], made["relation"][0]
     for path, part, texts in (
-        (f"/node/{tree}", "#element", ("tree", f"changeset {number}")), (f"/node/{tree}/history", "#element", ("Version 1",)), (f"/way/{way}", "#element", ("Neue Gasse", "Version 2")),
+        (f"/node/{tree}", "#element", ("tree", f"changeset {number}")), (f"/node/{tree}/history", "#element", ("Version 1",)),
+        (f"/way/{way}", "#element", ("Neue Gasse", "Version 2")),
         (f"/relation/{site}", "#element", ("Relation", "Its 2 members")), (f"/note/{note}", "#note", ("a bench", "somebody opened it")),
-        (f"/changeset/{number}", "#changeset", ("all sorts", f"created node {tree}", f"created relation {site}", "well <done>")), ("/user/alice", "#changeset", ("alice", "Those of everybody")),
+        (f"/changeset/{number}", "#changeset", ("all sorts", f"created node {tree}", f"created relation {site}", "well <done>")),
+        ("/user/alice", "#changeset", ("alice", "Those of everybody")),
         ("/user/%C3%9Cn%C3%AF%20C%C3%B6d%C3%A9", "#changeset", ("Ünï Cödé", "0 changesets")), ("/node/999999", "#element", ("no node with the id 999999",)),
         ("/changeset/999999", "#changeset", ("no changeset",)), ("/note/999999", "#note", ("no note",)), ("/user/nobody", "#changesets", ("no user",)),
     ):  # fmt: skip
