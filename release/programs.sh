@@ -105,7 +105,8 @@ unpacked() {
     echo "$cache/$1"
 }
 
+# Ends with why, and with status 1, or `unable` where 1 means something else.
 fail() {
     echo "${0##*/}: $*" >&2
-    exit 127
+    exit "${unable:-1}"
 }

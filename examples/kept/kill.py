@@ -279,7 +279,7 @@ def main() -> int:
         parser.add_argument(f"--{name}", type=int, default=usual)
     it = parser.parse_args()
     if not os.access(it.program, os.X_OK):
-        print(f"there is no program {it.program}: ./osm builds it", file=sys.stderr)
+        print(f"there is no program {it.program}: ./osm build makes it", file=sys.stderr)
         return 2
     with tempfile.TemporaryDirectory() as folder:
         run = Run(it.program, os.path.join(folder, "journal"), it.links, it.seed)
