@@ -1,6 +1,6 @@
 -- What the writes of lines leave.
 use Rattle.std.proofs.Common.{◌≡◌, ◌≢◌, ◌⊎◌, inl, inr, ℕ, zero, suc, ◌+◌, ◌-◌, ◌<◌, ◌≤◌, List, [], ◌∷◌, ◌++◌, length, get_or, take, drop, refl, sym, ap, ◌∙◌, subst, arith, append_assoc, append-nil, length-append, length-take, take-append-drop}
-use Rattle.std.proofs.lemmas.Bool.{cases_eq}
+use Rattle.std.proofs.lemmas.Bool.{cases_eq, cases_lt}
 use Rattle.std.proofs.lemmas.List.{append_cancel_left, ext_get_or, get_or-take, take_at, drop_at, drop-drop}
 use Rattle.std.proofs.Math.Seq.{get_or-append_seam}
 use Rattle.journal_file.specs.Device.{Holds, Torn, Follows, Only}
@@ -57,12 +57,9 @@ front_same m at bytes old new before inside torn =
     let size : length (take m new) ≡ length (take m old) = omega (arith, length-take m new, length-take m old, inside, torn.no_shorter) in
     ext_get_or 0 (take m new) (take m old) size (λ i within.
     let less : i < m = omega (arith, within, length-take m new) in
-    let here : i < length new = omega (arith, less, inside, torn.no_shorter) in
-    get_or-take m new i 0 less ∙ by i less (torn.each i here) ∙ sym (get_or-take m old i 0 less))
-  where
-    by : (i : ℕ) → i < m → (get_or new i 0 ≡ get_or old i 0) ⊎ ((at ≤ i) × (i < at + length bytes) × (get_or new i 0 ≡ get_or bytes (i - at) 0)) → get_or new i 0 ≡ get_or old i 0
-    by i less (inl same) = same
-    by i less (inr p) = absurd (omega (arith, p.0, less, before))
+    let here : i < length old = omega (arith, less, inside) in
+    let ahead : i < at = omega (arith, less, before) in
+    get_or-take m new i 0 less ∙ torn.outside i here (inl ahead) ∙ sym (get_or-take m old i 0 less))
 
 -- a write behind the gate leaves it closed, whatever it tears
 pub write_gated : (text : List ℕ) (n at : ℕ) (bytes : List ℕ) (old new : List ℕ → Type 0) → n ≡ length text → n + 1 ≤ at → AllGated text old → Follows (Torn at bytes) old new
@@ -133,18 +130,22 @@ others (x ∷ text) tail a b (suc i) other = others text tail a b i (λ same. ot
 
 -- one byte that is written over is the old one or the new one
 one_torn : (text tail c : List ℕ) (a b n : ℕ) → n ≡ length text → Torn n (b ∷ []) (text ++ a ∷ tail) c → (c ≡ text ++ a ∷ tail) ⊎ (c ≡ text ++ b ∷ tail)
-one_torn text tail c a b n size torn =
-    let here : n < length c = omega (arith, size, torn.no_shorter, length-append text (a ∷ tail)) in
-    by (torn.each n here)
+one_torn text tail c a b n size torn = by (torn.alone refl inside)
   where
+    inside : n < length (text ++ a ∷ tail)
+    inside = omega (arith, size, length-append text (a ∷ tail))
+
     long : (x : ℕ) → length c ≡ length (text ++ x ∷ tail)
     long x = omega (arith, size, torn.no_shorter, torn.no_longer, length-append text (a ∷ tail), length-append text (x ∷ tail))
 
     seam : (x : ℕ) → get_or (text ++ x ∷ tail) n 0 ≡ x
     seam x = ap (λ (k : ℕ). get_or (text ++ x ∷ tail) k 0) size ∙ get_or-append_seam text x tail 0
 
+    beside : (i : ℕ) → i ≢ n → (i < n) ⊎ (n + length (b ∷ []) ≤ i)
+    beside i other = elim (cases_lt i n) [ inl less ↦ inl less | inr past ↦ inr (omega (arith, past, other)) ]
+
     elsewhere : (i : ℕ) → i < length c → i ≢ n → get_or c i 0 ≡ get_or (text ++ a ∷ tail) i 0
-    elsewhere i within other = elim (torn.each i within) [ inl same ↦ same | inr p ↦ absurd (other (omega (arith, p.0, p.1))) ]
+    elsewhere i within other = torn.outside i (omega (arith, within, long a)) (beside i other)
 
     -- with this byte in that place
     with : (x : ℕ) → get_or c n 0 ≡ x → c ≡ text ++ x ∷ tail
@@ -153,9 +154,9 @@ one_torn text tail c a b n size torn =
       | inr other ↦ elsewhere i within other ∙ others text tail a x i (λ same. other (same ∙ sym size))
     ])
 
-    by : (get_or c n 0 ≡ get_or (text ++ a ∷ tail) n 0) ⊎ ((n ≤ n) × (n < n + length (b ∷ [])) × (get_or c n 0 ≡ get_or (b ∷ []) (n - n) 0)) → (c ≡ text ++ a ∷ tail) ⊎ (c ≡ text ++ b ∷ tail)
+    by : (get_or c n 0 ≡ get_or (text ++ a ∷ tail) n 0) ⊎ (get_or c n 0 ≡ get_or (b ∷ []) 0 0) → (c ≡ text ++ a ∷ tail) ⊎ (c ≡ text ++ b ∷ tail)
     by (inl same) = inl (with a (same ∙ seam a))
-    by (inr p) = let none : n - n ≡ 0 = omega arith in inr (with b (p.2 ∙ ap (λ (k : ℕ). get_or (b ∷ []) k 0) none))
+    by (inr put) = inr (with b put)
 
 -- behind an open gate the lines count
 opened_gated : (text lines behind file : List ℕ) → IsText text → AreLines lines → 0 < length lines → file ≡ text ++ 123 ∷ (drop 1 lines ++ 35 ∷ behind) → IsGated (text ++ lines) file

@@ -28,10 +28,10 @@ pub trait Device {
     // How often a call has failed.
     ghost faults: { Self → ℕ };
 
-    /// Writes over what is there, and past the end. Until a sync, a crash may leave of each byte in the
-    /// range the old one or the new one, whatever it leaves of the others, and no third: past the old end
-    /// the old one is a zero. It leaves the bytes before and behind the range, also where they share a
-    /// sector: a disk has to put back what it rewrites.
+    /// Writes over what is there, and past the end. Until a sync, a crash may leave any bytes in the
+    /// range; but where one byte alone was written over another, it leaves the old one or the new one. It
+    /// leaves the bytes before and behind the range, also where they share a sector: a disk has to put
+    /// back what it rewrites. No room between lines could do without that, since the text has none.
     fn write_at(&mut self, at: usize, bytes: &[u8]) -> Result<(), DeviceFailed>
         requires { at ≤ length (seen self.old) }
         ensures written { OnOk result (Holds (seen self.old) at bytes.now (seen self.new)) }
