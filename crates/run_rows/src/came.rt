@@ -109,9 +109,9 @@ pub fn came_of<R: Threads + Wait + Sync>(
     words: &[String],
     given: &Given,
 ) -> Result<Came, Memory> {
-    let host = host_of(alloc, given)?;
-    let journals = journals_of(alloc, given)?;
     let standard = standard_link(alloc)?;
+    let journals = journals_of(alloc, given)?;
+    let host = host_of(alloc, given)?;
     Ok(run_on(rt, alloc, words, host, journals, standard))
 }
 

@@ -119,8 +119,8 @@ impl PortGiven {
     }
 
     fn port(&self, alloc: Global) -> Result<MemPort, Memory> {
-        let links = self.links(alloc)?;
         let bad = self.bad_accepts.as_slice().to_vec(alloc)?;
+        let links = self.links(alloc)?;
         MemPort::new(alloc, links, bad)
     }
 }

@@ -38,7 +38,7 @@ pub fn cross<N: HubName, R: Wait + Drop, W: Wait, L: Ledger>(
     other: &mut ListSession<N>,
     numbers: [u64; 2],
     steps: &mut Steps<L>,
-) -> Result<[Given; 2], Memory> {
+) -> Result<(Given, Given), Memory> {
     if session.owes() {
         return Err(Memory);
     }
@@ -46,7 +46,7 @@ pub fn cross<N: HubName, R: Wait + Drop, W: Wait, L: Ledger>(
     let plan = session.plan(hub.gate(), plain(number), steps)?;
     let first = add(rt, hub, other, plain(others), steps)?;
     let second = given_of(&hub.commit(rt, session, plan, 0, steps)?);
-    Ok([first, second])
+    Ok((first, second))
 }
 
 /// The wish for a number that finds its memory.

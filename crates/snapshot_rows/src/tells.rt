@@ -112,9 +112,12 @@ pub fn tell_added(told: &mut String, came: Result<Given, Memory>) -> Result<(), 
     }
 }
 
-pub fn tell_crossed(told: &mut String, came: Result<[Given; 2], Memory>) -> Result<(), RowFault> {
+pub fn tell_crossed(
+    told: &mut String,
+    came: Result<(Given, Given), Memory>,
+) -> Result<(), RowFault> {
     match came {
-        Ok([first, second]) => {
+        Ok((first, second)) => {
             tell_given(told, first)?;
             told.push_str(", ")?;
             tell_given(told, second)
