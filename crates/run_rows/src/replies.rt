@@ -40,14 +40,25 @@ fn leading_number(text: &str) -> u64 {
     number
 }
 
+/// What stands before the `%` in the body of a reply line.
+fn before_number(line: &str) -> &str {
+    let (before, _) = line.split_once('%').unwrap_or((line, ""));
+    let (_, body) = word_of(before);
+    body
+}
+
+/// What stands behind the head of the first reply.
+fn body_of(replies: &str) -> &str {
+    match replies.split_once("\r\n\r\n") {
+        Some((_, body)) => body,
+        None => "",
+    }
+}
+
 /// The number that stands in the first of these replies in the place of the `%` of a line, and 0 where
 /// there is none.
-fn number_at(replies: &[u8], line: &str) -> u64 {
-    let text = str::from_utf8(replies).unwrap_or("");
-    let (before, _) = line.split_once('%').unwrap_or((line, ""));
-    let (_, before) = word_of(before);
-    let (_, body) = text.split_once("\r\n\r\n").unwrap_or((text, ""));
-    match body.strip_prefix(before) {
+fn number_at(replies: &str, line: &str) -> u64 {
+    match body_of(replies).strip_prefix(before_number(line)) {
         Some(rest) => leading_number(rest),
         None => 0,
     }
@@ -101,7 +112,7 @@ impl Read {
         written: &'w [u8],
         line: &str,
     ) -> Result<Option<&'w [u8]>, RowFault> {
-        let number = number_at(written, line);
+        let number = number_at(str::from_utf8(written).unwrap_or(""), line);
         let wanted = bytes_of(alloc, line, number)?;
         let Some(rest) = written.strip_prefix(wanted.as_slice()) else {
             return Ok(None);
