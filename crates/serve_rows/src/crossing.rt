@@ -317,7 +317,7 @@ fn cross_on<N: HubName + Send + Sync, R: Threads + Wait + Sync>(
     have_got(alloc, workers, talks)
 }
 
-fn crossed(got: Result<bool, Memory>, is_in_time: bool) -> Result<Crossed, Memory> {
+fn crossed_of(got: Result<bool, Memory>, is_in_time: bool) -> Result<Crossed, Memory> {
     Ok(Crossed {
         is_right: got?,
         is_in_time,
@@ -338,7 +338,7 @@ fn cross<N: HubName + Send + Sync, R: Threads + Wait + Sync>(
 {
     let (hub, sessions) = MapHub::<N, Crossing, &R>::new(alloc, rt, seats, Crossing::new(holds))?;
     let got = cross_on(rt, alloc, &hub, users, sessions, talks);
-    crossed(got, hub.gate().is_in_time())
+    crossed_of(got, hub.gate().is_in_time())
 }
 
 fn cross_with_users<R: Threads + Wait + Sync>(
