@@ -24,8 +24,8 @@ KEPT, TILES = 300.0, 400
 """Seconds and tiles that are kept."""
 CALLS, DEEPEST = 40, 16
 """Maps that are asked for a tile at most, and the zoom behind which a box isn't divided again."""
-AT_ONCE = 2
-"""Tiles that are made at the same time: others wait, so that strangers who look around leave links to others."""
+AT_ONCE, WAITING = 2, 100
+"""Tiles that are made at the same time, so that strangers who look around leave links to others; and those that may wait."""
 ROADS = {"motorway": 10, "trunk": 10, "primary": 10, "secondary": 10, "tertiary": 11, "unclassified": 12, "residential": 12}
 PLACES = {"city": 10, "town": 10, "village": 10, "suburb": 11, "hamlet": 12}
 AREAS = {"natural": {"water", "wood", "bay", "glacier"}, "landuse": {"forest", "residential", "reservoir", "industrial"}}
@@ -183,6 +183,8 @@ async def tile(call: Call) -> web.StreamResponse:
     text = kept.found(key)
     if text is None:
         # Who asks for the same tile waits for the same work, and it goes on where one of them hangs up.
+        if key not in kept.making and len(kept.making) >= WAITING:
+            raise Refused(503, "Too many look at the map from afar at the moment")
         task = kept.making.get(key) or begun(call, key)
         text = await asyncio.shield(task)
     reply = web.Response(body=text, content_type="application/json", charset="utf-8", headers={"Cache-Control": "no-cache"})
