@@ -13,12 +13,19 @@ from urllib.parse import quote
 
 from aiohttp import web
 
+from .callers import UNPERMITTED, Caller, Callers, scopes_of
 from .degrees import NotDecimal, degrees_of, units_of
-from .links import Links
-from .log import shown, tell
+from .discussions import Discussions
+from .doubts import Once
+from .limits import Rates, address_of
+from .links import InDoubt, Links
+from .log import shown, tell, where
+from .oauth import OAuth
 from .people import People, User
 from .refusals import Asked, Refused, refusal
+from .room import Room, Share
 from .spool import Coding, Spool
+from .store import Store
 from .turns import Turns
 from .walk import OPENED, Event, NotJson, Walk
 from .words import Words
@@ -36,6 +43,8 @@ WHOLE = 1 << 16
 class Form(Enum):
     XML = "application/xml"
     JSON = "application/json"
+    RSS = "application/rss+xml"
+    GPX = "application/gpx+xml"
 
 
 @dataclass
@@ -44,7 +53,25 @@ class Gateway:
     people: People
     server: Links
     notes: Links | None
+    room: Room
+    store: Store
     turns: Turns = field(default_factory=Turns)
+    once: Once = field(default_factory=Once)
+    counted: dict[int, tuple[float, int]] = field(default_factory=dict)
+    """How many changesets a user has, and when they were counted."""
+    last_note: int = 0
+    """The largest id of a note that was seen."""
+
+    def __post_init__(self) -> None:
+        self.oauth = OAuth(self.store, self.people)
+        self.callers = Callers(self.people, self.oauth.grants, self.words.guesses)
+        self.rates = Rates(self.words.rate)
+        self.discussions = Discussions(self.store, self.people)
+        self.overview: Any = None
+
+    def site(self, request: web.Request) -> str:
+        """How clients call this host: as --public-url says, or as they did."""
+        return self.words.public or f"{request.scheme}://{request.host}"
 
 
 def quality(accepted: str, *types: str) -> float:
@@ -63,7 +90,7 @@ def form_of(request: web.Request) -> Form:
     """By the end of the path, or else by the field Accept; XML where it doesn't matter."""
     end = request.match_info.get("end", "")
     if end:
-        return Form.JSON if end == ".json" else Form.XML
+        return Form[end[1:].upper()]
     accepted = request.headers.get("Accept", "")
     xml = quality(accepted, "application/xml", "text/xml", "*/*", "application/*", "text/*")
     return Form.JSON if quality(accepted, "application/json") > xml else Form.XML
@@ -72,15 +99,32 @@ def form_of(request: web.Request) -> Form:
 class Call:
     def __init__(self, gateway: Gateway, request: web.Request) -> None:
         self.gateway, self.request = gateway, request
+        self.spools: list[Spool] = []
         self.form, self.texts = form_of(request), Texts()
-        self.token = gateway.people.token_of(request.headers.get("Authorization"))
-        user = gateway.people.by_token.get(self.token or "")
-        request["user"] = user.name if user else None
+        self.caller: Caller = gateway.callers.of(request)
+        self.token = self.caller.token
+        request["user"] = self.caller.user.name if self.caller.user else None
+        if not self.caller.may(*scopes_of(request.method, request.path)):
+            raise Refused(403, UNPERMITTED)
         request["texts"] = self.texts
 
     @property
     def wants_json(self) -> bool:
         return self.form is Form.JSON
+
+    @property
+    def site(self) -> str:
+        """What stands before the paths of this host in its links."""
+        return self.gateway.site(self.request)
+
+    def spool(self, always: bool = False) -> Spool:
+        """Room for a body until the call has ended. `always` is for the answer to a change that was made."""
+        self.spools.append(Spool(Share(self.gateway.room, address_of(self.request), always)))
+        return self.spools[-1]
+
+    def close(self) -> None:
+        for spool in self.spools:
+            spool.close()
 
     def user(self) -> User:
         return self.gateway.people.known(self.token)
@@ -109,16 +153,17 @@ class Call:
 
     async def body(self, limit: int = JSON_BODY) -> Spool:
         """The body, as it was before it was coded."""
-        request, spool = self.request, Spool()
+        request, spool, raw = self.request, self.spool(), 0
         coding = Coding(request.headers.get("Content-Encoding", "").strip().lower())
         if not coding.known:
             raise Refused(415, "The Content-Encoding isn't gzip or deflate")
         try:
             async with asyncio.timeout(READING):
                 async for data in request.content.iter_any():
+                    raw += len(data)
                     for piece in coding.undone(data):
                         spool.write(piece)
-                        if spool.size > limit:
+                        if max(spool.size, raw) > limit:
                             raise Refused(413, f"The document has more than {limit} bytes")
                         await asyncio.sleep(0)
         except TimeoutError:
@@ -150,21 +195,29 @@ class Call:
         self, method: str, path: str, query: dict[str, str] | None = None, body: Spool | None = None, asked: Asked | None = None,
         server: Links | None = None,
     ) -> Spool:  # fmt: skip
-        """The body of the server's reply, or its refusal in OSM's words."""
+        """The body of the server's reply, or its refusal in OSM's words; InDoubt where nobody knows whether a change was made."""
         parameters = "&".join(f"{name}={quote(value, safe=',.-')}" for name, value in (query or {}).items())
-        target = f"/api/0.6/{path}{'?' if parameters else ''}{parameters}"
-        reply = await (server or self.gateway.server).ask(method, target, self.token, body)
-        if reply.status != 200:
-            raise refusal(reply.status, reply.body.whole(), asked or Asked())
-        return reply.body
+        target, links = f"/api/0.6/{path}{'?' if parameters else ''}{parameters}", server or self.gateway.server
+        reply = await links.ask(method, target, self.token, body, self.spool(always=method != "GET"))
+        if reply.status == 200:
+            return reply.body
+        refused = refusal(reply.status, reply.body.whole(), asked or Asked())
+        if reply.status >= 500 and method != "GET":
+            raise InDoubt(links.name, f"the answer has the status {reply.status}", refused if refused.said else None)
+        raise refused
 
     async def value(self, *words: Any, **more: Any) -> Any:
         """The same, of a small reply, as a value."""
         return json.loads((await self.ask(*words, **more)).whole())
 
-    async def sent(self, pieces: Iterable[str]) -> Spool:
+    async def work(self, pieces: Iterable[str]) -> None:
+        """Carries out in turns what tells nothing."""
+        async for _ in self.gateway.turns.parts(pieces):
+            pass
+
+    async def sent(self, pieces: Iterable[str], always: bool = False) -> Spool:
         """A body for the server, written in turns."""
-        spool = Spool()
+        spool = self.spool(always)
         try:
             async for part in self.gateway.turns.parts(pieces):
                 spool.write(part.encode("utf-8"))
@@ -213,9 +266,10 @@ class Call:
                 async for part in parts:
                     await reply.write(part.encode("utf-8"))
                 await reply.write_eof()
-        except (TimeoutError, ConnectionError, Refused) as why:
-            # The reply has begun, so all that its reader can be told is that the link ends.
-            tell(f"{self.request.method} {shown(self.request.path)} ended in its middle: {why or 'its reader was too slow'}")
+        except Exception as why:
+            # The reply has begun, so all that its reader can be told is that the link ends: nothing may be written behind this.
+            told = "its reader was too slow" if isinstance(why, TimeoutError) else where(why)
+            tell(f"{self.request.method} {shown(self.request.path)} ended in its middle: {told}")
             if self.request.transport:
                 self.request.transport.abort()
         return reply
@@ -234,6 +288,13 @@ def events_of(*spools: Spool) -> Iterator[Event]:
             yield from Walk(spool.texts(), OPENED).events()
         except (NotJson, UnicodeDecodeError) as why:
             raise Refused(502, f"The server's reply can't be read: {why}") from None
+
+
+def number_of(text: str, least: int, most: int) -> int | None:
+    """A number of the query within limits, however many zeros stand before it; None where it is none."""
+    found = re.fullmatch("(-?)0*([0-9]{1,18})", text)
+    number = int(found[1] + found[2]) if found else most + 1
+    return number if least <= number <= most else None
 
 
 FORM = "The parameter bbox is required, and must be of the form min_lon,min_lat,max_lon,max_lat"

@@ -2,18 +2,21 @@
 
 from __future__ import annotations
 
-from collections.abc import Iterator
+import json
 from dataclasses import dataclass
-from datetime import datetime
-from itertools import islice
+from datetime import datetime, timedelta
 from typing import Any
 
 from aiohttp import web
 
 from . import documents, json_read, json_write, xml_write
-from .call import Call, events_of
+from .call import Call, events_of, number_of
+from .calls_discussions import shown, talk_of
 from .calls_elements import texts_of
 from .changes import ENCODER, change_of
+from .changes_once import Change, closed, made_once, retagged, unended
+from .created_once import changeset_created
+from .made_again import operations_of
 from .refusals import Asked, Operations, Refused
 from .rows import Changeset
 from .times import moment_of
@@ -21,6 +24,8 @@ from .xml_read import ChangeReader, TagsReader
 
 MOST = 100
 """Changesets in one reply, as many as the server gives."""
+LONGEST_OPEN = timedelta(days=1)
+"""Behind its creation each changeset is closed within this time."""
 
 
 async def tags_of(call: Call) -> dict[str, Any] | None:
@@ -40,14 +45,11 @@ async def create(call: Call) -> web.StreamResponse:
     call.user()
     tags = await tags_of(call)
     body = await call.sent([ENCODER.encode(tags)]) if tags is not None else None
-    return call.text(await call.value("PUT", "changeset/create", body=body))
+    return call.text(await changeset_created(call, (tags or {}).get("tags", {}), body))
 
 
 def one(call: Call, it: Changeset) -> web.StreamResponse:
-    discussed = "include_discussion" in call.request.query
-    if call.wants_json:
-        return call.answer(json_write.document(changeset=json_write.changeset(it, discussed)))
-    return call.answer(xml_write.opened("osm") + xml_write.changeset(call.texts, it, discussed) + xml_write.closed("osm"))
+    return shown(call, it, talk_of(call, it))
 
 
 async def read(call: Call) -> web.StreamResponse:
@@ -60,11 +62,12 @@ async def update(call: Call) -> web.StreamResponse:
     if tags is None:
         raise Refused(400, "Cannot parse valid changeset from xml string . The document is empty")
     body = await call.sent([ENCODER.encode(tags)])
-    return one(call, (await call.value("PUT", f"changeset/{call.path('id')}", body=body))["changeset"])
+    return one(call, json.loads((await retagged(call, call.path("id"), tags["tags"], body)).whole())["changeset"])
 
 
 async def close(call: Call) -> web.StreamResponse:
-    await call.ask("PUT", f"changeset/{call.path('id')}/close")
+    call.user()
+    await closed(call, call.path("id"))
     return call.text("")
 
 
@@ -75,7 +78,8 @@ async def upload(call: Call) -> web.StreamResponse:
     found = json_read.change(texts_of(body)) if is_json else ChangeReader().read(body.pieces())
     sent = await call.sent(change_of(found, operations))
     body.close()
-    reply = await call.ask("POST", f"changeset/{number}/upload", body=sent, asked=Asked(number, operations))
+    change = Change("POST", f"changeset/{number}/upload", sent, Asked(number, operations), lambda: operations_of(sent), lambda: unended(sent))
+    reply = await made_once(call, change)
     write = documents.done_json if call.wants_json else documents.done_xml
     return await call.answer_in_parts(write(events_of(reply)))
 
@@ -121,8 +125,15 @@ class Times:
             return False
         return not (self.created_before and created >= self.created_before)
 
+    def ends_before(self, oldest: Changeset) -> bool:
+        """Whether none that is older than that one can pass: it was created with it at the latest, and closed within a day."""
+        created = moment_of(oldest["created_at"])
+        if self.created_since and created < self.created_since:
+            return True
+        return bool(self.closed_since and created + LONGEST_OPEN < self.closed_since)
 
-async def named(call: Call, ids: str) -> Iterator[Changeset]:
+
+async def named(call: Call, ids: str) -> list[Changeset]:
     """Those that are there of a list of ids, the newest first."""
     numbers = [it.strip() for it in ids.split(",")]
     if not all(it.isascii() and it.isdigit() and len(it) <= 19 for it in numbers):
@@ -136,10 +147,11 @@ async def named(call: Call, ids: str) -> Iterator[Changeset]:
         except Refused as why:
             if why.status != 404:
                 raise
-    return iter(found)
+    return found
 
 
-async def searched(call: Call) -> Iterator[Changeset]:
+async def searched(call: Call) -> list[Changeset]:
+    """The newest that pass the server's filters, a hundred at most, the newest first."""
     query = call.passed_on("user", "bbox")
     query |= {name: "true" for name in ("open", "closed") if call.query(name) not in (None, "false")}
     name = call.query("display_name")
@@ -148,21 +160,35 @@ async def searched(call: Call) -> Iterator[Changeset]:
         if user is None or "user" in query:
             raise Refused(*((404, f"There is no user {name}") if user is None else (400, "provide either the user ID or display name, but not both")))
         query["user"] = str(user.id)
-    return documents.rows(events_of(await call.ask("GET", "changesets", query)), "changesets")
+    return list(documents.rows(events_of(await call.ask("GET", "changesets", query)), "changesets"))
+
+
+def window(found: list[Changeset], times: Times, limit: int, is_oldest_first: bool, is_all: bool) -> list[Changeset]:
+    """What is asked for of these. Refused where older ones, which the server didn't give, might belong there instead."""
+    passing = [it for it in found if times.pass_on(it)]
+    is_enough = is_all or not is_oldest_first and len(passing) >= limit
+    if not is_enough and not times.ends_before(found[-1]):
+        raise Refused(
+            400,
+            f"The newest {MOST} changesets that pass the other filters reach back to {found[-1]['created_at']}, and older ones aren't "
+            "searched here: ask for a later time, or by user, display_name, bbox, open or closed",
+        )
+    return (passing[::-1] if is_oldest_first else passing)[:limit]
 
 
 async def read_some(call: Call) -> web.StreamResponse:
-    limit = call.query("limit") or str(MOST)
-    if not (limit.isascii() and limit.isdigit() and 1 <= int(limit[:9]) <= MOST):
+    limit, order = number_of(call.query("limit") or str(MOST), 1, MOST), call.query("order") or "newest"
+    if limit is None:
         raise Refused(400, f"Changesets limit must be between 1 and {MOST}")
-    if call.query("order") not in (None, "newest"):
-        raise Refused(400, "The newest changesets come first here, there is no other order")
+    if order not in ("newest", "oldest"):
+        raise Refused(400, "The order of changesets is newest or oldest")
     times, ids = Times.of(call), call.query("changesets")
     found = await searched(call) if ids is None else await named(call, ids)
-    rows = islice(filter(times.pass_on, found), int(limit))
+    rows = iter(window(found, times, limit, order == "oldest", ids is not None or len(found) < MOST))
+    count = call.gateway.discussions.count
     if call.wants_json:
-        return await call.answer_in_parts(documents.listed_json("changesets", rows, json_write.changeset))
-    return await call.answer_in_parts(documents.listed_xml(rows, lambda it: xml_write.changeset(call.texts, it)))
+        return await call.answer_in_parts(documents.listed_json("changesets", rows, lambda it: json_write.changeset(it, count(it["id"]))))
+    return await call.answer_in_parts(documents.listed_xml(rows, lambda it: xml_write.changeset(call.texts, it, count(it["id"]))))
 
 
 __all__ = ["close", "create", "download", "read", "read_some", "update", "upload"]

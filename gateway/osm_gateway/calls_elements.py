@@ -5,6 +5,7 @@ from __future__ import annotations
 import json
 import re
 from collections.abc import Iterator
+from typing import Any
 from urllib.parse import parse_qsl
 
 from aiohttp import web
@@ -12,6 +13,8 @@ from aiohttp import web
 from . import documents, json_read
 from .call import Call, box_of, events_of
 from .changes import ENCODER
+from .changes_once import Change, made_once, redacted
+from .made_again import Made
 from .refusals import Asked, Operations, Refused
 from .spool import Spool
 from .xml_read import ElementReader
@@ -66,13 +69,23 @@ async def written(call: Call, kind: str, action: str, method: str, path: str) ->
         row = await read_element(call, body, kind, action)
     operations = Operations()
     operations.add(kind, row.get("id", 0))
-    sent = await call.sent([ENCODER.encode(row)])
-    return call.text(await call.value(method, path, body=sent, asked=Asked(row.get("changeset", 0), operations)))
+    operations.guards = int(action != "create")
+    asked, sent = Asked(row.get("changeset", 0), operations), await call.sent([ENCODER.encode(row)])
+    # What can be told of a lost answer needs an id and a version, without which the server refuses a change.
+    whole = {"id": call.path("id") if action != "create" else 0, "version": 0, "tags": {}, **row}
+    upload = f'{{"osmChange":[{{"{action}":[{ENCODER.encode({**row, "id": -1})}]}}'
+    change = Change(method, path, sent, asked, lambda: iter([(action, whole)]), lambda: iter([upload]), number_of)
+    return call.text(json.loads((await made_once(call, change)).whole()))
 
 
-async def read_element(call: Call, body: Spool, kind: str, action: str) -> dict[str, object]:
+def number_of(made: list[Made], _: object) -> Iterator[str]:
+    """The server's answer to a change of one element: the id of what was created, or else the new version."""
+    yield str(made[0].new_id if made[0].action == "create" else made[0].version)
+
+
+async def read_element(call: Call, body: Spool, kind: str, action: str) -> dict[str, Any]:
     """The element of an XML document, read in turns."""
-    found: list[dict[str, object]] = []
+    found: list[dict[str, Any]] = []
 
     def reading() -> Iterator[str]:
         for row in ElementReader(kind, action).read(body.pieces()):
@@ -80,8 +93,7 @@ async def read_element(call: Call, body: Spool, kind: str, action: str) -> dict[
                 found.append(row)
             yield ""
 
-    async for _ in call.gateway.turns.parts(reading()):
-        pass
+    await call.work(reading())
     return found[0]
 
 
@@ -111,7 +123,8 @@ async def delete(call: Call) -> web.StreamResponse:
 
 
 async def new_redaction(call: Call) -> web.StreamResponse:
-    """Of `{"title":TEXT}`, or of a form or a parameter `title`."""
+    """Of `{"title":TEXT}`, or of a form or a parameter `title`. Redactions can't be read, so nothing tells whether one was made."""
+    call.user()
     body = (await call.body(1 << 16)).whole()
     try:
         text = body.decode("utf-8")
@@ -125,8 +138,8 @@ async def new_redaction(call: Call) -> web.StreamResponse:
 
 async def redact(call: Call) -> web.StreamResponse:
     kind = call.request.match_info["kind"]
-    path = f"{kind}/{call.path('id')}/{call.path('version')}/redact"
-    await call.ask("POST", path, call.passed_on("redaction"))
+    call.user()
+    await redacted(call, f"{kind}/{call.path('id')}/{call.path('version')}", call.passed_on("redaction"))
     return call.text("")
 
 

@@ -39,7 +39,7 @@ Found = Begun | Operation | Ended
 def change_of(found: Iterator[Found | None], operations: Operations) -> Iterator[str]:
     """The server's JSON of a change, piece by piece; notes the operations."""
     yield '{"osmChange":['
-    block, row = "", ""
+    block, row, action, start = "", "", "", 0
     for it in found:
         if it is None:
             yield ""
@@ -49,7 +49,8 @@ def change_of(found: Iterator[Found | None], operations: Operations) -> Iterator
             row = ","
         elif isinstance(it, Begun):
             yield f'{block}{{"{it.action}":['
-            block, row = ",", ""
+            block, row, action, start = ",", "", it.action, len(operations.ids)
         else:
+            operations.end_block(start, action, it.if_unused)
             yield '],"if-unused":true}' if it.if_unused else "]}"
     yield "]}"

@@ -31,5 +31,5 @@ def units_of(text: str) -> int:
 
 def degrees_of(units: int) -> str:
     """The decimal with seven places."""
-    sign, size = ("-", -units) if units < 0 else ("", units)
-    return f"{sign}{size // SCALE}.{size % SCALE:07}"
+    text = f"{units:08}" if units >= 0 else f"{units:09}"
+    return f"{text[:-7]}.{text[-7:]}"

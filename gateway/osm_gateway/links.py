@@ -3,6 +3,7 @@
 from __future__ import annotations
 
 import asyncio
+import re
 import time
 from collections import deque
 from collections.abc import Callable
@@ -22,10 +23,23 @@ HEAD = 1 << 14
 class Lost(Exception):
     """A link ended, or what came on it is no reply."""
 
-    def __init__(self, why: Exception, asked: bool, kept: bool) -> None:
-        super().__init__(str(why) or type(why).__name__)
-        self.asked, self.kept = asked, kept
-        """Whether the request may have been read, and whether the link was there before it."""
+    def __init__(self, why: BaseException, asked: bool, kept: bool) -> None:
+        super().__init__("the link ended" if isinstance(why, asyncio.IncompleteReadError) else str(why) or type(why).__name__)
+        self.asked, self.kept, self.is_strange = asked, kept, isinstance(why, (NoReply, asyncio.LimitOverrunError))
+        """Whether the whole request may have been read, whether the link was there before it, and whether something else came."""
+
+
+class NoReply(ValueError):
+    """What came isn't of the form of the server's replies."""
+
+
+class InDoubt(Exception):
+    """A change was sent, and no answer of the server came that tells whether it was made."""
+
+    def __init__(self, server: str, why: str, refused: Refused | None = None) -> None:
+        super().__init__(why)
+        self.server, self.refused = server, refused
+        """Who was asked, and what is to be answered where it turns out that nothing was done and nothing is on its way."""
 
 
 @dataclass(frozen=True)
@@ -42,10 +56,41 @@ class Address:
         return Address(parts.hostname, parts.port or 80)
 
 
-@dataclass
+@dataclass(frozen=True)
+class Request:
+    method: str
+    head: bytes
+    body: Spool | None
+    reply: Spool
+    """What the body of the reply is written to."""
+
+    @property
+    def changes(self) -> bool:
+        return self.method != "GET"
+
+
+@dataclass(frozen=True)
 class Reply:
     status: int
     body: Spool
+
+
+def fields_of(head: bytes) -> tuple[int, dict[str, str]]:
+    """The status of a head and its fields, names and values in lower case."""
+    first, *lines = head.decode("latin-1").split("\r\n")
+    found = re.match(r"HTTP/1\.[01] ([1-5][0-9]{2})(?: |$)", first)
+    if not found:
+        raise NoReply("no reply of HTTP came")
+    pairs = (line.lower().partition(":") for line in lines if line)
+    return int(found[1]), {name.strip(): value.strip() for name, _, value in pairs}
+
+
+def length_of(fields: dict[str, str]) -> int:
+    """The server tells the length of each reply."""
+    text = fields.get("content-length", "")
+    if not re.fullmatch("[0-9]{1,15}", text) or "transfer-encoding" in fields:
+        raise NoReply("the reply doesn't tell its length")
+    return int(text)
 
 
 class Link:
@@ -55,7 +100,8 @@ class Link:
         self.address = address
         self.reader: asyncio.StreamReader | None = None
         self.writer: asyncio.StreamWriter | None = None
-        self.used = 0.0
+        self.used, self.sent = 0.0, False
+        """When it was used last, and whether the last byte of the request was given to it, so that the server may have it whole."""
 
     def close(self) -> None:
         if self.writer is not None:
@@ -75,36 +121,44 @@ class Link:
             raise Lost(why, asked=False, kept=False) from None
         return False
 
-    async def ask(self, head: bytes, body: Spool | None) -> Reply:
+    async def ask(self, request: Request) -> Reply:
         """The reply to a request; the connection is closed where anything else than a whole reply came."""
+        self.sent = False
         kept = await self.connect()
         assert self.reader and self.writer
         whole = False
         try:
-            self.writer.write(head)
-            for piece in body.pieces() if body else ():
-                self.writer.write(piece)
-                await self.writer.drain()
-            reply, stays = await self.reply(self.reader)
+            await self.send(self.writer, request)
+            reply, stays = await self.reply(self.reader, request.reply)
             whole, self.used = stays, time.monotonic()
             return reply
-        except (OSError, asyncio.IncompleteReadError, asyncio.LimitOverrunError, ValueError) as why:
-            raise Lost(why, asked=True, kept=kept) from None
+        except (OSError, asyncio.IncompleteReadError, asyncio.LimitOverrunError, NoReply) as why:
+            raise Lost(why, asked=self.sent, kept=kept) from None
         finally:
             if not whole:
                 self.close()
 
-    async def reply(self, reader: asyncio.StreamReader) -> tuple[Reply, bool]:
-        first, *fields = (await reader.readuntil(b"\r\n\r\n")).decode("ascii").split("\r\n")
-        values = dict(field.lower().split(": ", 1) for field in fields if field)
-        body, left = Spool(), int(values["content-length"])
+    async def send(self, writer: asyncio.StreamWriter, request: Request) -> None:
+        """The server does nothing for a request whose last byte it hasn't, so all before that can't have changed anything."""
+        left = request.body.size if request.body else 0
+        self.sent = not left
+        writer.write(request.head)
+        for piece in request.body.pieces() if request.body else ():
+            left -= len(piece)
+            self.sent = not left
+            writer.write(piece)
+            await writer.drain()
+
+    async def reply(self, reader: asyncio.StreamReader, body: Spool) -> tuple[Reply, bool]:
+        status, fields = fields_of(await reader.readuntil(b"\r\n\r\n"))
+        left = length_of(fields)
         while left:
             data = await reader.read(min(left, 1 << 16))
             if not data:
                 raise asyncio.IncompleteReadError(b"", left)
             body.write(data)
             left -= len(data)
-        return Reply(int(first.split(" ")[1]), body), values.get("connection") != "close"
+        return Reply(status, body), fields.get("connection") != "close"
 
 
 class Links:
@@ -162,25 +216,34 @@ class Links:
 
     # ---- asking
 
-    async def ask(self, method: str, target: str, token: str | None, body: Spool | None = None) -> Reply:
-        head = self.head(method, target, token, body)
+    async def ask(self, method: str, target: str, token: str | None, body: Spool | None, reply: Spool) -> Reply:
+        """Refused where nothing was done; InDoubt where a change may have been made and its answer didn't come."""
+        request = Request(method, self.head(method, target, token, body), body, reply)
         link = await self.take()
         try:
             async with asyncio.timeout(ANSWERING):
-                return await self.answered(link, method, head, body)
+                return await self.answered(link, request)
         except TimeoutError:
+            if request.changes and link.sent:
+                raise InDoubt(self.name, f"no answer within {ANSWERING:.0f} seconds") from None
             raise Refused(504, f"{self.name} didn't answer within {ANSWERING:.0f} seconds") from None
+        except Refused as why:
+            # No room for the reply to a change, which has been made or refused by then.
+            if request.changes and link.sent:
+                raise InDoubt(self.name, why.text, why) from None
+            raise
         finally:
             self.give(link)
 
-    async def answered(self, link: Link, method: str, head: bytes, body: Spool | None) -> Reply:
+    async def answered(self, link: Link, request: Request) -> Reply:
         try:
-            reply = await link.ask(head, body)
+            reply = await link.ask(request)
         except Lost as why:
-            # A server that was started anew has let a kept link go: a read is asked again.
-            if method == "GET" and why.kept:
-                return await self.answered(link, method, head, body)
-            raise self.lost(why, method) from None
+            # A server that was started anew has let a kept link go: a read is asked again, and what wasn't sent whole.
+            if why.kept and not (request.changes and why.asked):
+                request.reply.clear()
+                return await self.answered(link, request)
+            raise self.lost(why, request) from None
         self.found()
         return reply
 
@@ -195,12 +258,14 @@ class Links:
 
     # ---- whether the server is there
 
-    def lost(self, why: Lost, method: str) -> Refused:
+    def lost(self, why: Lost, request: Request) -> Exception:
         if not self.is_lost:
             self.is_lost = True
-            self.tell(f"{self.name} can't be reached: {why}")
-        if why.asked and method != "GET":
-            return Refused(503, f"The link to {self.name} was lost: it isn't known whether the change was made")
+            self.tell(f"{self.name}, http://{self.address.host}:{self.address.port}, can't be reached: {why}")
+        if why.asked and request.changes:
+            return InDoubt(self.name, str(why))
+        if why.is_strange:
+            return Refused(502, f"What {self.name} sent is no reply of it: {why}")
         return Refused(503, f"{self.name} can't be reached at the moment, nothing was done")
 
     def found(self) -> None:

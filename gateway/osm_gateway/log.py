@@ -3,9 +3,11 @@
 from __future__ import annotations
 
 import logging
+import os
 import re
 import sys
 import time
+import traceback
 
 from aiohttp import web
 from aiohttp.abc import AbstractAccessLogger
@@ -23,15 +25,22 @@ def tell(line: str) -> None:
     print(f"gateway: {line}", file=sys.stderr, flush=True)
 
 
+def where(why: BaseException) -> str:
+    """What failed and where, in a line."""
+    frames = traceback.extract_tb(why.__traceback__)
+    place = f" ({os.path.basename(frames[-1].filename)}:{frames[-1].lineno}, in {frames[-1].name})" if frames else ""
+    return f"{type(why).__name__}: {shown(str(why))[:300]}{place}"
+
+
 class Faults(logging.Handler):
-    """What aiohttp tells of: bytes that are no request of HTTP in a line, all else with where it was."""
+    """What aiohttp tells of, in a line: bytes that are no request of HTTP, links that ended, and what failed and where."""
 
     def emit(self, record: logging.LogRecord) -> None:
         why = record.exc_info[1] if record.exc_info else None
         if isinstance(why, HttpProcessingError):
             tell(f"no request of HTTP: {shown(str(why))[:200]}")
         else:
-            tell(self.format(record))
+            tell(f"{shown(record.getMessage())[:300]}{f': {where(why)}' if why else ''}")
 
 
 def hear_faults() -> None:
@@ -60,7 +69,10 @@ class CommonLog(AbstractAccessLogger):
 
     def log(self, request: web.BaseRequest, response: web.StreamResponse, time: float) -> None:  # noqa: ARG002
         version, message = request.version, request._message  # the line as it came, also of a request that no call has
-        asked = shown(f"{request.method} {message.path} HTTP/{version.major}.{version.minor}")
+        # Codes and secrets stand there in the query of OAuth.
+        path = message.path.partition("?")[0] if message.path.startswith("/oauth2/") else message.path
+        asked = shown(f"{request.method} {path} HTTP/{version.major}.{version.minor}")
         user = shown(request.get("user") or "-").replace(" ", "_")
-        length = response.body_length - request["head"] if "head" in request else response.content_length or 0
+        # A reply that was cut off may not have had its whole head.
+        length = max(response.body_length - request["head"], 0) if "head" in request else response.content_length or 0
         self.logger.info('%s - %s [%s] "%s" %s %s', request.remote or "-", user, moment(), asked, response.status, length)

@@ -15,9 +15,10 @@ from .times import utc
 class Refused(Exception):
     """A reply with this status and text, in place of what was asked for."""
 
-    def __init__(self, status: int, text: str) -> None:
+    def __init__(self, status: int, text: str, said: dict[str, Any] | None = None) -> None:
         super().__init__(f"{status} {text}")
-        self.status, self.text = status, text
+        self.status, self.text, self.said = status, text, said or {}
+        """`said` is the server's own refusal, where it is one."""
 
 
 KIND_NAMES = ("node", "way", "relation")
@@ -25,14 +26,34 @@ KIND_NAMES = ("node", "way", "relation")
 
 @dataclass
 class Operations:
-    """Kinds and ids of the operations of an upload in their order, since a refusal names one by its place. Nine bytes each."""
+    """Kinds and ids of the operations of an upload in their order, since a refusal names one by its place. Ten bytes each."""
 
     kinds: bytearray = field(default_factory=bytearray)
     ids: array[int] = field(default_factory=lambda: array("q"))
+    skipped: bytearray = field(default_factory=bytearray)
+    """1 for a deletion that is skipped where it can't be done."""
+    guards: int = 0
+    """Changes of versions that were there before: each is refused where it has been made already, and with it the upload."""
 
     def add(self, kind: str, number: int) -> None:
         self.kinds.append(KIND_NAMES.index(kind))
         self.ids.append(number)
+        self.skipped.append(0)
+
+    def end_block(self, start: int, action: str, if_unused: bool) -> None:
+        """The operations from that number on, counted from 0, are of a block."""
+        if if_unused:
+            self.skipped[start:] = b"\1" * (len(self.ids) - start)
+        elif action != "create":
+            self.guards += sum(number > 0 for number in self.ids[start:])
+
+    def may_skip(self, place: int) -> bool:
+        """Of the operation with that number, from 1 on."""
+        return 0 < place <= len(self.skipped) and self.skipped[place - 1] == 1
+
+    def can_come_again(self) -> bool:
+        """Whether the upload changes nothing where it is sent a second time: it is refused, or all of it is skipped."""
+        return self.guards > 0 or all(self.skipped)
 
     def __getitem__(self, place: int) -> tuple[str, int]:
         """The operation with that number from 1 on; a node 0 where there is none."""
@@ -139,7 +160,11 @@ def refusal(status: int, body: bytes, asked: Asked) -> Refused:
     """What to answer where the server refused with that status and body; an error without a text is shown as it stands."""
     try:
         it = json.loads(body)
-        text = TEXTS[it["error"]](it, asked)
+        error = str(it["error"])
     except (ValueError, KeyError, TypeError):
-        text = body[:1000].decode("utf-8", "replace")
-    return Refused(status, text)
+        # Of something between the gateway and the server, whose pages may name addresses.
+        return Refused(status, f"The server's answer has the status {status}, and says nothing that can be read")
+    try:
+        return Refused(status, TEXTS[error](it, asked), it)
+    except (KeyError, TypeError):
+        return Refused(status, body[:1000].decode("utf-8", "replace"), it)

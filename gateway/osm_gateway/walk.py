@@ -12,7 +12,10 @@ Path = tuple[str, ...]
 """The members from the outermost value on; an item of a list is `*`."""
 
 SPACE = re.compile(r"[ \t\r\n]*")
-PIECE = 1 << 15
+EXPONENT = 3
+"""Characters from which on a part of a number behind its whole digits is read as such: a point and a digit, or `e-5`."""
+BEGINNING = 9
+"""Characters of an item's beginning: `{"changes` of an element of the server, where a member of a relation has `{"ref":1,`."""
 
 
 class Sort(Enum):
@@ -45,7 +48,7 @@ class Walk:
     def __init__(self, pieces: Iterator[str], opened: frozenset[Path], longest: int = 0, parse_float: Any = None) -> None:
         self.pieces, self.opened, self.longest = pieces, opened, longest
         self.scan = json.JSONDecoder(parse_float=parse_float, parse_constant=no_number).raw_decode
-        self.text, self.place, self.ended = "", 0, False
+        self.text, self.place, self.ended, self.is_tried = "", 0, False, False
 
     def events(self) -> Iterator[Event]:
         yield from self.value(())
@@ -64,7 +67,7 @@ class Walk:
             else:
                 parts.append(piece)
                 came += len(piece)
-        self.text, self.place = "".join(parts), 0
+        self.text, self.place, self.is_tried = "".join(parts), 0, False
         return came >= least
 
     def next_character(self) -> str:
@@ -84,14 +87,17 @@ class Walk:
         self.place += 1
         return found
 
+    def may_go_on(self, end: int) -> bool:
+        """Whether the value that ends there may be a number whose rest hasn't come: `48.` and `5e-` have been read as 48 and 5."""
+        return end == len(self.text) or (self.text[end] in ".eE" and len(self.text) - end < EXPONENT)
+
     def whole(self) -> Any:
         """A value that isn't opened."""
         self.next_character()
         while True:
             try:
                 value, end = self.scan(self.text, self.place)
-                # A number at the end of what is there may go on.
-                if end < len(self.text) or self.ended:
+                if self.ended or not self.may_go_on(end):
                     self.place = end
                     return value
             except json.JSONDecodeError as why:
@@ -128,11 +134,31 @@ class Walk:
         plain = path not in self.opened
         while True:
             if plain:
-                yield Event(Sort.VALUE, path, self.whole())
+                for value in self.several():
+                    yield Event(Sort.VALUE, path, value)
             else:
                 yield from self.value(path)
             if self.take(",]") == "]":
                 return
+
+    def several(self) -> list[Any]:
+        """The next items of a list, as many objects as are there whole, or one.
+
+        What ends before a `},{` is whole where it is a list of JSON: a place within a value would leave something open. The one that is
+        tried begins as this item does, so that it isn't one of a list within; and where it isn't whole none is tried in this text again.
+        """
+        if self.next_character() == "{" and not self.is_tried:
+            start = self.text[self.place : self.place + BEGINNING]
+            end = self.text.rfind("}," + start, self.place) + 1
+            try:
+                values, read = self.scan(f"[{self.text[self.place : end]}]") if end else ((), 0)
+                if end and read == end - self.place + 2:
+                    self.place = end
+                    return list(values)
+            except (ValueError, RecursionError):
+                pass  # item by item, up to the one that can't be read
+            self.is_tried = True
+        return [self.whole()]
 
     def members(self, path: Path) -> Iterator[Event]:
         if self.next_character() == "}":

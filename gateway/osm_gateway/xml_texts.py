@@ -3,6 +3,7 @@
 from __future__ import annotations
 
 import re
+from collections.abc import Callable
 
 REPLACEMENT = "\ufffd"
 SPECIAL = re.compile("[^\x20-\x21\x23-\x25\x27-\x3b\x3d\x3f-\ud7ff\ue000-\ufffd\U00010000-\U0010ffff]")
@@ -10,11 +11,27 @@ SPECIAL = re.compile("[^\x20-\x21\x23-\x25\x27-\x3b\x3d\x3f-\ud7ff\ue000-\ufffd\
 ESCAPES = {"&": "&amp;", "<": "&lt;", ">": "&gt;", '"': "&quot;", "\t": "&#9;", "\n": "&#10;", "\r": "&#13;"}
 
 
+KEPT, SHORT = 20_000, 64
+"""Texts that are kept as they stand in XML, and the most characters of one: keys, values and names come again and again."""
+
+
+class Known(dict[str, str]):
+    """Texts with what they are in XML; one that isn't there yet is written."""
+
+    def __init__(self, write: Callable[[str], str]) -> None:
+        super().__init__()
+        self.write = write
+
+    def __missing__(self, text: str) -> str:
+        return self.write(text)
+
+
 class Texts:
     """Writes texts as they stand in XML, and counts the characters that it can't hold: these are U+FFFD."""
 
     def __init__(self) -> None:
         self.lost = 0
+        self.known = Known(self.written)
 
     def one(self, found: re.Match[str]) -> str:
         escape = ESCAPES.get(found[0])
@@ -23,8 +40,17 @@ class Texts:
             return REPLACEMENT
         return escape
 
+    def written(self, text: str) -> str:
+        lost = self.lost
+        it = SPECIAL.sub(self.one, text)
+        if self.lost == lost and len(text) <= SHORT:
+            if len(self.known) >= KEPT:
+                self.known.clear()
+            self.known[text] = it
+        return it
+
     def __call__(self, text: str) -> str:
-        return SPECIAL.sub(self.one, text)
+        return self.known[text]
 
     def attributes(self, **values: str | int | bool | None) -> str:
         """` name="value"` for each that isn't None."""

@@ -2,11 +2,12 @@
 
 from __future__ import annotations
 
-from collections.abc import Iterator
+from collections.abc import Iterable, Iterator, Sequence
 
 from .degrees import degrees_of
+from .discussions import Remark
 from .people import User
-from .rows import Box, Changeset, Comment, Done, Element, Note, edges
+from .rows import Box, Changeset, Comment, Counts, Done, Element, Member, Note, edges
 from .times import utc
 from .xml_texts import Texts
 
@@ -17,8 +18,12 @@ SLICE = 1000
 """Members that are written in one piece."""
 
 
+licence = ""
+"""Attributes that each document has besides (--copyright, --attribution, --license); set once, at the start."""
+
+
 def opened(name: str) -> str:
-    return f'{HEAD}<{name} version="0.6" generator="{GENERATOR}">\n'
+    return f'{HEAD}<{name} version="0.6" generator="{GENERATOR}"{licence}>\n'
 
 
 def closed(name: str) -> str:
@@ -26,48 +31,66 @@ def closed(name: str) -> str:
 
 
 def tags(texts: Texts, it: dict[str, str]) -> str:
-    return "".join([f'  <tag k="{texts(key)}" v="{texts(value)}"/>\n' for key, value in it.items()])
+    known = texts.known
+    return "".join([f'  <tag k="{known[key]}" v="{known[value]}"/>\n' for key, value in it.items()])
 
 
-
-def references(texts: Texts, it: Element) -> Iterator[str]:
-    if "nodes" in it:
-        yield "".join([f'  <nd ref="{ref}"/>\n' for ref in it["nodes"]])
-    members = it.get("members", [])
-    for place in range(0, len(members), SLICE):
-        part = members[place : place + SLICE]
-        yield "".join([f'  <member type="{row["type"]}" ref="{row["ref"]}" role="{texts(row["role"])}"/>\n' for row in part])
+def members(texts: Texts, rows: list[Member]) -> str:
+    known = texts.known
+    return "".join([f'  <member type="{row["type"]}" ref="{row["ref"]}" role="{known[row["role"]]}"/>\n' for row in rows])
 
 
-def element(texts: Texts, it: Element) -> Iterator[str]:
-    kind = it["type"]
-    start = (
-        f'<{kind} id="{it["id"]}" visible="{"true" if it["visible"] else "false"}" version="{it["version"]}" '
-        f'changeset="{it["changeset"]}" timestamp="{it["timestamp"]}" user="{texts(it["user"])}" uid="{it["uid"]}"'
-    )
-    if "redaction" in it:
-        start += f' redaction="{it["redaction"]}"'
+def start(texts: Texts, it: Element) -> str:
+    """The start of an element's tag, without its end."""
+    more = f' redaction="{it["redaction"]}"' if "redaction" in it else ""
     if "lat7" in it:
-        start += f' lat="{degrees_of(it["lat7"])}" lon="{degrees_of(it["lon7"])}"'
-    if it.get("tags") or it.get("nodes") or it.get("members"):
-        yield f"{start}>\n"
-        yield from references(texts, it)
-        yield f"{tags(texts, it.get('tags', {}))}</{kind}>\n"
-    else:
-        yield f"{start}/>\n"
+        more += f' lat="{degrees_of(it["lat7"])}" lon="{degrees_of(it["lon7"])}"'
+    return (
+        f'<{it["type"]} id="{it["id"]}" visible="{"true" if it["visible"] else "false"}" version="{it["version"]}" '
+        f'changeset="{it["changeset"]}" timestamp="{it["timestamp"]}" user="{texts.known[it["user"]]}" uid="{it["uid"]}"{more}'
+    )
+
+
+def element(texts: Texts, it: Element) -> Iterable[str]:
+    rows = it.get("members") or ()
+    if len(rows) > SLICE:
+        return sliced(texts, it)
+    nodes, has = it.get("nodes"), it.get("tags")
+    inner = '  <nd ref="' + '"/>\n  <nd ref="'.join(map(str, nodes)) + '"/>\n' if nodes else members(texts, rows) if rows else ""  # type: ignore[arg-type]
+    if has:
+        inner += tags(texts, has)
+    return (f"{start(texts, it)}>\n{inner}</{it['type']}>\n" if inner else f"{start(texts, it)}/>\n",)
+
+
+def sliced(texts: Texts, it: Element) -> Iterator[str]:
+    """A relation with many members, in several pieces."""
+    yield f"{start(texts, it)}>\n"
+    rows = it["members"]
+    for place in range(0, len(rows), SLICE):
+        yield members(texts, rows[place : place + SLICE])
+    yield f"{tags(texts, it.get('tags', {}))}</{it['type']}>\n"
 
 
 def bounds(it: Box) -> str:
     return "<bounds" + "".join(f' {side}="{degrees_of(units)}"' for side, units in edges(it).items()) + "/>\n"
 
 
-def changeset(texts: Texts, it: Changeset, discussed: bool = False) -> str:
-    start = texts.attributes(
+def changeset(texts: Texts, it: Changeset, comments: int = 0, talk: Sequence[Remark] | None = None) -> str:
+    """With so many comments, and these where they are asked for."""
+    fields = texts.attributes(
         id=it["id"], created_at=it["created_at"], closed_at=it.get("closed_at"), open=it["open"], user=it["user"], uid=it["uid"]
     )
-    start += "".join(f' {side[:3]}_{side[3:]}="{degrees_of(units)}"' for side, units in edges(it).items())
-    start += texts.attributes(comments_count=0, changes_count=it["changes_count"])
-    return f"<changeset{start}>\n{tags(texts, it['tags'])}{'  <discussion/>' if discussed else ''}</changeset>\n"
+    fields += "".join(f' {side[:3]}_{side[3:]}="{degrees_of(units)}"' for side, units in edges(it).items())
+    fields += texts.attributes(comments_count=comments, changes_count=it["changes_count"])
+    return f"<changeset{fields}>\n{tags(texts, it['tags'])}{discussion(texts, talk) if talk is not None else ''}</changeset>\n"
+
+
+def discussion(texts: Texts, talk: Sequence[Remark]) -> str:
+    rows = [
+        f"    <comment{texts.attributes(id=it.id, visible=it.visible, date=it.date, uid=it.uid, user=it.user)}><text>{texts(it.text)}</text></comment>\n"
+        for it in talk
+    ]
+    return f"  <discussion>\n{''.join(rows)}  </discussion>\n" if rows else "  <discussion/>\n"
 
 
 def done(it: Done) -> str:
@@ -75,11 +98,14 @@ def done(it: Done) -> str:
     return f"<{it['type']}{rest}/>\n"
 
 
-def user(texts: Texts, it: User, mine: bool) -> str:
-    """What the users text says of a user; counts aren't known here and left out, and JOSM can't do without a beginning."""
+def user(texts: Texts, it: User, counts: Counts, mine: bool) -> str:
+    """What is known of a user. JOSM can't do without a moment at which the account was made, and nobody knows it."""
     roles = "<roles><moderator/></roles>" if it.moderator else "<roles/>"
-    more = "<languages><lang>en</lang></languages>" if mine else ""
-    return f"<user{texts.attributes(id=it.id, display_name=it.name, account_created=BEGINNING)}><description/>{roles}{more}</user>\n"
+    changesets = f'<changesets count="{counts.changesets}"/>' if counts.changesets is not None else ""
+    rest = f'{roles}{changesets}<traces count="0"/><blocks><received count="0" active="0"/></blocks>'
+    if mine:
+        rest += '<languages><lang>en</lang></languages><messages><received count="0" unread="0"/><sent count="0"/></messages>'
+    return f"<user{texts.attributes(id=it.id, display_name=it.name, account_created=BEGINNING)}><description/>{rest}</user>\n"
 
 
 # ---- notes
@@ -108,8 +134,8 @@ def note_start(texts: Texts, it: Note, site: str) -> str:
     rows |= {"date_created": utc(it["date_created"]), "status": it["status"]}
     if "closed_at" in it:
         rows["date_closed"] = utc(it["closed_at"])
-    start = f'<note lon="{degrees_of(it["lon7"])}" lat="{degrees_of(it["lat7"])}">'
-    return f"{start}{''.join(inner(texts, name, value) for name, value in rows.items())}<comments>"
+    place = f'<note lon="{degrees_of(it["lon7"])}" lat="{degrees_of(it["lat7"])}">'
+    return f"{place}{''.join(inner(texts, name, value) for name, value in rows.items())}<comments>"
 
 
 NOTE_END = "</comments></note>\n"

@@ -10,6 +10,7 @@ import subprocess
 import sys
 import tempfile
 import time
+from collections.abc import Callable
 from dataclasses import dataclass, field
 from types import TracebackType
 from typing import Any
@@ -135,17 +136,22 @@ class Gateway:
 
 
 class Site:
-    """A server of the map, one of notes where it is wanted, and the gateway in front of them, until the end of a `with`."""
+    """A server of the map, one of notes where it is wanted, and the gateway in front of them, until the end of a `with`.
 
-    def __init__(self, program: str, notes: bool = False, more: tuple[str, ...] = ()) -> None:
-        self.stack, self.words = contextlib.ExitStack(), (program, notes, more)
+    `between` makes what stands between the gateway and each server, of the server's port.
+    """
+
+    def __init__(self, program: str, notes: bool = False, more: tuple[str, ...] = (), between: Callable[[int], Any] | None = None) -> None:
+        self.stack, self.words, self.between = contextlib.ExitStack(), (program, notes, more), between
 
     def __enter__(self) -> Gateway:
         program, notes, more = self.words
         with contextlib.ExitStack() as stack:
-            server = stack.enter_context(Server(program, 8, USERS))
-            noted = stack.enter_context(Server(program, 8, USERS, command=("serve-notes",))) if notes else None
-            gateway = stack.enter_context(Gateway(server.port, noted.port if noted else 0, more))
+            ports = []
+            for command in ("serve", "serve-notes")[: 2 if notes else 1]:
+                port = stack.enter_context(Server(program, 8, USERS, command=(command,))).port
+                ports.append(stack.enter_context(self.between(port)).port if self.between else port)
+            gateway = stack.enter_context(Gateway(ports[0], ports[1] if notes else 0, more))
             self.stack = stack.pop_all()
         return gateway
 

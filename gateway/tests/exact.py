@@ -81,6 +81,12 @@ def walks() -> str:
         wanted = wanted or found
         want(found, wanted, f"in pieces of {length}")
     want([value for _, value in wanted], [{"minlat7": 1}, {"id": 1, "tags": {'},{"': "x"}}, {"id": 23}, "0.6"], "the values")
+    numbers = "[48.25,-0.5,1e5,2E-7,-3.25e+10,0,-0,7.0]"
+    for place in range(len(numbers) + 1):
+        for second in range(place, len(numbers) + 1):
+            cut = iter([numbers[:place], numbers[place:second], numbers[second:]])
+            found = [it.value for it in Walk(cut, frozenset({()}), parse_float=str).events() if it.sort is Sort.VALUE]
+            want(found, ["48.25", "-0.5", "1e5", "2E-7", "-3.25e+10", 0, 0, "7.0"], f"numbers cut at {place} and {second}")
     bad = ("", "{", '{"a"}', '{"a":1,}', "[1", "1 2", '{"elements":[1,]}', "nan", "NaN", "[" * 100_000, '{"a":' * 100_000, "1" * 5000, '"\\ud800', "'a'")
     for broken in bad:
         try:

@@ -7,19 +7,23 @@ import re
 import subprocess
 import tempfile
 
-from behind import HERE, Site, Wrong
+from behind import HERE, Gateway, Site, Wrong
 
 JAR = "/usr/share/josm/josm.jar"
 
 
 def run(program: str) -> str:
+    with Site(program, notes=True) as gateway:
+        return tried(gateway)
+
+
+def tried(gateway: Gateway) -> str:
     with tempfile.TemporaryDirectory() as folder:
         source = os.path.join(HERE, "josm_trial", "Trial.java")
         subprocess.run(("javac", "-proc:none", "-nowarn", "-cp", JAR, "-d", folder, source), check=True, timeout=300, capture_output=True)
-        with Site(program, notes=True) as gateway:
-            words = ["-Djava.awt.headless=true", "-Dfile.encoding=UTF-8", f"-Djosm.home={folder}/home", "-cp", f"{JAR}:{folder}"]
-            url = f"http://127.0.0.1:{gateway.port}/api"
-            done = subprocess.run(("java", *words, "Trial", url), capture_output=True, text=True, timeout=300, check=False)
+        words = ["-Djava.awt.headless=true", "-Dfile.encoding=UTF-8", f"-Djosm.home={folder}/home", "-cp", f"{JAR}:{folder}"]
+        url = f"http://127.0.0.1:{gateway.port}/api"
+        done = subprocess.run(("java", *words, "Trial", url), capture_output=True, text=True, timeout=300, check=False)
     lines = [line for line in done.stdout.splitlines() if line[:2] in ("+ ", "- ")]
     bad = [line for line in lines if line.startswith("- ")]
     if done.returncode or bad or not lines:
