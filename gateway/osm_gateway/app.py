@@ -8,11 +8,13 @@ from collections.abc import Awaitable, Callable
 
 from aiohttp import ClientPayloadError, web
 
-from . import calls_about, calls_changesets, calls_elements, calls_notes
+from . import calls_about, calls_changesets, calls_discussions, calls_elements, calls_notes, calls_oauth, calls_preferences, id_editor, overview
 from .call import Call, Gateway
 from .doubts import unknown
+from .limits import TooMany, address_of
 from .links import InDoubt
 from .log import shown, tell, where
+from .origins import PAGE_CSP, check_host, cors, has_bearer, options
 from .refusals import Refused
 from .spool import NoDisk
 
@@ -39,7 +41,8 @@ TABLE: tuple[tuple[str, str, Handler], ...] = (
     ("GET", "/api/0.6/capabilities", calls_about.capabilities),
     ("GET", "/api/0.6/permissions", calls_about.permissions),
     ("GET", "/api/0.6/user/details", calls_about.user_details),
-    ("GET", "/api/0.6/user/preferences", calls_about.preferences),
+    ("GET", "/api/0.6/user/preferences", calls_preferences.read_all),
+    ("PUT", "/api/0.6/user/preferences", calls_preferences.write_all),
     ("GET", f"/api/0.6/user/{ID}", calls_about.user),
     ("GET", "/api/0.6/users", calls_about.users),
     ("PUT", "/api/0.6/changeset/create", calls_changesets.create),
@@ -50,19 +53,35 @@ TABLE: tuple[tuple[str, str, Handler], ...] = (
     ("PUT", f"/api/0.6/changeset/{ID}/close", calls_changesets.close),
     ("POST", f"/api/0.6/changeset/{ID}/upload", calls_changesets.upload),
     ("GET", f"/api/0.6/changeset/{ID}/download", calls_changesets.download),
+    ("POST", f"/api/0.6/changeset/{ID}/comment", calls_discussions.comment),
+    ("POST", f"/api/0.6/changeset/{ID}/subscribe", calls_discussions.subscribe),
+    ("POST", f"/api/0.6/changeset/{ID}/unsubscribe", calls_discussions.unsubscribe),
+    ("POST", f"/api/0.6/changeset/comment/{ID}/hide", calls_discussions.seen(False)),
+    ("POST", f"/api/0.6/changeset/comment/{ID}/unhide", calls_discussions.seen(True)),
+    ("GET", "/api/0.6/trackpoints", calls_about.trackpoints),
     ("POST", f"/api/0.6/{KIND}/{ID}/{VERSION}/redact", calls_elements.redact),
     ("POST", "/api/0.6/redactions", calls_elements.new_redaction),
     ("GET", "/api/0.6/replication/{piece:state|[0-9]{1,19}}", calls_elements.feed),
     ("POST", "/api/0.6/notes", calls_notes.create),
     ("GET", "/api/0.6/notes", calls_notes.search),
     ("GET", f"/api/0.6/notes/{ID}", calls_notes.read),
+    ("DELETE", f"/api/0.6/notes/{ID}", calls_notes.hide),
+    ("GET", "/api/0.6/notes/search", calls_notes.search_texts),
+    ("GET", "/api/0.6/notes/feed", calls_notes.feed),
     ("POST", f"/api/0.6/notes/{ID}/{{what:comment|close|reopen}}", calls_notes.change),
 )
+OWN_ENDS = (
+    ("GET", "/api/0.6/user/preferences/{key:.+}", calls_preferences.read),
+    ("PUT", "/api/0.6/user/preferences/{key:.+}", calls_preferences.write),
+    ("DELETE", "/api/0.6/user/preferences/{key:.+}", calls_preferences.delete),
+    ("GET", "/overview/{z:1[0-2]}/{x:[0-9]{1,4}}/{y:[0-9]{1,4}}", overview.tile),
+    ("GET", r"/api/0.6/notes{end:\.rss|\.gpx}", calls_notes.search),
+    ("GET", r"/api/0.6/notes/search{end:\.rss|\.gpx}", calls_notes.search_texts),
+    ("GET", f"/api/0.6/notes/{ID}{{end:\\.rss|\\.gpx}}", calls_notes.read),
+)
+"""A key may end with .json, so these paths have no end that says a form; and notes have more forms."""
 UNSERVED = (
-    (re.compile(r"/api/0\.6/changeset/[0-9]+/(comment|subscribe|unsubscribe)"), "Discussions of changesets aren't served here"),
-    (re.compile(r"/api/0\.6/(gpx.*|trackpoints|user/gpx_files|gpx/create)"), "GPS traces aren't served here"),
-    (re.compile(r"/api/0\.6/notes/(search|feed)"), "A search of the texts of notes isn't served here"),
-    (re.compile(r"/api/0\.6/user/preferences.*"), "Preferences aren't kept here"),
+    (re.compile(r"/api/0\.6/(gpx.*|user/gpx_files|gpx/create)"), "GPS traces aren't served here"),
     (re.compile(r"/api/0\.6/(changeset/[0-9]+/expand_bbox|user_blocks.*|user/messages.*|map\.gz)"), "This isn't served here"),
     (re.compile(r"/api/0\.[0-57-9].*|/api/1.*"), "This is version 0.6 of the API"),
 )
@@ -85,19 +104,6 @@ def served(gateway: Gateway, handler: Handler) -> Callable[[web.Request], Awaita
 # ---- what stands around each call
 
 
-def check_host(gateway: Gateway, request: web.Request) -> None:
-    """A page of another name that resolves to this host must not speak for its reader."""
-    named = request.headers.get("Host")
-    if named is None and request.version >= (1, 1):
-        raise Refused(400, "The field Host is missing")
-    host = re.fullmatch(r"(\[[0-9a-f:.]+\]|[^:\[\]]*)(:[0-9]{1,5})?", (named if named is not None else "localhost").lower())
-    if not host or host[1].strip("[]") not in gateway.words.hosts:
-        raise Refused(421, f"This host isn't {(named or '')[:100]}; --host says what else it is called")
-    origin = request.headers.get("Origin")
-    if origin and request.method not in ("GET", "HEAD", "OPTIONS") and origin.split("://", 1)[-1] != named:
-        raise Refused(403, "Pages of other hosts may read here, and change nothing")
-
-
 def unfound(request: web.Request, why: web.HTTPException) -> web.StreamResponse:
     """A path or a method that no call has, told apart where OSM has one; and what aiohttp refuses by itself."""
     unserved = next((text for path, text in UNSERVED if path.fullmatch(request.path)), None)
@@ -118,28 +124,22 @@ def refused(why: Refused) -> web.Response:
         reply.headers["WWW-Authenticate"] = 'Basic realm="Hegunsap: a name, and the token as the password", charset="UTF-8"'
     if why.status == 503:
         reply.headers["Retry-After"] = "5"
+    if isinstance(why, TooMany):
+        reply.headers["Retry-After"] = str(why.seconds)
     return reply
-
-
-def options(request: web.Request) -> web.Response:
-    found = request.match_info.http_exception
-    if isinstance(found, web.HTTPMethodNotAllowed):
-        allowed = {*found.allowed_methods, "OPTIONS"}
-        fields = {"Allow": ", ".join(sorted(allowed)), "Access-Control-Allow-Methods": "GET, HEAD, OPTIONS"}
-        return web.Response(status=204, headers={**fields, "Access-Control-Allow-Headers": "Authorization, Accept", "Access-Control-Max-Age": "3600"})
-    return refused(Refused(404, f"There is no {request.path}"))
 
 
 async def fields(request: web.Request, reply: web.StreamResponse) -> None:
     """Pages of any host may read; what is read depends on who asks and in which form."""
-    if request.method in ("GET", "HEAD", "OPTIONS"):
-        reply.headers["Access-Control-Allow-Origin"] = "*"
-        reply.headers["Access-Control-Expose-Headers"] = "Error"
+    cors(request, reply)
+    if reply.status == 401 and has_bearer(request):
+        # A challenge of Basic would make a browser ask its user for a password.
+        reply.headers["WWW-Authenticate"] = 'Bearer error="invalid_token"'
     if request.path.startswith("/api/"):
         reply.headers["Cache-Control"] = "no-cache"
         reply.headers["Vary"] = "Accept, Accept-Encoding, Authorization"
     else:
-        reply.headers["Content-Security-Policy"] = "default-src 'self'; img-src 'self' data:"
+        reply.headers.setdefault("Content-Security-Policy", PAGE_CSP)
     reply.headers["X-Content-Type-Options"] = "nosniff"
     reply.headers["Server"] = "Hegunsap"
 
@@ -147,8 +147,10 @@ async def fields(request: web.Request, reply: web.StreamResponse) -> None:
 def around(gateway: Gateway) -> object:
     @web.middleware
     async def answer(request: web.Request, handler: Callable[[web.Request], Awaitable[web.StreamResponse]]) -> web.StreamResponse:
+        address = address_of(request)
         try:
-            check_host(gateway, request)
+            check_host(gateway.words, request)
+            gateway.rates.check(address)
             reply = options(request) if request.method == "OPTIONS" else await handler(request)
         except Refused as why:
             if isinstance(why, NoDisk):
@@ -162,6 +164,7 @@ def around(gateway: Gateway) -> object:
         except Exception as why:
             tell(f"{shown(request.method)} {shown(request.path)}: {where(why)}")
             reply = refused(Refused(500, f"The gateway failed at this: {type(why).__name__}"))
+        gateway.rates.count(address, reply.body_length or reply.content_length or 0)
         texts = request.get("texts")
         if texts is not None and texts.lost:
             tell(f"{texts.lost} characters that XML can't hold are U+FFFD in the reply to {request.method} {shown(request.path)}")
@@ -173,6 +176,34 @@ def around(gateway: Gateway) -> object:
 # ---- the page
 
 
+FORMS: tuple[tuple[tuple[str, ...], str, Callable[[Gateway, web.Request], Awaitable[web.StreamResponse]]], ...] = (
+    (("GET", "POST"), "/oauth2/authorize", calls_oauth.authorize),
+    (("GET",), "/oauth2/authorize/native", calls_oauth.native),
+    (("POST",), "/oauth2/token", calls_oauth.token),
+    (("POST",), "/oauth2/revoke", calls_oauth.revoke),
+    (("GET", "POST"), "/oauth2/applications", calls_oauth.applications),
+    (("GET", "POST"), "/oauth2/authorized_applications", calls_oauth.authorized),
+    (("GET",), "/history/comments/feed", calls_discussions.feed),
+    (("GET",), "/changeset/{id:[0-9]{1,19}}/comments/feed", calls_discussions.feed),
+    (("GET",), "/id", id_editor.moved),
+    (("GET",), "/id/", id_editor.index),
+    (("GET",), "/id/there", id_editor.there),
+    (("GET",), "/id/land.html", id_editor.land),
+    (("GET",), "/id/{path:.+}", id_editor.file),
+    (("GET",), "/.well-known/oauth-authorization-server", calls_oauth.metadata),
+    # Where JOSM looks for it.
+    (("GET",), "/api/.well-known/oauth-authorization-server", calls_oauth.metadata),
+)
+"""Pages and endpoints that are none of OSM's API."""
+
+
+def shown_by(gateway: Gateway, handler: Callable[[Gateway, web.Request], Awaitable[web.StreamResponse]]) -> Callable[[web.Request], Awaitable[web.StreamResponse]]:
+    async def answer(request: web.Request) -> web.StreamResponse:
+        return await handler(gateway, request)
+
+    return answer
+
+
 def file_of(path: str) -> Callable[[web.Request], Awaitable[web.StreamResponse]]:
     async def answer(_: web.Request) -> web.StreamResponse:
         return web.FileResponse(path)
@@ -180,13 +211,31 @@ def file_of(path: str) -> Callable[[web.Request], Awaitable[web.StreamResponse]]
     return answer
 
 
+ADDRESSES = (
+    f"/{KIND}/{ID}{{rest:(?:/history)?/?}}", f"/changeset/{ID}{{rest:/?}}", f"/note/{ID}{{rest:/?}}", "/user/{name:[^/]+}{rest:/?}",
+    "/user/{name:[^/]+}/{what:history|notes}", "/history",
+)  # fmt: skip
+"""What JOSM, iD and people open: the page reads its own address."""
+
+
 def app_of(gateway: Gateway) -> web.Application:
+    gateway.overview = overview.Kept()
     app = web.Application(middlewares=[around(gateway)])  # type: ignore[list-item]
     for method, path, handler in TABLE:
         app.router.add_route(method, path + END, served(gateway, handler))
         if method == "GET":
             app.router.add_route("HEAD", path + END, served(gateway, handler))
-    app.router.add_get("/", file_of(os.path.join(PAGE, "index.html")))
+    for method, path, handler in OWN_ENDS:
+        app.router.add_route(method, path, served(gateway, handler))
+        if method == "GET":
+            app.router.add_route("HEAD", path, served(gateway, handler))
+    for methods, path, page in FORMS:
+        for method in methods:
+            app.router.add_route(method, path, shown_by(gateway, page))
+            if method == "GET":
+                app.router.add_route("HEAD", path, shown_by(gateway, page))
+    for path in ("/", *ADDRESSES):
+        app.router.add_get(path, file_of(os.path.join(PAGE, "index.html")))
     app.router.add_static("/page", PAGE)
     if os.path.isdir(LEAFLET):
         app.router.add_static("/leaflet", LEAFLET, follow_symlinks=True)

@@ -13,14 +13,19 @@ from urllib.parse import quote
 
 from aiohttp import web
 
+from .callers import UNPERMITTED, Caller, Callers, scopes_of
 from .degrees import NotDecimal, degrees_of, units_of
+from .discussions import Discussions
 from .doubts import Once
+from .limits import Rates, address_of
 from .links import InDoubt, Links
 from .log import shown, tell, where
+from .oauth import OAuth
 from .people import People, User
 from .refusals import Asked, Refused, refusal
 from .room import Room, Share
 from .spool import Coding, Spool
+from .store import Store
 from .turns import Turns
 from .walk import OPENED, Event, NotJson, Walk
 from .words import Words
@@ -38,6 +43,8 @@ WHOLE = 1 << 16
 class Form(Enum):
     XML = "application/xml"
     JSON = "application/json"
+    RSS = "application/rss+xml"
+    GPX = "application/gpx+xml"
 
 
 @dataclass
@@ -47,8 +54,24 @@ class Gateway:
     server: Links
     notes: Links | None
     room: Room
+    store: Store
     turns: Turns = field(default_factory=Turns)
     once: Once = field(default_factory=Once)
+    counted: dict[int, tuple[float, int]] = field(default_factory=dict)
+    """How many changesets a user has, and when they were counted."""
+    last_note: int = 0
+    """The largest id of a note that was seen."""
+
+    def __post_init__(self) -> None:
+        self.oauth = OAuth(self.store, self.people)
+        self.callers = Callers(self.people, self.oauth.grants, self.words.guesses)
+        self.rates = Rates(self.words.rate)
+        self.discussions = Discussions(self.store, self.people)
+        self.overview: Any = None
+
+    def site(self, request: web.Request) -> str:
+        """How clients call this host: as --public-url says, or as they did."""
+        return self.words.public or f"{request.scheme}://{request.host}"
 
 
 def quality(accepted: str, *types: str) -> float:
@@ -67,19 +90,10 @@ def form_of(request: web.Request) -> Form:
     """By the end of the path, or else by the field Accept; XML where it doesn't matter."""
     end = request.match_info.get("end", "")
     if end:
-        return Form.JSON if end == ".json" else Form.XML
+        return Form[end[1:].upper()]
     accepted = request.headers.get("Accept", "")
     xml = quality(accepted, "application/xml", "text/xml", "*/*", "application/*", "text/*")
     return Form.JSON if quality(accepted, "application/json") > xml else Form.XML
-
-
-def address_of(request: web.Request) -> str | None:
-    """Whose call it is: behind a proxy on this host the address that it names last. None where a call of this host names none."""
-    address = request.remote or ""
-    if not (address.startswith("127.") or address == "::1"):
-        return address
-    named = request.headers.getall("X-Forwarded-For", [""])[-1].rpartition(",")[2].strip()
-    return named[:100] or None
 
 
 class Call:
@@ -87,9 +101,11 @@ class Call:
         self.gateway, self.request = gateway, request
         self.spools: list[Spool] = []
         self.form, self.texts = form_of(request), Texts()
-        self.token = gateway.people.token_of(request.headers.get("Authorization"))
-        user = gateway.people.by_token.get(self.token or "")
-        request["user"] = user.name if user else None
+        self.caller: Caller = gateway.callers.of(request)
+        self.token = self.caller.token
+        request["user"] = self.caller.user.name if self.caller.user else None
+        if not self.caller.may(*scopes_of(request.method, request.path)):
+            raise Refused(403, UNPERMITTED)
         request["texts"] = self.texts
 
     @property
@@ -99,7 +115,7 @@ class Call:
     @property
     def site(self) -> str:
         """What stands before the paths of this host in its links."""
-        return self.gateway.words.public or f"{self.request.scheme}://{self.request.host}"
+        return self.gateway.site(self.request)
 
     def spool(self, always: bool = False) -> Spool:
         """Room for a body until the call has ended. `always` is for the answer to a change that was made."""

@@ -11,6 +11,7 @@ from aiohttp import web
 
 from . import documents, json_read, json_write, xml_write
 from .call import Call, events_of, number_of
+from .calls_discussions import shown, talk_of
 from .calls_elements import texts_of
 from .changes import ENCODER, change_of
 from .changes_once import Change, closed, made_once, retagged, unended
@@ -48,10 +49,7 @@ async def create(call: Call) -> web.StreamResponse:
 
 
 def one(call: Call, it: Changeset) -> web.StreamResponse:
-    discussed = "include_discussion" in call.request.query
-    if call.wants_json:
-        return call.answer(json_write.document(changeset=json_write.changeset(it, discussed)))
-    return call.answer(xml_write.opened("osm") + xml_write.changeset(call.texts, it, discussed) + xml_write.closed("osm"))
+    return shown(call, it, talk_of(call, it))
 
 
 async def read(call: Call) -> web.StreamResponse:
@@ -187,9 +185,10 @@ async def read_some(call: Call) -> web.StreamResponse:
     times, ids = Times.of(call), call.query("changesets")
     found = await searched(call) if ids is None else await named(call, ids)
     rows = iter(window(found, times, limit, order == "oldest", ids is not None or len(found) < MOST))
+    count = call.gateway.discussions.count
     if call.wants_json:
-        return await call.answer_in_parts(documents.listed_json("changesets", rows, json_write.changeset))
-    return await call.answer_in_parts(documents.listed_xml(rows, lambda it: xml_write.changeset(call.texts, it)))
+        return await call.answer_in_parts(documents.listed_json("changesets", rows, lambda it: json_write.changeset(it, count(it["id"]))))
+    return await call.answer_in_parts(documents.listed_xml(rows, lambda it: xml_write.changeset(call.texts, it, count(it["id"]))))
 
 
 __all__ = ["close", "create", "download", "read", "read_some", "update", "upload"]

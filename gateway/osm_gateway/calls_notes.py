@@ -3,7 +3,7 @@
 from __future__ import annotations
 
 import json
-from collections.abc import Iterator
+from collections.abc import Iterator, Sequence
 from datetime import datetime, timedelta, timezone
 from functools import partial
 from typing import Any
@@ -11,8 +11,8 @@ from urllib.parse import parse_qsl
 
 from aiohttp import web
 
-from . import documents, json_write, xml_write
-from .call import Call, box_of, events_of, number_of
+from . import documents, hidden, json_write, notes_forms, notes_search, xml_write
+from .call import Call, Form, box_of, events_of, number_of
 from .changes import ENCODER
 from .created_once import note_changed, note_created
 from .degrees import NotDecimal, units_of
@@ -70,24 +70,31 @@ def place(given: dict[str, str], name: str) -> int:
 
 def form_of(call: Call) -> NoteForm:
     where = call.site
+    if call.form in (Form.RSS, Form.GPX):
+        return (notes_forms.rss if call.form is Form.RSS else notes_forms.gpx)(call.texts, where)
     if call.wants_json:
-        return NoteForm(partial(json_write.note_start, site=where), json_write.comment, ",", json_write.NOTE_END)
+        return NoteForm(partial(json_write.note_start, site=where), json_write.comment, ",", lambda _: json_write.NOTE_END)
     start, comment = partial(xml_write.note_start, call.texts, site=where), partial(xml_write.comment, call.texts)
-    return NoteForm(start, comment, "", xml_write.NOTE_END)
+    return NoteForm(start, comment, "", lambda _: xml_write.NOTE_END)
 
 
-async def heads_of(call: Call, reply: Spool, base: Path) -> list[Note]:
+async def heads_of(call: Call, replies: Sequence[Spool], base: Path) -> list[Note]:
     """Notes without their comments, read in turns."""
     found: list[Note] = []
 
     def reading() -> Iterator[str]:
-        for it in documents.heads(events_of(reply), base):
+        for it in documents.heads(events_of(*replies), base):
             if it is not None:
                 found.append(it)
             yield ""
 
     await call.work(reading())
     return found
+
+
+AROUND = {
+    Form.XML: ("", xml_write.closed("osm")), Form.RSS: (notes_forms.RSS, notes_forms.RSS_END), Form.GPX: (notes_forms.GPX, notes_forms.GPX_END),
+}  # fmt: skip
 
 
 def wrapped(call: Call, pieces: Iterator[str], one: bool) -> Iterator[str]:
@@ -97,14 +104,15 @@ def wrapped(call: Call, pieces: Iterator[str], one: bool) -> Iterator[str]:
         yield from pieces
         yield "\n" if one else "\n]}\n"
     else:
-        yield xml_write.opened("osm")
+        start, end = AROUND[call.form]
+        yield start or xml_write.opened("osm")
         yield from pieces
-        yield xml_write.closed("osm")
+        yield end
 
 
 async def answered(call: Call, reply: Spool) -> web.StreamResponse:
     """The note that a reply of the server has."""
-    wanted: list[Note | None] = [*await heads_of(call, reply, documents.ONE)]
+    wanted = [*hidden.shown(call, await heads_of(call, [reply], documents.ONE))]
     pieces = documents.notes(events_of(reply), documents.ONE, wanted, form_of(call))
     return await call.answer_in_parts(wrapped(call, pieces, one=True))
 
@@ -124,6 +132,7 @@ async def create(call: Call) -> web.StreamResponse:
 
 
 async def read(call: Call) -> web.StreamResponse:
+    hidden.refuse_hidden(call, call.path("id"))
     return await answered(call, await call.ask("GET", f"notes/{call.path('id')}", server=notes_of(call)))
 
 
@@ -134,7 +143,12 @@ async def change(call: Call) -> web.StreamResponse:
     what = call.request.match_info["what"]
     if what == "comment" and not given.get("text"):
         raise Refused(400, "No text was given")
-    row: dict[str, Any] = {"text": given.get("text", "")}
+    hidden.refuse_hidden(call, call.path("id"))
+    if what == "reopen" and hidden.is_hidden(call, call.path("id")):
+        hidden.show(call, call.path("id"))
+        return await read(call)
+    # OSM's clients open a note again without a word, and the server wants one character.
+    row: dict[str, Any] = {"text": given.get("text", "") or (" " if what == "reopen" else "")}
     check_length(row["text"])
     sent = await call.sent([ENCODER.encode(row)])
     return await answered(call, await note_changed(call, call.path("id"), what, row["text"], sent, server))
@@ -148,19 +162,45 @@ def number(call: Call, name: str, standard: int, least: int, most: int) -> int:
 
 
 async def search(call: Call) -> web.StreamResponse:
-    """The newest hundred of a box. `closed` says for how many days closed ones are shown, 7 if not said; -1 is for ever."""
+    """Those of a box, the newest first. `closed` says for how many days closed ones are shown, 7 if not said; -1 is for ever."""
     server, box = notes_of(call), box_of(call.query("bbox"))
     days, limit = number(call, "closed", 7, -1, 100_000), number(call, "limit", 100, 1, 10_000)
-    query = {"bbox": box} if days == 0 else {"bbox": box, "closed": "true"}
-    reply = await call.ask("GET", "notes", query, server=server)
-    found: list[Note | None] = [*await heads_of(call, reply, documents.SOME)]
-    since = datetime.now(timezone.utc) - timedelta(days=days)
-    left = limit
+    replies = await notes_search.box_replies(call, server, box, days != 0, limit)
+    found = [*hidden.shown(call, await heads_of(call, replies, documents.SOME))]
+    since, left = datetime.now(timezone.utc) - timedelta(days=days), limit
     for place, it in enumerate(found):
         is_old = days > 0 and it is not None and "closed_at" in it and moment_of(it["closed_at"]) < since
-        if is_old or not left:
+        if it is None or is_old or not left:
             found[place] = None
         else:
             left -= 1
-    pieces = documents.notes(events_of(reply), documents.SOME, found, form_of(call))
+    pieces = documents.notes(events_of(*replies), documents.SOME, found, form_of(call))
     return await call.answer_in_parts(wrapped(call, pieces, one=False))
+
+
+async def search_texts(call: Call) -> web.StreamResponse:
+    """By words of their texts, users, moments; of a box or of all."""
+    server, box = notes_of(call), box_of(call.query("bbox")) if call.query("bbox") is not None else None
+    days, limit = number(call, "closed", 7, -1, 100_000), number(call, "limit", 100, 1, 1_000)
+    since = datetime.now(timezone.utc) - timedelta(days=days) if days > 0 else None
+    ids = await notes_search.searched(call, server, box, notes_search.wanted_of(call, days, since), limit)
+    replies = [await call.ask("GET", f"notes/{it}", server=server) for it in ids]
+    found = [*hidden.shown(call, await heads_of(call, replies, documents.ONE))]
+    pieces = documents.notes(events_of(*replies), documents.ONE, found, form_of(call))
+    return await call.answer_in_parts(wrapped(call, pieces, one=False))
+
+
+async def feed(call: Call) -> web.StreamResponse:
+    """The newest of a box, or of all, as RSS."""
+    call.form = Form.RSS
+    return await (search(call) if call.query("bbox") is not None else search_texts(call))
+
+
+async def hide(call: Call) -> web.StreamResponse:
+    """From everybody but moderators."""
+    if not call.user().moderator:
+        raise Refused(403, "Only a moderator may do this")
+    await call.body(FORM_BYTES)
+    reply = await call.ask("GET", f"notes/{call.path('id')}", server=notes_of(call))
+    hidden.hide(call, call.path("id"))
+    return await answered(call, reply)

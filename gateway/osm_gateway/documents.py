@@ -44,7 +44,7 @@ class NoteForm(NamedTuple):
     start: Callable[[Note], str]
     comment: Callable[[Comment], str]
     comma: str
-    end: str
+    end: Callable[[Note], str]
 
 
 def notes(events: Events, base: Path, wanted: list[Note | None], form: NoteForm) -> Pieces:
@@ -63,7 +63,7 @@ def notes(events: Events, base: Path, wanted: list[Note | None], form: NoteForm)
             yield comma + form.comment(value)
             comma = form.comma
         elif path == base:
-            yield form.end
+            yield form.end(head)
 
 
 # ---- XML
@@ -115,7 +115,7 @@ def parted(items: Iterator[Iterator[str]]) -> Pieces:
 
 
 def elements_json(events: Events) -> Pieces:
-    yield json_write.HEAD
+    yield json_write.head()
     comma = ',"elements":[\n'
     for event in events:
         if event.path == ("elements", "*"):
@@ -128,7 +128,7 @@ def elements_json(events: Events) -> Pieces:
 
 
 def download_json(events: Events) -> Pieces:
-    yield f'{json_write.HEAD},"osmChange":[\n'
+    yield f'{json_write.head()},"osmChange":[\n'
     block = row = ""
     for sort, path, value in events:
         if len(path) == 4:
@@ -148,6 +148,6 @@ def done_json(events: Events) -> Pieces:
 
 
 def listed_json(name: str, items: Iterator[Any], write: Callable[[Any], str]) -> Pieces:
-    yield f'{json_write.HEAD},"{name}":[\n'
+    yield f'{json_write.head()},"{name}":[\n'
     yield from parted(iter((write(item),)) for item in items)
     yield "\n]}\n"

@@ -3,17 +3,23 @@
 from __future__ import annotations
 
 import json
-from collections.abc import Iterator
+from collections.abc import Iterator, Sequence
 from json.encoder import encode_basestring as text_of  # type: ignore[attr-defined]
 from typing import Any
 
 from .degrees import degrees_of
+from .discussions import Remark
 from .people import User
-from .rows import Box, Changeset, Comment, Done, Element, Note, edges
+from .rows import Box, Changeset, Comment, Counts, Done, Element, Note, edges
 from .times import utc
-from .xml_write import GENERATOR, SLICE, paragraph
+from .xml_write import BEGINNING, GENERATOR, SLICE, paragraph
 
-HEAD = f'{{"version":"0.6","generator":"{GENERATOR}"'
+licence = ""
+"""Members that each document has besides; set once, at the start."""
+
+
+def head() -> str:
+    return f'{{"version":"0.6","generator":"{GENERATOR}"{licence}'
 
 
 def value_of(it: Any) -> str:
@@ -22,7 +28,7 @@ def value_of(it: Any) -> str:
 
 def document(**members: str) -> str:
     """A whole reply, of members that are JSON."""
-    return HEAD + "".join(f',"{name}":{value}' for name, value in members.items()) + "}\n"
+    return head() + "".join(f',"{name}":{value}' for name, value in members.items()) + "}\n"
 
 
 def element(it: Element) -> Iterator[str]:
@@ -56,13 +62,15 @@ def bounds(it: Box) -> str:
     return "{" + ",".join(f'"{side}":{degrees_of(units)}' for side, units in edges(it).items()) + "}"
 
 
-def changeset(it: Changeset, discussed: bool = False) -> str:
+def changeset(it: Changeset, comments: int = 0, talk: Sequence[Remark] | None = None) -> str:
     names = ("id", "created_at", "open", "changes_count", "closed_at")
     rows = [f'"{name}":{value_of(it[name])}' for name in names if name in it]  # type: ignore[literal-required]
-    rows += ['"comments_count":0']
+    rows += [f'"comments_count":{comments}']
     rows += [f'"{side[:3]}_{side[3:]}":{degrees_of(units)}' for side, units in edges(it).items()]
     rows += [f'"uid":{it["uid"]}', f'"user":{text_of(it["user"])}', f'"tags":{value_of(it["tags"])}']
-    rows += ['"comments":[]'] if discussed else []
+    if talk is not None:
+        said = [{"id": row.id, "visible": row.visible, "date": row.date, "uid": row.uid, "user": row.user, "text": row.text} for row in talk]
+        rows += [f'"comments":{value_of(said)}']
     return "{" + ",".join(rows) + "}"
 
 
@@ -70,9 +78,14 @@ def done(it: Done) -> str:
     return value_of(it)
 
 
-def user(it: User) -> str:
-    roles = ["moderator"] if it.moderator else []
-    return value_of({"id": it.id, "display_name": it.name, "description": "", "roles": roles})
+def user(it: User, counts: Counts, mine: bool) -> str:
+    row: dict[str, Any] = {"id": it.id, "display_name": it.name, "account_created": BEGINNING, "description": ""}
+    row |= {"roles": ["moderator"] if it.moderator else []}
+    row |= {"changesets": {"count": counts.changesets}} if counts.changesets is not None else {}
+    row |= {"traces": {"count": 0}, "blocks": {"received": {"count": 0, "active": 0}}}
+    if mine:
+        row |= {"languages": ["en"], "messages": {"received": {"count": 0, "unread": 0}, "sent": {"count": 0}}}
+    return value_of(row)
 
 
 def note_start(it: Note, site: str) -> str:

@@ -69,7 +69,9 @@ class CommonLog(AbstractAccessLogger):
 
     def log(self, request: web.BaseRequest, response: web.StreamResponse, time: float) -> None:  # noqa: ARG002
         version, message = request.version, request._message  # the line as it came, also of a request that no call has
-        asked = shown(f"{request.method} {message.path} HTTP/{version.major}.{version.minor}")
+        # Codes and secrets stand there in the query of OAuth.
+        path = message.path.partition("?")[0] if message.path.startswith("/oauth2/") else message.path
+        asked = shown(f"{request.method} {path} HTTP/{version.major}.{version.minor}")
         user = shown(request.get("user") or "-").replace(" ", "_")
         # A reply that was cut off may not have had its whole head.
         length = max(response.body_length - request["head"], 0) if "head" in request else response.content_length or 0

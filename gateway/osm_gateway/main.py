@@ -3,18 +3,23 @@
 from __future__ import annotations
 
 import asyncio
+import os
 import resource
 import signal
 
 from aiohttp import web
 
-from .app import app_of
+from . import json_write, xml_write
+from .app import LEAFLET, app_of
 from .call import Gateway
+from .id_editor import program_of
 from .links import Address, Links
 from .log import CommonLog, hear_faults, tell
 from .people import BadUsers, People, people_of
 from .room import MEGABYTE, Room
+from .store import BadStore, Store
 from .words import Words, read_words
+from .xml_texts import Texts
 
 ENDING = 20.0
 """Seconds that calls which are being answered have at the end."""
@@ -44,10 +49,35 @@ def links_of(name: str, address: Address, words: Words) -> Links:
     return Links(f"the server of {name}", address, words.links, tell)
 
 
-async def serve(words: Words, people: People) -> int:
+def opened(words: Words) -> Store:
+    """The gateway's own file."""
+    try:
+        return Store(words.data)
+    except BadStore as why:
+        raise SystemExit(f"gateway: {why}") from None
+
+
+def check_editor(folder: str) -> None:
+    try:
+        if folder:
+            program_of(folder)
+    except ValueError as why:
+        raise SystemExit(f"gateway: {why}") from None
+
+
+def licensed(words: Words) -> None:
+    """The strings of a licence in all documents."""
+    texts = Texts()
+    xml_write.licence = "".join(f' {name}="{texts(value)}"' for name, value in words.licence)
+    json_write.licence = "".join(f',"{name}":{json_write.value_of(value)}' for name, value in words.licence)
+
+
+async def serve(words: Words, people: People, store: Store) -> int:
     server = links_of("the map", words.server, words)
     notes = links_of("notes", words.notes, words) if words.notes else None
-    gateway = Gateway(words, people, server, notes, Room(words.room * MEGABYTE, tell))
+    gateway = Gateway(words, people, server, notes, Room(words.room * MEGABYTE, tell), store)
+    if not words.data:
+        tell("authorizations, preferences and discussions are in memory alone: --data names a file for them")
     ended = asyncio.Event()
     for number in (signal.SIGTERM, signal.SIGINT):
         asyncio.get_running_loop().add_signal_handler(number, ended.set)
@@ -63,6 +93,8 @@ async def serve(words: Words, people: People) -> int:
         await runner.cleanup()
         return 6
     tell(f"http://{words.host}:{words.port} in front of http://{words.server.host}:{words.server.port}")
+    if not os.path.isdir(LEAFLET):
+        tell(f"there is no {LEAFLET}: the page has no map without Debian's libjs-leaflet")
     for links in filter(None, (server, notes)):
         links.rest()
     await ended.wait()
@@ -70,6 +102,7 @@ async def serve(words: Words, people: People) -> int:
     await runner.cleanup()
     for links in filter(None, (server, notes)):
         links.close()
+    store.close()
     tell("ended")
     return 0
 
@@ -77,6 +110,8 @@ async def serve(words: Words, people: People) -> int:
 def main() -> int:
     words = read_words()
     people = read_people(words.users)
+    check_editor(words.id)
+    licensed(words)
     many_files()
     hear_faults()
-    return asyncio.run(serve(words, people))
+    return asyncio.run(serve(words, people, opened(words)))

@@ -2,7 +2,7 @@
 
 from __future__ import annotations
 
-from typing import Literal, NotRequired, TypedDict
+from typing import Literal, NamedTuple, NotRequired, TypedDict
 
 Kind = Literal["node", "way", "relation"]
 KINDS: tuple[Kind, ...] = ("node", "way", "relation")
@@ -66,6 +66,12 @@ class Done(TypedDict):
     old_id: int
     new_id: NotRequired[int]
     new_version: NotRequired[int]
+
+
+class Counts(NamedTuple):
+    """What is counted of a user; None where it isn't known."""
+
+    changesets: int | None = None
 
 
 class Comment(TypedDict):

@@ -14,3 +14,8 @@ def moment_of(text: str) -> datetime:
     """A moment as ISO 8601 or as OSM shows it, in UTC where it doesn't say; ValueError where it is none."""
     it = datetime.fromisoformat(text.strip().removesuffix(" UTC"))
     return it if it.tzinfo else it.replace(tzinfo=timezone.utc)
+
+
+def moment_text(seconds: int) -> str:
+    """Seconds since 1970 as the interface writes moments."""
+    return datetime.fromtimestamp(seconds, timezone.utc).strftime("%Y-%m-%dT%H:%M:%SZ")

@@ -8,7 +8,8 @@ from urllib.parse import urlsplit
 
 from .links import Address
 
-USAGE = "gateway/run --server URL --users FILE [--notes URL] [--listen ADDRESS] [--host NAME].. [--public-url URL] [--links N] [--room MB] [--quiet]"
+USAGE = """gateway/run --server URL --users FILE [--notes URL] [--listen ADDRESS] [--host NAME].. [--public-url URL] [--data FILE] [--id FOLDER]
+    [--rate N] [--guesses N] [--copyright TEXT] [--attribution URL] [--license URL] [--links N] [--room MB] [--quiet]"""
 
 
 @dataclass(frozen=True)
@@ -26,6 +27,17 @@ class Words:
     room: int
     """Megabytes."""
     quiet: bool
+    data: str = ""
+    id: str = ""
+    rate: float | None = None
+    """Requests a second of one address."""
+    guesses: int = 20
+    """Wrong tokens that an address may show at once."""
+    licence: tuple[tuple[str, str], ...] = ()
+    """Attributes of documents: `copyright`, `attribution`, `license`."""
+
+
+LICENCE = ("copyright", "attribution", "license")
 
 
 def listening(text: str) -> tuple[str, int]:
@@ -54,6 +66,12 @@ def read_words(words: list[str] | None = None) -> Words:
     parser.add_argument("--host", action="append", default=[], metavar="NAME", help="a name by which clients know this host besides")
     parser.add_argument("--public-url", metavar="URL", help="what clients know this host by in links, as https://map.example")
     parser.add_argument("--room", type=int, default=1024, metavar="MB", help="what all bodies may take together, 1024 MB if not said")
+    parser.add_argument("--data", default="", metavar="FILE", help="where authorizations, preferences and discussions are kept; else in memory")
+    parser.add_argument("--id", default="", metavar="FOLDER", help="a build of the editor iD, which is then served at /id")
+    parser.add_argument("--rate", type=float, metavar="N", help="requests a second that one address may ask, and sixty times as many at once")
+    parser.add_argument("--guesses", type=int, default=20, metavar="N", help="wrong tokens that an address may show at once, 20 if not said")
+    for name in LICENCE:
+        parser.add_argument(f"--{name}", metavar="TEXT", help=f"the attribute {name} of documents and of the capabilities")
     parser.add_argument("--links", type=int, default=8, metavar="N", help="links to each server, at most its workers; 8 if not said")
     parser.add_argument("--quiet", action="store_true", help="no line for each request")
     it = parser.parse_args(words)
@@ -63,9 +81,14 @@ def read_words(words: list[str] | None = None) -> Words:
         public, name = public_of(it.public_url) if it.public_url else (None, host)
     except ValueError as why:
         parser.error(str(why))
+    if it.rate is not None and not 0.01 <= it.rate <= 1e6:
+        parser.error("--rate takes a number from 0.01 to 1000000")
+    if not 1 <= it.guesses <= 10**6:
+        parser.error("--guesses takes a number from 1 to 1000000")
     if not 1 <= it.links <= 64:
         parser.error("--links takes a number from 1 to 64")
     if not 1 <= it.room <= 1_000_000:
         parser.error("--room takes a number from 1 to 1000000")
     hosts = frozenset({host.lower(), name.lower(), "localhost", "127.0.0.1", "::1", *(name.lower() for name in it.host)})
-    return Words(server, notes, it.users, host, port, hosts, public, it.links, it.room, it.quiet)
+    licence = tuple((name, getattr(it, name)) for name in LICENCE if getattr(it, name))
+    return Words(server, notes, it.users, host, port, hosts, public, it.links, it.room, it.quiet, it.data, it.id, it.rate, it.guesses, licence)

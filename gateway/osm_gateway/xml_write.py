@@ -2,11 +2,12 @@
 
 from __future__ import annotations
 
-from collections.abc import Iterable, Iterator
+from collections.abc import Iterable, Iterator, Sequence
 
 from .degrees import degrees_of
+from .discussions import Remark
 from .people import User
-from .rows import Box, Changeset, Comment, Done, Element, Member, Note, edges
+from .rows import Box, Changeset, Comment, Counts, Done, Element, Member, Note, edges
 from .times import utc
 from .xml_texts import Texts
 
@@ -17,8 +18,12 @@ SLICE = 1000
 """Members that are written in one piece."""
 
 
+licence = ""
+"""Attributes that each document has besides (--copyright, --attribution, --license); set once, at the start."""
+
+
 def opened(name: str) -> str:
-    return f'{HEAD}<{name} version="0.6" generator="{GENERATOR}">\n'
+    return f'{HEAD}<{name} version="0.6" generator="{GENERATOR}"{licence}>\n'
 
 
 def closed(name: str) -> str:
@@ -35,7 +40,7 @@ def members(texts: Texts, rows: list[Member]) -> str:
     return "".join([f'  <member type="{row["type"]}" ref="{row["ref"]}" role="{known[row["role"]]}"/>\n' for row in rows])
 
 
-def start(texts: Texts, it: Element) -> str:
+def start_of(texts: Texts, it: Element) -> str:
     """The start of an element's tag, without its end."""
     more = f' redaction="{it["redaction"]}"' if "redaction" in it else ""
     if "lat7" in it:
@@ -54,12 +59,12 @@ def element(texts: Texts, it: Element) -> Iterable[str]:
     inner = '  <nd ref="' + '"/>\n  <nd ref="'.join(map(str, nodes)) + '"/>\n' if nodes else members(texts, rows) if rows else ""  # type: ignore[arg-type]
     if has:
         inner += tags(texts, has)
-    return (f"{start(texts, it)}>\n{inner}</{it['type']}>\n" if inner else f"{start(texts, it)}/>\n",)
+    return (f"{start_of(texts, it)}>\n{inner}</{it['type']}>\n" if inner else f"{start_of(texts, it)}/>\n",)
 
 
 def sliced(texts: Texts, it: Element) -> Iterator[str]:
     """A relation with many members, in several pieces."""
-    yield f"{start(texts, it)}>\n"
+    yield f"{start_of(texts, it)}>\n"
     rows = it["members"]
     for place in range(0, len(rows), SLICE):
         yield members(texts, rows[place : place + SLICE])
@@ -70,13 +75,22 @@ def bounds(it: Box) -> str:
     return "<bounds" + "".join(f' {side}="{degrees_of(units)}"' for side, units in edges(it).items()) + "/>\n"
 
 
-def changeset(texts: Texts, it: Changeset, discussed: bool = False) -> str:
-    fields = texts.attributes(
+def changeset(texts: Texts, it: Changeset, comments: int = 0, talk: Sequence[Remark] | None = None) -> str:
+    """With so many comments, and these where they are asked for."""
+    start = texts.attributes(
         id=it["id"], created_at=it["created_at"], closed_at=it.get("closed_at"), open=it["open"], user=it["user"], uid=it["uid"]
     )
-    fields += "".join(f' {side[:3]}_{side[3:]}="{degrees_of(units)}"' for side, units in edges(it).items())
-    fields += texts.attributes(comments_count=0, changes_count=it["changes_count"])
-    return f"<changeset{fields}>\n{tags(texts, it['tags'])}{'  <discussion/>' if discussed else ''}</changeset>\n"
+    start += "".join(f' {side[:3]}_{side[3:]}="{degrees_of(units)}"' for side, units in edges(it).items())
+    start += texts.attributes(comments_count=comments, changes_count=it["changes_count"])
+    return f"<changeset{start}>\n{tags(texts, it['tags'])}{discussion(texts, talk) if talk is not None else ''}</changeset>\n"
+
+
+def discussion(texts: Texts, talk: Sequence[Remark]) -> str:
+    rows = [
+        f"    <comment{texts.attributes(id=it.id, visible=it.visible, date=it.date, uid=it.uid, user=it.user)}><text>{texts(it.text)}</text></comment>\n"
+        for it in talk
+    ]
+    return f"  <discussion>\n{''.join(rows)}  </discussion>\n" if rows else "  <discussion/>\n"
 
 
 def done(it: Done) -> str:
@@ -84,11 +98,14 @@ def done(it: Done) -> str:
     return f"<{it['type']}{rest}/>\n"
 
 
-def user(texts: Texts, it: User, mine: bool) -> str:
-    """What the users text says of a user; counts aren't known here and left out, and JOSM can't do without a beginning."""
+def user(texts: Texts, it: User, counts: Counts, mine: bool) -> str:
+    """What is known of a user. JOSM can't do without a moment at which the account was made, and nobody knows it."""
     roles = "<roles><moderator/></roles>" if it.moderator else "<roles/>"
-    more = "<languages><lang>en</lang></languages>" if mine else ""
-    return f"<user{texts.attributes(id=it.id, display_name=it.name, account_created=BEGINNING)}><description/>{roles}{more}</user>\n"
+    changesets = f'<changesets count="{counts.changesets}"/>' if counts.changesets is not None else ""
+    rest = f'{roles}{changesets}<traces count="0"/><blocks><received count="0" active="0"/></blocks>'
+    if mine:
+        rest += '<languages><lang>en</lang></languages><messages><received count="0" unread="0"/><sent count="0"/></messages>'
+    return f"<user{texts.attributes(id=it.id, display_name=it.name, account_created=BEGINNING)}><description/>{rest}</user>\n"
 
 
 # ---- notes

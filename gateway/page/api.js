@@ -20,7 +20,7 @@ async function ask(path, options = {}) {
   const headers = { Accept: "application/json" };
   if (token) headers.Authorization = `Bearer ${token}`;
   // Without credentials of its own the browser asks nobody for a password.
-  const reply = await fetch(`/api/0.6/${path}`, { ...options, headers, credentials: "omit" });
+  const reply = await fetch(path.startsWith("/") ? path : `/api/0.6/${path}`, { ...options, headers, credentials: "omit" });
   if (!reply.ok) throw new Refused(reply.status, await reply.text());
   return reply.json();
 }
@@ -40,9 +40,25 @@ export async function map(bounds, at, signal) {
   return (await ask(`map.json?bbox=${box(bounds)}${at ? `&at=${at}` : ""}`, { signal })).elements;
 }
 
+/** Main roads, water and places of a tile. */
+export const overview = (z, x, y, at, signal) => ask(`/overview/${z}/${x}/${y}${at ? `?at=${at}` : ""}`, { signal });
+
+/** Whether the gateway has the editor iD. */
+export const hasEditor = () => ask("/id/there").then((it) => it.there, () => false);
+
 export const history = async (kind, id) => (await ask(`${kind}/${id}/history.json`)).elements;
-export const changesets = async () => (await ask("changesets.json")).changesets;
+/** An element with all that says where it is. */
+export const full = async (kind, id) => (await ask(`${kind}/${id}${kind === "node" ? "" : "/full"}.json`)).elements;
+export const changesets = async (name) => (await ask(`changesets.json${name === undefined ? "" : `?display_name=${encodeURIComponent(name)}`}`)).changesets;
+export const changeset = async (id) => (await ask(`changeset/${id}.json?include_discussion=true`)).changeset;
+export const comment = (id, text) => ask(`changeset/${id}/comment.json`, form({ text }));
 export const user = async () => (await ask("user/details.json")).user;
+
+/** What a changeset did: `{action, element}` in its order. */
+export async function download(id) {
+  const blocks = (await ask(`changeset/${id}/download.json`)).osmChange;
+  return blocks.flatMap((block) => Object.entries(block).flatMap(([action, rows]) => (Array.isArray(rows) ? rows.map((element) => ({ action, element })) : [])));
+}
 
 /** Changesets by their ids, of which any may be missing, a hundred a call. */
 export async function changesetsOf(ids) {
@@ -54,7 +70,9 @@ export async function changesetsOf(ids) {
   return found;
 }
 
-export const notes = async (bounds, signal) => (await ask(`notes.json?bbox=${box(bounds)}`, { signal })).features;
+/** Notes of a box: open ones and those that were closed within a week, or all there ever were. */
+export const notes = async (bounds, ever, signal) => (await ask(`notes.json?bbox=${box(bounds)}${ever ? "&closed=-1" : ""}`, { signal })).features;
+export const note = (id) => ask(`notes/${id}.json`);
 
 const form = (fields) => ({ method: "POST", body: new URLSearchParams(fields) });
 export const openNote = (place, text) => ask("notes.json", form({ lat: place.lat.toFixed(7), lon: place.lng.toFixed(7), text }));

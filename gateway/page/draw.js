@@ -5,6 +5,9 @@ import { make } from "./dom.js";
 import { lookOf, nameOf, pointOf } from "./paint.js";
 import { polygonsOf } from "./rings.js";
 
+/** How thick lines and how large points are at a zoom. */
+const scaleAt = (zoom) => Math.max(0.45, Math.min(1, (zoom - 12) / 5));
+
 const MARKED = { color: "#d6008f", weight: 5, opacity: 0.8, fill: false, interactive: false };
 
 export class Drawing {
@@ -18,6 +21,22 @@ export class Drawing {
     this.marked = null;
   }
 
+  /** Draws a tile's worth of the map from afar (api.overview), each way with its own places. */
+  showFar(tiles) {
+    const looks = new Map();
+    for (const { ways, places } of tiles) {
+      for (const { id, tags, closed, line } of ways) {
+        const points = [];
+        for (let i = 0; i < line.length; i += 2) points.push([line[i], line[i + 1]]);
+        looks.set(`way/${id}`, this.shape({ type: "way", id, tags }, tags, points, closed));
+      }
+      for (const { id, lat, lon, tags } of places) {
+        looks.set(`node/${id}`, { it: { type: "node", id, tags }, level: 9, places: [[lat, lon]], layer: L.circleMarker([lat, lon], { ...pointOf(tags), radius: 2 }) });
+      }
+    }
+    this.put([...looks.values()]);
+  }
+
   show(elements) {
     const places = new Map();
     const ways = new Map();
@@ -25,9 +44,12 @@ export class Drawing {
       if (it.type === "node") places.set(it.id, [it.lat, it.lon]);
       if (it.type === "way") ways.set(it.id, it);
     }
+    this.put(elements.map((it) => this.lookOf(it, ways, places)).filter((look) => look !== null));
+  }
+
+  put(looks) {
     this.layer.clearLayers();
     this.drawn.clear();
-    const looks = elements.map((it) => this.lookOf(it, ways, places)).filter((look) => look !== null);
     looks.sort((a, b) => a.level - b.level);
     // All casings of roads lie below all roads, so that crossings are open.
     for (const look of looks) if (look.casing) this.add(look, L.polyline(look.places, look.casing));
@@ -40,7 +62,7 @@ export class Drawing {
     if (it.type === "node") {
       if (!it.tags) return null;
       const at = places.get(it.id);
-      return { it, level: 9, places: [at], layer: L.circleMarker(at, pointOf(tags)) };
+      return { it, level: 9, places: [at], layer: L.circleMarker(at, this.dotOf(tags)) };
     }
     if (it.type === "relation") {
       if (tags.type !== "multipolygon") return null;
@@ -52,8 +74,15 @@ export class Drawing {
     return line.length > 1 ? this.shape(it, tags, line, closed) : null;
   }
 
+  dotOf(tags) {
+    const style = pointOf(tags);
+    return { ...style, radius: Math.max(2, style.radius * scaleAt(this.map.getZoom())) };
+  }
+
   shape(it, tags, places, closed) {
     const look = lookOf(tags, closed);
+    const scale = scaleAt(this.map.getZoom());
+    for (const style of [look.style, look.casing]) if (style?.weight) style.weight = Math.max(1, style.weight * scale);
     const layer = look.style.fill ? L.polygon(places, look.style) : L.polyline(places, look.style);
     return { ...look, it, places, layer };
   }
@@ -70,15 +99,15 @@ export class Drawing {
     this.drawn.set(`${look.it.type}/${look.it.id}`, look);
   }
 
-  /** The element that is drawn nearest to a place, within so many pixels, small things first. */
-  nearest(place, pixels = 30) {
+  /** The elements that are drawn within so many pixels of a place, the nearest first, small things before large ones. */
+  near(place, pixels = 30) {
     const at = this.map.latLngToLayerPoint(place);
-    let best = null;
+    const rows = [];
     for (const look of this.drawn.values()) {
       const away = this.away(look, at) - look.level;
-      if (away <= pixels && (best === null || away < best.away)) best = { away, it: look.it };
+      if (away <= pixels) rows.push({ away, it: look.it });
     }
-    return best?.it ?? null;
+    return rows.sort((a, b) => a.away - b.away).map((row) => row.it);
   }
 
   away(look, at) {

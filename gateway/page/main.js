@@ -1,12 +1,16 @@
-/** The page: which part is shown, which box and which moment the map is of. */
+/** The page: which part is shown, which box and which moment the map is of, and what its address says. */
 
 import * as L from "/leaflet/leaflet.esm.js";
 import * as api from "./api.js";
+import { elementPath, go, listen, placeOf, routeOf } from "./addresses.js";
 import { boxOf, Changesets } from "./changesets.js";
-import { byId, tell } from "./dom.js";
+import { byId, make, tell } from "./dom.js";
 import { Drawing } from "./draw.js";
-import { showElement } from "./element.js";
+import { follow, showElement } from "./element.js";
+import { farTiles, FAR } from "./far.js";
+import { Labels } from "./labels.js";
 import { Notes } from "./notes.js";
+import { nameOf } from "./paint.js";
 import { Past } from "./past.js";
 
 const AREA = 0.25;
@@ -18,10 +22,10 @@ map.attributionControl.setPrefix("Leaflet");
 L.control.scale({ imperial: false }).addTo(map);
 
 const drawing = new Drawing(map, choose);
-const changesets = new Changesets(map, (it) => boxOf(it) && map.fitBounds(boxOf(it), { maxZoom: 18, padding: [30, 30] }));
-const notes = new Notes(map, () => show("notes"));
-const past = new Past(() => load());
-let chosen = null;
+const labels = new Labels(map);
+const changesets = new Changesets(map, (path) => { go(path); open(); });
+const notes = new Notes(map, (id) => { show("notes"); if (id) stay(`/note/${id}`); });
+const past = new Past((at) => { follow(at); load(); });
 let running = null;
 let timer = 0;
 
@@ -43,40 +47,59 @@ for (const button of document.querySelectorAll("nav button")) {
 function choose(it, place) {
   if (notes.waits) {
     notes.at(place);
-    return;
+    return null;
   }
-  chosen = it;
   drawing.choose(it);
   show("element");
-  showElement(it, past.at);
+  stay(elementPath(it));
+  return showElement(it, past.at);
 }
 
 // ---- the map
+
+/** What is drawn of a box, and the line that says what isn't. */
+async function drawn(bounds, signal) {
+  const near = map.getZoom() > FAR.most;
+  if (near && api.area(bounds) <= AREA) {
+    try {
+      const elements = await api.map(bounds, past.at, signal);
+      drawing.show(elements);
+      return [elements.length, elements.length ? "" : "There is nothing here"];
+    } catch (why) {
+      if (why.status !== 400) throw why;
+    }
+  }
+  if (map.getZoom() < FAR.least) {
+    drawing.put([]);
+    changesets.showFar();
+    return [0, "Boxes of the newest changesets: zoom in to see the map"];
+  }
+  const tiles = await farTiles(bounds, Math.min(map.getZoom(), FAR.most), past.at, signal);
+  drawing.showFar(tiles);
+  const count = drawing.drawn.size;
+  const whole = tiles.every((it) => it.whole) ? "" : ", not of all of the box";
+  return [count, count ? `Main roads, water and places${whole}: zoom in to see all` : "There is nothing here from afar: zoom in to see all"];
+}
 
 async function load() {
   running?.abort();
   running = new AbortController();
   const { signal } = running;
   const bounds = map.getBounds();
-  if (api.area(bounds) > AREA) {
-    drawing.show([]);
-    tell("Zoom in to see the map");
-  } else {
-    try {
-      tell("…");
-      const elements = await api.map(bounds, past.at, signal);
-      drawing.show(elements);
-      tell(elements.length ? "" : "There is nothing here");
-      document.body.dataset.drawn = String(elements.length);
-    } catch (why) {
-      if (why.name === "AbortError") return;
-      drawing.show([]);
-      tell(why.message);
-    }
+  changesets.showBoxes();
+  try {
+    tell("…");
+    const [count, line] = await drawn(bounds, signal);
+    tell(line);
+    document.body.dataset.drawn = String(count);
+  } catch (why) {
+    if (why.name === "AbortError") return;
+    drawing.put([]);
+    tell(why.message);
   }
+  labels.show(drawing.drawn.values());
+  await notes.load(past.at, signal);
   document.body.dataset.at = String(past.at ?? "now");
-  if (chosen && past.at) drawing.choose(chosen);
-  await notes.load(signal);
 }
 
 map.on("moveend", () => {
@@ -86,27 +109,106 @@ map.on("moveend", () => {
   timer = setTimeout(load, WAIT);
 });
 map.on("click", (event) => notes.waits && notes.at(event.latlng));
+
+// ---- choosing by keys
+
+/** The elements around the middle, in the order in which Enter goes through them. */
+let around = { at: null, rows: [], place: -1 };
+
+function next(step) {
+  const centre = map.getCenter();
+  if (!around.at?.equals(centre) || !around.rows.length) around = { at: centre, rows: drawing.near(centre, 60).slice(0, 50), place: step > 0 ? -1 : 0 };
+  const count = around.rows.length;
+  if (!count) {
+    tell("There is nothing in the middle of the map");
+    return;
+  }
+  around.place = (around.place + step + count) % count;
+  const it = around.rows[around.place];
+  choose(it, centre);
+  tell(`${around.place + 1} of ${count}: ${it.type} ${it.id}${nameOf(it) ? `, ${nameOf(it)}` : ""}. Enter goes on, Shift and Enter back, Tab leads to it`);
+}
+
 // Who works by keys is shown where the middle is.
 addEventListener("keydown", () => (document.body.dataset.by = "keys"), true);
 addEventListener("pointerdown", () => delete document.body.dataset.by, true);
 map.getContainer().addEventListener("keydown", (event) => {
   if (event.key !== "Enter" || event.target !== map.getContainer()) return;
   if (notes.waits) notes.at(map.getCenter());
-  else {
-    const it = drawing.nearest(map.getCenter());
-    if (it) choose(it, map.getCenter());
-    else tell("There is nothing in the middle of the map");
-  }
+  else next(event.shiftKey ? -1 : 1);
 });
 
-/** Where the address says, or at the newest changeset that has a box, or the world. */
-function start(rows) {
-  const [, zoom, lat, lon] = /^#map=(\d+)\/(-?[\d.]+)\/(-?[\d.]+)$/.exec(location.hash) ?? [];
+// ---- addresses
+
+const shows = {
+  async element(kind, id) {
+    const it = { type: kind, id: Number(id) };
+    drawing.choose(it);
+    show("element");
+    await showElement(it, past.at);
+    const rows = await api.full(kind, id).catch(() => []);
+    const places = rows.filter((row) => row.lat !== undefined).map((row) => [row.lat, row.lon]);
+    return places.length ? L.latLngBounds(places) : null;
+  },
+  async changeset(id) {
+    show("changesets");
+    return changesets.show(id);
+  },
+  async note(id) {
+    show("notes");
+    const place = await notes.open(id);
+    return place && L.latLngBounds([place]);
+  },
+  async user(name) {
+    show("changesets");
+    past.take(await changesets.of(name));
+    return changesets.rows.map(boxOf).find((it) => it !== null) ?? null;
+  },
+  async changesets() {
+    show("changesets");
+    past.take(await changesets.of(undefined));
+    return null;
+  },
+};
+
+/** The path that is shown. */
+let opened = "";
+
+/** The address becomes that of what is shown already. */
+function stay(path) {
+  go(path);
+  opened = path;
+}
+
+/** Shows what the address says; where it says no place the map goes to what is shown. */
+async function open() {
+  const place = placeOf(location.hash);
+  const here = map._loaded ? map.getCenter() : null;
+  const isHere = here && place && place.zoom === map.getZoom() && Math.abs(here.lat - place.lat) < 1e-4 && Math.abs(here.lng - place.lon) < 1e-4;
+  if (place && !isHere) map.setView([place.lat, place.lon], place.zoom);
+  const route = routeOf(location.pathname);
+  const asked = location.pathname;
+  const isShown = opened === asked;
+  opened = asked;
+  if (isShown || !route) return;
+  const box = await shows[route.name](...route.parts);
+  document.title = `${route.parts.join(" ") || "Changesets"} · Hegunsap`;
+  if (!box || opened !== asked || (place && !isHere)) return;
+  if (!map._loaded || !map.getBounds().contains(box)) map.fitBounds(box, { maxZoom: 18, padding: [30, 30] });
+}
+
+/** Where the address says, or what it is of, or at the newest changeset that has a box, or the world. */
+async function start() {
+  await open();
+  const rows = await changesets.load();
+  past.take(rows);
+  if (map._loaded) return;
   const box = rows.map(boxOf).find((it) => it !== null);
-  if (zoom) map.setView([Number(lat), Number(lon)], Number(zoom));
-  else if (box) map.setView(box.getCenter(), Math.max(16, Math.min(18, map.getBoundsZoom(box))));
+  if (box) map.setView(box.getCenter(), Math.max(16, Math.min(18, map.getBoundsZoom(box))));
   else map.setView([20, 0], 2);
 }
+
+listen(open);
 
 // ---- who calls
 
@@ -121,8 +223,14 @@ byId("caller").querySelector("form").addEventListener("submit", async (event) =>
   }
 });
 
+/** A link to iD, where the gateway has it. */
+async function offerEditor() {
+  if (!(await api.hasEditor())) return;
+  const it = make("a", { href: "/id/", id: "edit" }, "Edit with iD");
+  it.addEventListener("click", () => { it.href = `/id/${location.hash}`; });
+  byId("past").append(it);
+}
+
 show("element");
-changesets.load().then((rows) => {
-  past.take(rows);
-  start(rows);
-});
+start();
+offerEditor();

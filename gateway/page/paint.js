@@ -26,8 +26,11 @@ const WATERWAYS = { river: 6, canal: 5, stream: 2, ditch: 1, drain: 1 };
 /** Lower is drawn earlier: areas, water, buildings, roads by weight, points. */
 const LEVELS = { area: 0, waterway: 1, building: 2, line: 3, road: 4 };
 
+/** The value of a table's own key: a tag may have the name of something that every object has, as `constructor`. */
+const of = (table, key) => (key !== undefined && Object.hasOwn(table, key) ? table[key] : undefined);
+
 function areaColor(tags) {
-  for (const [key, colors] of AREAS) if (colors[tags[key]]) return colors[tags[key]];
+  for (const [key, colors] of AREAS) if (of(colors, of(tags, key))) return colors[tags[key]];
   return null;
 }
 
@@ -37,7 +40,7 @@ export function lookOf(tags, closed) {
     return { sort: "building", level: LEVELS.building, style: { color: "#c4b6ab", weight: 1, fill: true, fillColor: "#d9d0c9", fillOpacity: 1 } };
   }
   const fill = closed ? areaColor(tags) : null;
-  const isRoad = ROADS[tags.highway];
+  const isRoad = of(ROADS, tags.highway);
   if (fill && !(isRoad && tags.area !== "yes")) {
     return { sort: "area", level: LEVELS.area, style: { stroke: false, fill: true, fillColor: fill, fillOpacity: 1 } };
   }
@@ -48,7 +51,7 @@ export function lookOf(tags, closed) {
   }
   if (tags.railway) return { sort: "line", level: LEVELS.line, style: { color: "#707070", weight: 3, dashArray: "8 6", fill: false } };
   if (tags.waterway) {
-    return { sort: "waterway", level: LEVELS.waterway, style: { color: "#aad3df", weight: WATERWAYS[tags.waterway] ?? 2, fill: false } };
+    return { sort: "waterway", level: LEVELS.waterway, style: { color: "#aad3df", weight: of(WATERWAYS, tags.waterway) ?? 2, fill: false } };
   }
   if (tags.boundary) return { sort: "line", level: LEVELS.line, style: { color: "#a86bb5", weight: 2, dashArray: "10 5", fill: false } };
   const bare = Object.keys(tags).length === 0;

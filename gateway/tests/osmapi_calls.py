@@ -107,9 +107,7 @@ def changesets(it: Trial, changeset: int, made: Row) -> None:
     for filters in every:
         want(changeset in it.call(n, "ChangesetsGet", **filters), True, f"ChangesetsGet of {filters}")
     it.call(a, "ChangesetClose")
-    it.ends(osmapi.ElementNotFoundApiError, 404, lambda: it.call(a, "ChangesetComment", changeset, "hm"))
-    it.ends(osmapi.ElementNotFoundApiError, 404, lambda: it.call(a, "ChangesetSubscribe", changeset))
-    it.ends(Exception, 404, lambda: it.call(a, "ChangesetUnsubscribe", changeset))
+    discussion(it, changeset)
     a._CurrentChangesetId = changeset
     it.ends(TypeError, 409, lambda: it.call(a, "NodeCreate", {"lat": 1, "lon": 1, "tag": {}}))
     a._CurrentChangesetId = 0
@@ -121,6 +119,17 @@ def changesets(it: Trial, changeset: int, made: Row) -> None:
         own.NodeCreate({"id": -1 - number, "lat": 3 + number / 100, "lon": 3, "tag": {}})
     own.flush()
     want(len(it.call(n, "Map", 2.9, 2.9, 3.1, 3.1)), 7, "what changesetauto sent")
+
+
+def discussion(it: Trial, changeset: int) -> None:
+    """Of a changeset that is closed."""
+    want(it.call(it.bob, "ChangesetComment", changeset, "hm <&>")["comments_count"], 1, "ChangesetComment")
+    found = it.call(it.nobody, "ChangesetGet", changeset, True)["discussion"]
+    want([(row["user"], row["text"]) for row in found], [("bob", "hm <&>")], "a discussion")
+    it.ends(osmapi.AlreadySubscribedApiError, 409, lambda: it.call(it.bob, "ChangesetSubscribe", changeset))
+    it.call(it.bob, "ChangesetUnsubscribe", changeset)
+    it.ends(osmapi.NotSubscribedApiError, 404, lambda: it.call(it.bob, "ChangesetUnsubscribe", changeset))
+    it.call(it.alice, "ChangesetSubscribe", changeset)
 
 
 def notes(it: Trial) -> None:
@@ -137,7 +146,7 @@ def notes(it: Trial) -> None:
     want([float(found[axis]) for axis in ("lat", "lon")], [48.1, 11.5], "the place of a note")
     want(len(it.call(n, "NotesGet", 11, 48, 12, 49)), 2, "NotesGet")
     want(len(it.call(n, "NotesGet", 11, 48, 12, 49, closed=0)), 2, "NotesGet of open ones")
-    it.ends(osmapi.ElementNotFoundApiError, 404, lambda: it.call(n, "NotesSearch", "note"))
+    want([row["id"] for row in it.call(n, "NotesSearch", "NOTE")], [note["id"]], "NotesSearch")
 
 
 def run(program: str) -> str:

@@ -45,14 +45,12 @@ def users(gateway: Gateway) -> None:
     want(json.loads(gateway.well("GET", "user/details.json", who=named))["user"]["display_name"], "Ünï Cödé", "a name by Basic")
     want(ET.fromstring(gateway.well("GET", "user/1"))[0].attrib["display_name"], "alice", "user/1")
     want([it.attrib["id"] for it in ET.fromstring(gateway.well("GET", "users?users=3,1,9"))], ["1", "3"], "users")
-    want(len(ET.fromstring(gateway.well("GET", "user/preferences", who=ALICE))[0]), 0, "preferences")
     refused(gateway, 401, "authenticate", "GET", "user/details")
     refused(gateway, 401, "authenticate", "GET", "user/details", who=basic("bob", "alicetoken"))
     refused(gateway, 401, "authenticate", "GET", "user/details", who="Bearer nobodys")
     refused(gateway, 401, "authenticate", "GET", "user/details", who="Digest x")
     refused(gateway, 401, "authenticate", "GET", "user/details", who="Basic !!!")
     refused(gateway, 404, "no user", "GET", "user/99")
-    refused(gateway, 404, "Preferences", "PUT", "user/preferences", "<osm/>", ALICE)
     has(gateway.api("GET", "user/details").fields["WWW-Authenticate"], "Basic realm=", "a challenge")
 
 
@@ -88,7 +86,6 @@ def changesets(gateway: Gateway) -> None:
     refused(gateway, 409, "The user doesn't own that changeset", "PUT", f"changeset/{first}/close", who=BOB)
     refused(gateway, 409, f"The changeset {second} was closed at 20", "PUT", f"changeset/{second}/close", who=BOB)
     refused(gateway, 404, "no changeset", "GET", "changeset/999")
-    refused(gateway, 404, "Discussions", "POST", f"changeset/{first}/subscribe", who=ALICE)
 
 
 def elements(gateway: Gateway) -> None:
@@ -172,7 +169,6 @@ def notes(gateway: Gateway) -> None:
     refused(gateway, 400, "No text", "POST", "notes?lat=1&lon=1", "")
     refused(gateway, 400, "lat was not a number", "POST", "notes?lat=x&lon=1&text=x", "")
     refused(gateway, 400, "bbox", "GET", "notes")
-    refused(gateway, 404, "search", "GET", "notes/search?q=x")
     gateway.well("POST", f"notes/{number}/reopen?text=again", "", BOB)
 
 
@@ -209,7 +205,7 @@ def coding(gateway: Gateway) -> None:
     has(gateway.api("GET", "node/1.xml", Accept="application/json").fields["Content-Type"], "application/xml", "an end of the path")
     refused(gateway, 405, "There is no DELETE here", "DELETE", "map", who=ALICE)
     refused(gateway, 404, "There is no /api/0.6/nothing", "GET", "nothing")
-    refused(gateway, 404, "traces", "GET", "trackpoints?bbox=0,0,1,1&page=0")
+    refused(gateway, 404, "traces", "GET", "gpx/1/details", who=ALICE)
 
 
 def log(gateway: Gateway) -> None:

@@ -12,6 +12,7 @@ from typing import Any
 from behind import ALICE, BOB, Gateway, Site, Wrong, has, want
 from osmosis import loaded
 from selenium import webdriver
+from selenium.common.exceptions import StaleElementReferenceException
 from selenium.webdriver import ActionChains, Keys
 from selenium.webdriver.chrome.service import Service
 from selenium.webdriver.common.by import By
@@ -50,7 +51,14 @@ class Page:
 
     def until(self, what: str, is_so: Callable[[], object]) -> None:
         end = time.monotonic() + WAIT
-        while not is_so():
+
+        def is_so_now() -> object:
+            try:
+                return is_so()
+            except StaleElementReferenceException:
+                return False  # the page was drawn anew in between
+
+        while not is_so_now():
             if time.monotonic() > end:
                 raise Wrong(f"{what} doesn't come; the page says {self.text('#state')!r} and {self.text('aside')[:400]!r}")
             time.sleep(0.05)

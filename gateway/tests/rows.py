@@ -284,7 +284,7 @@ class Play:
 
 def run(_: str) -> str:
     sessions = [row for row in rows_of(os.path.join(TOP, "crates", "session_rows", "stdin")) if row.is_session()]
-    with Standing() as standing, Gateway(standing.port) as gateway:
+    with Standing() as standing, Gateway(standing.port, more=("--guesses", "1000000")) as gateway:
         play = Play(standing, gateway)
         for row in sessions:
             for it, reply in zip(requests_of(row.sent), replies_of(row.wanted)):

@@ -256,9 +256,10 @@ public final class Trial {
                 return "ChangesetClosedException " + why.getChangesetId() + " " + why.getClosedOn();
             }
         });
-        trial("a comment on a changeset", "OsmApiException: Discussions of changesets aren't served here", () -> {
+        trial("a comment on a changeset", "hm by alice", () -> {
             api.addCommentToChangeset(new Changeset(one.getId()), "hm", QUIET);
-            return "";
+            var said = new OsmServerChangesetReader().readChangeset(one.getId(), true, QUIET).getDiscussion();
+            return said.get(0).getText() + " by " + said.get(0).getUser().getName();
         });
         trial("a close", "false", () -> {
             api.closeChangeset(two, QUIET);
