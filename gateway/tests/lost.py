@@ -7,6 +7,7 @@ import json
 import os
 import random
 import socket
+import tempfile
 import threading
 import time
 from collections.abc import Callable
@@ -16,7 +17,7 @@ from typing import Any
 import forms
 from behind import ALICE, BOB, USERS, Came, Gateway, Site, Wrong, has, want
 from dropping import LATE, Dropping, Fate
-from serving import Server
+from serving import Server, family
 
 SEED, UPLOADS, MAPPERS = 20261130, 1000, 8
 LOST_AS = ("reply", "reply", "half", "502")
@@ -138,7 +139,7 @@ def downloaded(gateway: Gateway, changeset: int) -> list[Done]:
     return [(action, row["type"], row["id"], row["version"]) for block in it["osmChange"] for action, rows in block.items() for row in rows]
 
 
-def drawn(program: str) -> str:
+def drawn(program: str, uploads: int, more: tuple[str, ...] = ()) -> str:
     """Uploads on eight links at once: two of the mappers share a changeset, the others have their own, one after another."""
     fates = random.Random(SEED)
     dropped: list[Dropping] = []
@@ -147,7 +148,8 @@ def drawn(program: str) -> str:
         dropped.append(Dropping(port, lambda number, _: fates.choice(LOST_AS) if number % 3 == 0 else "pass"))
         return dropped[-1]
 
-    with Site(program, between=between) as gateway:
+    with Site(program, more=more, between=between) as gateway:
+        want(len(family(gateway.process.pid)), 5 if "--processes" in more else 1, "processes of the gateway")
         mappers = [Mapper(gateway, ALICE if number % 2 else BOB, random.Random(SEED + number)) for number in range(MAPPERS)]
         shared, faults = mappers[0], list[BaseException]()
         shared.begin()
@@ -156,7 +158,7 @@ def drawn(program: str) -> str:
 
         def work(it: Mapper) -> None:
             try:
-                for number in range(UPLOADS // MAPPERS):
+                for number in range(uploads // MAPPERS):
                     if not it.is_shared and number % 40 == 0:
                         it.begin()
                     it.one()
@@ -178,7 +180,7 @@ def drawn(program: str) -> str:
             want(sorted(found) if len(said) > 1 else found, sorted(said[0] + said[-1]) if len(said) > 1 else said[0], f"what the changeset {number} has")
         opened = len(json.loads(gateway.well("GET", "changesets.json"))["changesets"])
         want(opened, sum(len(it.done) for it in mappers) - 1, "changesets")
-    return f"{UPLOADS} drawn changes with {count} operations on {MAPPERS} links, {dropped[0].lost} answers lost: each made once, each answer right"
+    return f"{uploads} drawn changes with {count} operations on {MAPPERS} links, {dropped[0].lost} answers lost: each made once, each answer right"
 
 
 # ---- what never came, and what comes later
@@ -374,5 +376,11 @@ def others(program: str) -> list[str]:
     return told
 
 
+def several(program: str) -> str:
+    """The same through four processes of one gateway, which write into the same changesets."""
+    with tempfile.TemporaryDirectory() as folder:
+        return f"by four processes {drawn(program, UPLOADS // 4, ('--processes', '4', '--data', os.path.join(folder, 'data')))}"
+
+
 def run(program: str) -> str:
-    return "; ".join((drawn(program), never(program), for_ever(), *others(program)))
+    return "; ".join((drawn(program, UPLOADS), several(program), never(program), for_ever(), *others(program)))
