@@ -107,7 +107,7 @@ def main():
     here = os.path.dirname(os.path.abspath(__file__))
     program = sys.argv[1] if len(sys.argv) > 1 else f"{here}/../crates/osm/out/osm"
     if not os.access(program, os.X_OK):
-        sys.exit(f"there is no program {program}: `./osm pipe --users examples/users.txt` once, or rt ci, builds it")
+        sys.exit(f"there is no program {program}: ./osm build makes it")
     with tempfile.TemporaryDirectory() as folder:
         for name, before, requests in works():
             took, written = least(program, folder, before)

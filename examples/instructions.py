@@ -1,11 +1,10 @@
 #!/usr/bin/env python3
 """Where an upload's instructions go: examples/instructions.py [--program PROGRAM] [--few 200] [--many 600]
 
-Counts by valgrind's callgrind what hub_bench does for so few and for so many uploads, of eleven new elements and of eleven new versions,
-on a book and on a hub. Prints the instructions of one upload, which are the difference by the uploads between, and how they are shared
-among functions, in hundredths: each with all that it calls, but for the last rows, which stand for themselves wherever they are called.
-An indented row is part of the one above it on a hub; a book publishes nothing, and has room made and is applied to once. PROGRAM is
-crates/hub_bench/out/hub_bench where none is named. Needs Debian's valgrind.
+Counts by valgrind's callgrind what `osm pipe` does for so few and for so many uploads, of ten new nodes and a way, and of ten new
+versions and one. Prints the instructions of one upload, which are the difference by the uploads between, and how they are shared among
+functions, in hundredths: each with all that it calls, but for the last rows, which stand for themselves wherever they are called. An
+indented row is part of the one above it. PROGRAM is crates/osm/out/osm where none is named. Needs Debian's valgrind.
 """
 
 from __future__ import annotations
@@ -24,13 +23,9 @@ from typing import NamedTuple
 # Callgrind counts a repeated instruction once for each byte, so the C library is to fill and copy by other ones.
 NO_REPEATS = {"GLIBC_TUNABLES": "glibc.cpu.hwcaps=-ERMS"}
 HERE = os.path.dirname(os.path.abspath(__file__))
-UPLOADS = {
-    "new, book": "book load",
-    "new, hub": "1 load",
-    "versions, book": "book apart",
-    "versions, hub": "1 apart",
-}
-"""Each kind of upload, and the order of hub_bench that does so many of them."""
+USERS = "1 alicetoken user alice\n"
+UPLOADS = ("new", "versions")
+"""Each kind of upload."""
 LINE = re.compile(r"\s*([\d,]+) \([ .\d]+%\)\s+[^ :]*:(.*?)(?:::<.*?)?(?: \[[^\]]*\])?$")
 
 
@@ -48,17 +43,19 @@ class Row(NamedTuple):
 
 MACHINE = "map_machine::machine::MapMachineMachine::"
 PLAN = f"{MACHINE}plan|map_machine::planning::plan_command"
+REQUEST = "api_desk::requests::request_of"
+ANSWER = r"api_desk::hub_desk::HubDesk\w*::answer"
 ROWS = (
-    Row("making the body", ("workload::loads::Load::next_request|hub_bench::texts::versions",)),
-    Row("reading the body", ("hub_bench::seats::change_of", "osm_json::change::read_change|osm_change::changes::Change::build")),
-    Row("planning", (PLAN,)),
-    Row("committing, locked", ("hub_bench::seats::Seat::commit",), without=PLAN),
+    Row("reading the message", (r"http_wire::wire::Wire::read_message",)),
+    Row("reading the request", (REQUEST,)),
+    Row("  reading the body", ("osm_json::blocks::blocks", "osm_json::change::read_change")),
+    Row("planning", ("snapshot_hub::session::Session::plan", PLAN)),
+    Row("committing", (ANSWER,), without=f"{REQUEST}|snapshot_hub::session::Session::plan"),
     Row("  judging", (r"hub_core::\w+::(\w+::)?(judge|settle_by)", f"{MACHINE}(still|settle)|map_machine::machine::settle_upload")),
     Row("    the answer's bytes", ("map_machine::answers::bytes_of", "map_machine::machine::bytes_from")),
-    Row("  publishing", ("snapshot_hub::press::Press::publish", "snapshot_hub::held::Held::publish", "snapshot_hub::held::publish_for")),
-    Row("    making ready", ("snapshot_hub::shown::make_ready", f"{MACHINE}(accepts|make_room)")),
-    Row("      test of the entry", (f"{MACHINE}accepts", "map_machine::acceptance::takes")),
-    Row("      room", (f"{MACHINE}make_room", "osm_world::worlds::World::make_room")),
+    Row("  publishing", ("snapshot_hub::held::Held::publish", "snapshot_hub::press::Press::publish", "snapshot_hub::held::publish_for")),
+    Row("    test of the entry", (f"{MACHINE}accepts", "map_machine::acceptance::takes")),
+    Row("    room", (f"{MACHINE}make_room", "osm_world::worlds::World::make_room")),
     Row("    applying", (f"{MACHINE}apply", "osm_world::worlds::World::apply")),
     Row("  copies of the entry", (f"{MACHINE}copy", "osm_model::commands::EntryTryCopy::copy")),
     Row("memcpy, memmove", (".*mem(cpy|move).*",), alone=True),
@@ -99,16 +96,45 @@ def costs_in(path: str, inclusive: str) -> Counter[str]:
     return costs
 
 
-def counted(program: str, order: str, uploads: int) -> Costs:
+def request(method: str, path: str, body: str) -> str:
+    head = f"{method} /api/0.6/{path} HTTP/1.1\r\nAuthorization: Bearer alicetoken\r\n"
+    return f"{head}Content-Length: {len(body)}\r\n\r\n{body}"
+
+
+def eleven(number: int, version: int = 0) -> str:
+    """An upload of ten nodes and a way over them: new ones, or versions behind this one of the first that were made."""
+    sign, action = (1, "modify") if version else (-1, "create")
+    old = f',"version":{version}' if version else ""
+    places = ((480_000_000 + (7_919 * number + 104_729 * i) % 1_000_000, 110_000_000 + (104_729 * number + 7_919 * i) % 1_000_000) for i in range(1, 11))
+    elements = [f'{{"type":"node","id":{sign * i}{old},"lat7":{lat7},"lon7":{lon7}}}' for i, (lat7, lon7) in enumerate(places, 1)]
+    way = ",".join(str(sign * i) for i in range(1, 11))
+    elements.append(f'{{"type":"way","id":{sign}{old},"nodes":[{way}]}}')
+    return request("POST", "changeset/1/upload", f'{{"osmChange":[{{"{action}":[{",".join(elements)}]}}]}}')
+
+
+def sent(kind: str, uploads: int) -> str:
+    """So many uploads of a kind to one changeset. Before new versions the elements are made."""
+    made = [request("PUT", "changeset/create", ""), eleven(0)]
+    versions = kind == "versions"
+    return "".join(made + [eleven(number, number if versions else 0) for number in range(1, uploads + 1)])
+
+
+def counted(program: str, kind: str, uploads: int) -> Costs:
     with tempfile.TemporaryDirectory() as folder:
         path = os.path.join(folder, "callgrind.out")
-        output("valgrind", "-q", "--tool=callgrind", f"--callgrind-out-file={path}", program, given=f"{order} {uploads}\n")
+        users = os.path.join(folder, "users.txt")
+        with open(users, "w", encoding="ascii") as file:
+            file.write(USERS)
+        words = ("valgrind", "-q", "--tool=callgrind", f"--callgrind-out-file={path}", program, "pipe", "--users", users)
+        replies = output(*words, given=sent(kind, uploads)).count("HTTP/1.1 200 OK")
+        if replies != uploads + 2:
+            raise SystemExit(f"{replies} of {uploads + 2} requests were answered with 200")
         return Costs(costs_in(path, "yes"), costs_in(path, "no"))
 
 
-def of_one(program: str, order: str, few: int, many: int) -> Costs:
+def of_one(program: str, kind: str, few: int, many: int) -> Costs:
     """What one upload costs, in thousandths of an instruction."""
-    less, more = (counted(program, order, uploads) for uploads in (few, many))
+    less, more = (counted(program, kind, uploads) for uploads in (few, many))
     return Costs(*(Counter({name: 1000 * (count - old[name]) // (many - few) for name, count in new.items()}) for old, new in zip(less, more)))
 
 
@@ -123,7 +149,7 @@ def table(columns: dict[str, Costs]) -> None:
 
 def main() -> int:
     parser = argparse.ArgumentParser(description=(__doc__ or "").split("\n")[0])
-    parser.add_argument("--program", default=os.path.join(HERE, "..", "crates", "hub_bench", "out", "hub_bench"))
+    parser.add_argument("--program", default=os.path.join(HERE, "..", "crates", "osm", "out", "osm"))
     parser.add_argument("--few", type=int, default=200)
     parser.add_argument("--many", type=int, default=600)
     words = parser.parse_args()
@@ -134,7 +160,7 @@ def main() -> int:
     if words.many <= words.few:
         parser.error("--many has to be above --few")
     with ThreadPoolExecutor(2) as pool:
-        costs = pool.map(lambda order: of_one(words.program, order, words.few, words.many), UPLOADS.values())
+        costs = pool.map(lambda kind: of_one(words.program, kind, words.few, words.many), UPLOADS)
         table(dict(zip(UPLOADS, costs)))
     return 0
 

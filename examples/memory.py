@@ -107,7 +107,7 @@ def main() -> int:
     parser.add_argument("--most", type=figures, default=(float("inf"), float("inf")))
     words = parser.parse_args()
     if not os.access(words.program, os.X_OK):
-        parser.error(f"there is no program {words.program}: ./osm builds it")
+        parser.error(f"there is no program {words.program}: ./osm build makes it")
     if not LINKS * A_WAY <= words.nodes <= MANY:
         parser.error(f"--nodes takes {LINKS * A_WAY} to {MANY}")
     above = False

@@ -160,7 +160,7 @@ def main() -> int:
     parser.add_argument("--wait", type=float, default=60)
     it = parser.parse_args()
     if not os.access(it.program, os.X_OK):
-        print(f"there is no program {it.program}: ./osm builds it", file=sys.stderr)
+        print(f"there is no program {it.program}: ./osm build makes it", file=sys.stderr)
         return 2
     wrong = try_stop([it.program], it.links, it.seconds, it.wait)
     wrong += try_full([it.program], it.wait)

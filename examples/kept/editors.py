@@ -13,7 +13,7 @@ from serving import Link
 Element = dict[str, Any]
 Key = tuple[str, int]
 Todo = list[tuple[str, Element]]  # actions, each with an element as it is asked for
-SAMPLE = 200  # histories of an editor that are read in a round
+SAMPLE = 200  # histories of an editor that are read in a round, where no other number is told
 
 
 class Command(NamedTuple):
@@ -93,7 +93,10 @@ class Editor:
     def send(self, command: Command) -> None:
         """One that is refused ends the link: it isn't known then whether it is kept."""
         self.sent = command
-        reply = self.link.ask(*command.request())
+        self.answered(command, self.link.ask(*command.request()))
+
+    def answered(self, command: Command, reply: serving.Reply) -> None:
+        """Learns what a reply tells of a change."""
         if reply.status != 200:
             self.faults.append(f"{command.kind} by user {self.user}: {reply.status} {reply.body[:200]!r}")
             raise serving.Lost("refused")
@@ -190,11 +193,11 @@ class Editor:
             if len(rest) == len(command.todo):
                 self.uploaded(command, [(it["id"], it["version"]) for it in rest])
 
-    def check(self, link: Link) -> None:
-        """Holds what was changed since the last time against what the server has."""
+    def check(self, link: Link, histories: int = SAMPLE) -> None:
+        """Holds what was changed since the last time against what the server has, so many elements by their histories too."""
         for number in sorted(self.touched):
             self.check_changeset(link, number, self.changesets[number])
-        for name in self.draw.sample(sorted(self.changed), min(SAMPLE, len(self.changed))):
+        for name in self.draw.sample(sorted(self.changed), min(histories, len(self.changed))):
             self.check_history(link, name)
         self.touched, self.changed = set(), set()
 

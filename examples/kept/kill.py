@@ -16,7 +16,7 @@ Before, it is tried which files are refused; at last the same is done on a disk 
 limit on the file's length: the program has to end with status 9, and to go on from the file once there is room. 0 leaves that out.
 
 PROGRAM is crates/osm/out/osm where none is named. Status 0 where all holds, 1 where something doesn't, 2 where it can't be run. A kill ends
-the program and not the machine: what a failing machine leaves is proved of the file, and not tried here.
+the program and not the machine: what a failing machine leaves is proved of the file, and drawn by power_loss.py.
 """
 
 from __future__ import annotations
@@ -279,7 +279,7 @@ def main() -> int:
         parser.add_argument(f"--{name}", type=int, default=usual)
     it = parser.parse_args()
     if not os.access(it.program, os.X_OK):
-        print(f"there is no program {it.program}: ./osm builds it", file=sys.stderr)
+        print(f"there is no program {it.program}: ./osm build makes it", file=sys.stderr)
         return 2
     with tempfile.TemporaryDirectory() as folder:
         run = Run(it.program, os.path.join(folder, "journal"), it.links, it.seed)

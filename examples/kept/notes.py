@@ -108,7 +108,7 @@ def main() -> int:
         parser.add_argument(f"--{name}", type=int, default=usual)
     it = parser.parse_args()
     if not os.access(it.program, os.X_OK):
-        print(f"there is no program {it.program}: ./osm builds it", file=sys.stderr)
+        print(f"there is no program {it.program}: ./osm build makes it", file=sys.stderr)
         return 2
     draw, faults, text = random.Random(it.seed), [], HEADER  # type: random.Random, list[str], bytes
     writers = [Writer(i + 1, it.seed * 1000 + i) for i in range(it.links)]

@@ -78,10 +78,16 @@ async def authorize(gateway: Gateway, request: web.Request) -> web.StreamRespons
         return led(gateway, headers["Location"])
     except FatalClientError as why:
         # Whoever can't be led back to a known address stays here (RFC 6749, section 4.1.2.1).
-        return pages.page("This can't be allowed", pages.paragraph(f"{why.error}: {why.description or 'the application is not known here'}"), status=400)
+        return pages.page(
+            "This can't be allowed", pages.paragraph(f"{why.error}: {why.description or 'the application is not known here'}"), status=400
+        )
     except OAuth2Error as why:
         fault: Any = why
-        return led(gateway, fault.in_uri(fault.redirect_uri)) if why.redirect_uri else pages.page("This can't be allowed", pages.paragraph(str(why)), status=400)
+        return (
+            led(gateway, fault.in_uri(fault.redirect_uri))
+            if why.redirect_uri
+            else pages.page("This can't be allowed", pages.paragraph(str(why)), status=400)
+        )
 
 
 def consent(gateway: Gateway, scopes: list[str], found: dict[str, Any], name: str = "", wrong: str = "") -> web.Response:
@@ -173,16 +179,25 @@ async def applications(gateway: Gateway, request: web.Request) -> web.StreamResp
         return registering(given, f"An address is https, http to 127.0.0.1 or localhost, a scheme of the application's own, or {OUT_OF_BAND}.")
     number, secret = gateway.oauth.grants.register(user, title, redirects, scopes, "secret" in given)
     rows = [f"client_id {number}"] + ([f"client_secret {secret}"] if secret else [])
-    return pages.page(f"{title} is registered", pages.listed(rows), pages.paragraph("The secret isn't shown again." if secret else "It has no secret, and uses PKCE."))
+    return pages.page(
+        f"{title} is registered",
+        pages.listed(rows),
+        pages.paragraph("The secret isn't shown again." if secret else "It has no secret, and uses PKCE."),
+    )
 
 
 def registering(given: dict[str, str], wrong: str) -> web.Response:
-    boxes = "".join(pages.entry(text, scope, "yes", "checkbox", "checked" if scope in given or not given and "gpx" not in scope else "") for scope, text in SCOPES.items())
-    redirects = f'<label>Addresses that it may be led back to, one a line <textarea name="redirects" rows="3">{escape(given.get("redirects", ""))}</textarea></label>\n'
+    boxes = "".join(
+        pages.entry(text, scope, "yes", "checkbox", "checked" if scope in given or not given and "gpx" not in scope else "")
+        for scope, text in SCOPES.items()
+    )
+    field = f'<textarea name="redirects" rows="3">{escape(given.get("redirects", ""))}</textarea>'
+    redirects = f"<label>Addresses that it may be led back to, one a line {field}</label>\n"
+    keeps = "It can keep a secret (a web server can, a page or a program on a desk can't)"
     parts = (
         pages.paragraph(wrong, "wrong") if wrong else "", pages.entry("The application's name", "application", given.get("application", "")), redirects,
         pages.paragraph("What it may ask for:"), boxes,
-        pages.entry("It can keep a secret (a web server can, a page or a program on a desk can't)", "secret", "yes", "checkbox", "checked" if "secret" in given else ""),
+        pages.entry(keeps, "secret", "yes", "checkbox", "checked" if "secret" in given else ""),
         pages.paragraph("Who you are:"), pages.who(given.get("name", "")), pages.button("do", "register", "Register it"),
     )  # fmt: skip
     return pages.page("Register an application", pages.form(*parts), status=400 if wrong else 200)
@@ -195,7 +210,11 @@ async def authorized(gateway: Gateway, request: web.Request) -> web.StreamRespon
         return pages.page("Applications that you have allowed something", pages.form(pages.who(), pages.button("do", "show", "Show them")))
     user = gateway.callers.log_in(request, given.get("name", ""), given.get("token", ""))
     if user is None:
-        return pages.page("Applications", pages.form(pages.paragraph(WRONG, "wrong"), pages.who(given.get("name", "")), pages.button("do", "show", "Show them")), status=401)
+        return pages.page(
+            "Applications",
+            pages.form(pages.paragraph(WRONG, "wrong"), pages.who(given.get("name", "")), pages.button("do", "show", "Show them")),
+            status=401,
+        )
     if "end" in given:
         gateway.oauth.grants.withdraw(user, given["end"])
     return shown(gateway, user)
@@ -205,7 +224,10 @@ def shown(gateway: Gateway, user: User) -> web.Response:
     rows = gateway.oauth.grants.granted(user)
     parts = [pages.paragraph(f"{name}: {scopes}") + pages.button("end", number, f"End what {name} may") for number, name, scopes, _ in rows]
     title = f"What {user.name} has allowed"
-    return pages.page(title, pages.form(*parts, pages.paragraph("To end one, say again who you are:"), pages.who(user.name)) if rows else pages.paragraph("Nothing."))
+    return pages.page(
+        title,
+        pages.form(*parts, pages.paragraph("To end one, say again who you are:"), pages.who(user.name)) if rows else pages.paragraph("Nothing."),
+    )
 
 
 __all__ = ["applications", "authorize", "authorized", "metadata", "native", "revoke", "token"]

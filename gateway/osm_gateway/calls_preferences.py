@@ -42,7 +42,12 @@ class PreferencesReader(Reader):
 def checked(key: str, value: str) -> tuple[str, str]:
     for name, text in (("key", key), ("value", value)):
         if len(text) > LONGEST or name == "key" and not text:
-            raise Refused(400, f"The {name} of a preference has 1 to {LONGEST} characters" if name == "key" else f"The value of a preference has at most {LONGEST} characters")
+            raise Refused(
+                400,
+                f"The {name} of a preference has 1 to {LONGEST} characters"
+                if name == "key"
+                else f"The value of a preference has at most {LONGEST} characters",
+            )
     return key, value
 
 

@@ -27,6 +27,7 @@ WALKED = 2_000
 
 async def count_of(call: Call, reply: Spool) -> int:
     """The notes of a reply, counted in turns."""
+
     def reading() -> Iterator[str]:
         for it in events_of(reply):
             yield "." if it.path == documents.SOME and it.sort is Sort.CLOSED else ""
@@ -142,6 +143,7 @@ def wanted_of(call: Call, days: int, closed_since: datetime | None) -> Wanted:
 
 async def last_note(call: Call, server: Links) -> int:
     """The largest id: they go up by one. Looked for from the last known one on, in steps that double and then halve."""
+
     async def there(number: int) -> bool:
         try:
             (await call.ask("GET", f"notes/{number}", server=server)).close()
@@ -194,5 +196,3 @@ async def searched(call: Call, server: Links, box: str | None, wanted: Wanted, l
                 break
     rows = sorted(found.values(), key=lambda it: (wanted.moment(it), it.head["id"]), reverse=call.query("order") != "oldest")
     return [it.head["id"] for it in rows[:limit]]
-
-

@@ -40,7 +40,7 @@ def members(texts: Texts, rows: list[Member]) -> str:
     return "".join([f'  <member type="{row["type"]}" ref="{row["ref"]}" role="{known[row["role"]]}"/>\n' for row in rows])
 
 
-def start_of(texts: Texts, it: Element) -> str:
+def start(texts: Texts, it: Element) -> str:
     """The start of an element's tag, without its end."""
     more = f' redaction="{it["redaction"]}"' if "redaction" in it else ""
     if "lat7" in it:
@@ -59,12 +59,12 @@ def element(texts: Texts, it: Element) -> Iterable[str]:
     inner = '  <nd ref="' + '"/>\n  <nd ref="'.join(map(str, nodes)) + '"/>\n' if nodes else members(texts, rows) if rows else ""  # type: ignore[arg-type]
     if has:
         inner += tags(texts, has)
-    return (f"{start_of(texts, it)}>\n{inner}</{it['type']}>\n" if inner else f"{start_of(texts, it)}/>\n",)
+    return (f"{start(texts, it)}>\n{inner}</{it['type']}>\n" if inner else f"{start(texts, it)}/>\n",)
 
 
 def sliced(texts: Texts, it: Element) -> Iterator[str]:
     """A relation with many members, in several pieces."""
-    yield f"{start_of(texts, it)}>\n"
+    yield f"{start(texts, it)}>\n"
     rows = it["members"]
     for place in range(0, len(rows), SLICE):
         yield members(texts, rows[place : place + SLICE])
@@ -77,12 +77,12 @@ def bounds(it: Box) -> str:
 
 def changeset(texts: Texts, it: Changeset, comments: int = 0, talk: Sequence[Remark] | None = None) -> str:
     """With so many comments, and these where they are asked for."""
-    start = texts.attributes(
+    fields = texts.attributes(
         id=it["id"], created_at=it["created_at"], closed_at=it.get("closed_at"), open=it["open"], user=it["user"], uid=it["uid"]
     )
-    start += "".join(f' {side[:3]}_{side[3:]}="{degrees_of(units)}"' for side, units in edges(it).items())
-    start += texts.attributes(comments_count=comments, changes_count=it["changes_count"])
-    return f"<changeset{start}>\n{tags(texts, it['tags'])}{discussion(texts, talk) if talk is not None else ''}</changeset>\n"
+    fields += "".join(f' {side[:3]}_{side[3:]}="{degrees_of(units)}"' for side, units in edges(it).items())
+    fields += texts.attributes(comments_count=comments, changes_count=it["changes_count"])
+    return f"<changeset{fields}>\n{tags(texts, it['tags'])}{discussion(texts, talk) if talk is not None else ''}</changeset>\n"
 
 
 def discussion(texts: Texts, talk: Sequence[Remark]) -> str:

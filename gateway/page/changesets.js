@@ -132,7 +132,8 @@ export class Changesets {
       make("h1", {}, `Changeset ${it.id}${it.tags.comment ? `: ${it.tags.comment}` : ""}`),
       make("p", { class: "small" }, "by ", link(userPath(it.user), it.user), `, ${when(it.created_at)}, ${changesOf(it)}, ${state}`),
       make("table", {}, make("tbody", {}, ...tags)),
-      ...it.comments.map((row) => make("p", { class: "said", id: `c${row.id}` }, make("span", { class: "small" }, link(userPath(row.user), row.user), `, ${when(row.date)}`), "\n", row.text)),
+      ...it.comments.map((row) =>
+        make("p", { class: "said", id: `c${row.id}` }, make("span", { class: "small" }, link(userPath(row.user), row.user), `, ${when(row.date)}`), "\n", row.text)),
       ...(it.open ? [] : [this.answer(it)]),
     ];
   }
@@ -153,7 +154,8 @@ export class Changesets {
 
   contents(rows) {
     const listed = rows.slice(0, LISTED).map(({ action, element }) =>
-      make("li", {}, make("span", { class: action }, DONE_WORDS[action]), " ", link(elementPath(element), `${element.type} ${element.id}`), `, version ${element.version}${nameOf(element) ? `: ${nameOf(element)}` : ""}`));
+      make("li", {}, make("span", { class: action }, DONE_WORDS[action]), " ", link(elementPath(element), `${element.type} ${element.id}`),
+        `, version ${element.version}${nameOf(element) ? `: ${nameOf(element)}` : ""}`));
     const more = rows.length > LISTED ? [make("li", {}, `and ${rows.length - LISTED} more`)] : [];
     return make("div", {}, make("h2", {}, "What it did"), make("ul", { class: "done" }, ...listed, ...more));
   }

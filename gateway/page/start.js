@@ -7,6 +7,7 @@ try {
   await import("./main.js");
 } catch (why) {
   const there = await fetch("/leaflet/leaflet.esm.js", { method: "HEAD" }).then((reply) => reply.ok, () => false);
-  tell(there ? `The page can't be started: ${why.message}` : "The map can't be drawn: Leaflet isn't installed beside the gateway (apt-get install libjs-leaflet, and start the gateway again)");
+  const missing = "The map can't be drawn: Leaflet isn't installed beside the gateway (apt-get install libjs-leaflet, and start the gateway again)";
+  tell(there ? `The page can't be started: ${why.message}` : missing);
   document.body.dataset.failed = "true";
 }

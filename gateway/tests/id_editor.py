@@ -88,16 +88,24 @@ def files(gateway: Gateway) -> None:
 
 
 def run(program: str) -> str:
-    with tempfile.TemporaryDirectory(ignore_cleanup_errors=True) as folder, Site(program, notes=True, more=("--id", BUILD)) as gateway, elsewhere() as port:
+    with tempfile.TemporaryDirectory(ignore_cleanup_errors=True) as folder, Site(
+        program, notes=True, more=("--id", BUILD)
+    ) as gateway, elsewhere() as port:
         files(gateway)
         page = Page(gateway, folder)
         try:
             here = spoken(page, f"{page.site}/id")
-            number, _ = registered(gateway, f"http://127.0.0.1:{port}/land.html", ("read_prefs", "write_prefs", "write_api", "read_gpx", "write_notes"))
+            number, _ = registered(
+                gateway, f"http://127.0.0.1:{port}/land.html", ("read_prefs", "write_prefs", "write_api", "read_gpx", "write_notes")
+            )
             there = spoken(page, f"http://127.0.0.1:{port}/elsewhere.html?url={page.site}&client_id={number}")
             want(there, here, "the same from another origin")
             want(page.driver.get_cookies(), [], "cookies")
-            severe = [row["message"] for row in page.driver.get_log("browser") if row["level"] == "SEVERE" and not any(it in row["message"] for it in (" 401 ", " 409 "))]
+            severe = [
+                row["message"]
+                for row in page.driver.get_log("browser")
+                if row["level"] == "SEVERE" and not any(it in row["message"] for it in (" 401 ", " 409 "))
+            ]
             want([it for it in severe if "favicon" not in it], [], "errors of the page")
         finally:
             page.driver.quit()

@@ -21,7 +21,9 @@ def preferences(gateway: Gateway) -> None:
         return found
 
     want(shown(), {}, "none at first")
-    gateway.well("PUT", "user/preferences", '<osm><preferences><preference k="a.json" v="1 &lt;"/><preference k="ü" v=""/></preferences></osm>', ALICE)
+    gateway.well(
+        "PUT", "user/preferences", '<osm><preferences><preference k="a.json" v="1 &lt;"/><preference k="ü" v=""/></preferences></osm>', ALICE
+    )
     want((shown(), shown(BOB)), ({"a.json": "1 <", "ü": ""}, {}), "alice's, and bob's")
     want(gateway.well("GET", "user/preferences/a.json", who=ALICE), "1 <", "one, whose key ends as a form does")
     gateway.well("PUT", "user/preferences/c%2Fd%20e", "x\ny", ALICE)
@@ -30,7 +32,15 @@ def preferences(gateway: Gateway) -> None:
     gateway.well("DELETE", "user/preferences/a.json", who=ALICE)
     refused(gateway, 404, "no such preference", "DELETE", "user/preferences/a.json", who=ALICE)
     refused(gateway, 404, "no such preference", "GET", "user/preferences/a.json", who=ALICE)
-    refused(gateway, 400, "Duplicate", "PUT", "user/preferences", '<osm><preferences><preference k="a" v="1"/><preference k="a" v="2"/></preferences></osm>', ALICE)
+    refused(
+        gateway,
+        400,
+        "Duplicate",
+        "PUT",
+        "user/preferences",
+        '<osm><preferences><preference k="a" v="1"/><preference k="a" v="2"/></preferences></osm>',
+        ALICE,
+    )
     refused(gateway, 400, "255", "PUT", "user/preferences/long", "x" * 256, ALICE)
     many = "".join(f'<preference k="{number}" v=""/>' for number in range(151))
     refused(gateway, 413, "150", "PUT", "user/preferences", f"<osm><preferences>{many}</preferences></osm>", ALICE)
@@ -50,9 +60,15 @@ def counts(gateway: Gateway) -> None:
         gateway.changeset()
     found = ET.fromstring(gateway.well("GET", "user/details", who=ALICE))[0]
     here = found.find("changesets"), found.find("blocks/received"), found.find("messages/received")
-    want([it.attrib for it in here if it is not None], [{"count": "3"}, {"count": "0", "active": "0"}, {"count": "0", "unread": "0"}], "counts of alice")
+    want(
+        [it.attrib for it in here if it is not None],
+        [{"count": "3"}, {"count": "0", "active": "0"}, {"count": "0", "unread": "0"}],
+        "counts of alice",
+    )
     want(found.findtext("languages/lang"), "en", "languages")
-    want([it["user"]["changesets"] for it in json.loads(gateway.well("GET", "users.json?users=1,2"))["users"]], [{"count": 3}, {"count": 0}], "of both")
+    want(
+        [it["user"]["changesets"] for it in json.loads(gateway.well("GET", "users.json?users=1,2"))["users"]], [{"count": 3}, {"count": 0}], "of both"
+    )
 
 
 def discussions(gateway: Gateway) -> None:
@@ -69,9 +85,17 @@ def discussions(gateway: Gateway) -> None:
     bare = ET.fromstring(gateway.well("GET", f"changeset/{number}"))[0]
     want((bare.attrib["comments_count"], bare.find("discussion")), ("2", None), "a changeset without its discussion")
     rows = ET.fromstring(gateway.well("GET", f"changeset/{number}?include_discussion=true")).findall("changeset/discussion/comment")
-    want([(it.attrib["user"], it.attrib["uid"], it.findtext("text")) for it in rows], [("bob", "2", "why <&>\nü"), ("alice", "1", "so")], "a discussion")
+    want(
+        [(it.attrib["user"], it.attrib["uid"], it.findtext("text")) for it in rows],
+        [("bob", "2", "why <&>\nü"), ("alice", "1", "so")],
+        "a discussion",
+    )
     found = json.loads(gateway.well("GET", f"changeset/{number}.json?include_discussion=true"))["changeset"]
-    want([(it["user"], it["text"], it["visible"]) for it in found["comments"]], [("bob", "why <&>\nü", True), ("alice", "so", True)], "the same as JSON")
+    want(
+        [(it["user"], it["text"], it["visible"]) for it in found["comments"]],
+        [("bob", "why <&>\nü", True), ("alice", "so", True)],
+        "the same as JSON",
+    )
     listed = json.loads(gateway.well("GET", f"changesets.json?changesets={number}"))["changesets"]
     want([it["comments_count"] for it in listed], [2], "how many comments a list says")
     refused(gateway, 409, "already subscribed", "POST", f"changeset/{number}/subscribe", "", BOB)
@@ -119,7 +143,11 @@ def notes(gateway: Gateway) -> None:
         has(items[0].findtext("description") or "", "alice opened it: a tree\n", path)
         want((len(items), (items[0].findtext("link") or "").endswith(f"/note/{tree}")), (1 if "/1" in path or f"/{tree}." in path else 2, True), path)
     places = ET.fromstring(gateway.well("GET", f"notes.gpx?{BOX}")).findall("{*}wpt")
-    want([(it.attrib["lat"], it.findtext("{*}name")) for it in places], [("48.1000000", f"Note: {tree}"), ("48.1000000", f"Note: {bench}")], "notes as GPX")
+    want(
+        [(it.attrib["lat"], it.findtext("{*}name")) for it in places],
+        [("48.1000000", f"Note: {tree}"), ("48.1000000", f"Note: {bench}")],
+        "notes as GPX",
+    )
     refused(gateway, 403, "moderator", "DELETE", f"notes/{tree}", "text=spam", ALICE)
     want(ET.fromstring(gateway.well("DELETE", f"notes/{tree}", "text=spam", BOB)).findtext("note/status"), "hidden", "a note that bob hides")
     refused(gateway, 410, "already been deleted", "GET", f"notes/{tree}")
@@ -144,13 +172,22 @@ def many_notes(gateway: Gateway) -> None:
 
 def traces(gateway: Gateway) -> None:
     came = gateway.api("GET", "trackpoints?bbox=0,0,0.1,0.1&page=0")
-    want((came.status, ET.fromstring(came.body).tag, len(ET.fromstring(came.body))), (200, "{http://www.topografix.com/GPX/1/0}gpx", 0), "an empty GPX")
+    want(
+        (came.status, ET.fromstring(came.body).tag, len(ET.fromstring(came.body))), (200, "{http://www.topografix.com/GPX/1/0}gpx", 0), "an empty GPX"
+    )
     refused(gateway, 400, "bbox", "GET", "trackpoints?page=0")
     refused(gateway, 400, "Page number", "GET", "trackpoints?bbox=0,0,1,1&page=-1")
 
 
 def licences(server: int) -> None:
-    words = ("--copyright", 'We & "you"', "--attribution", "https://map.example/copyright", "--license", "https://opendatacommons.org/licenses/odbl/1-0/")
+    words = (
+        "--copyright",
+        'We & "you"',
+        "--attribution",
+        "https://map.example/copyright",
+        "--license",
+        "https://opendatacommons.org/licenses/odbl/1-0/",
+    )
     with Gateway(server, more=(*words, "--public-url", "https://map.example")) as gateway:
         wanted = {"copyright": words[1], "attribution": words[3], "license": words[5]}
         for path in ("capabilities", "map?bbox=0,0,0.1,0.1", "changesets"):

@@ -49,7 +49,14 @@ def code_of(came: Came) -> dict[str, str]:
 
 
 def address(number: str, **more: str) -> str:
-    fields = {"client_id": number, "response_type": "code", "redirect_uri": BACK, "scope": "read_prefs", "code_challenge": CHALLENGE, "code_challenge_method": "S256"}
+    fields = {
+        "client_id": number,
+        "response_type": "code",
+        "redirect_uri": BACK,
+        "scope": "read_prefs",
+        "code_challenge": CHALLENGE,
+        "code_challenge_method": "S256",
+    }
     return "/oauth2/authorize?" + urlencode({name: value for name, value in (fields | more).items() if value})
 
 
@@ -102,7 +109,11 @@ def with_secret(gateway: Gateway) -> None:
         want((came.fields["Cache-Control"], "expires_in" in json.loads(came.text)), ("no-store", False), "a token that lasts")
     code = code_of(allowed(gateway, start, "bob", "bobtoken"))["code"]
     wrong = {"grant_type": "authorization_code", "client_id": number, "code": code, "redirect_uri": place, "client_secret": "x"}
-    want((post(gateway, "/oauth2/token", wrong).status, post(gateway, "/oauth2/token", wrong | {"client_secret": ""}).status), (401, 401), "a wrong secret")
+    want(
+        (post(gateway, "/oauth2/token", wrong).status, post(gateway, "/oauth2/token", wrong | {"client_secret": ""}).status),
+        (401, 401),
+        "a wrong secret",
+    )
     shown = allowed(gateway, address(number, redirect_uri=OOB), "bob", "bobtoken")
     want(urlsplit(shown.fields["Location"]).path, "/oauth2/authorize/native", "a page that shows the code")
     copied = re.findall("<code>(.*?)</code>", gateway.ask("GET", shown.fields["Location"]).text)
@@ -127,18 +138,26 @@ def as_the_editor(gateway: Gateway) -> None:
 def refusals(gateway: Gateway) -> None:
     number, _ = registered(gateway, BACK, ("read_prefs",))
     for why, path in (
-        ("an unknown application", address("nobody")), ("another address", address(number, redirect_uri="https://elsewhere.example/back")),
-        ("an address that only begins so", address(number, redirect_uri=f"{BACK}/more")), ("no address of iD's host", address("id", redirect_uri="http://elsewhere.example/id/land.html")),
+        ("an unknown application", address("nobody")),
+        ("another address", address(number, redirect_uri="https://elsewhere.example/back")),
+        ("an address that only begins so", address(number, redirect_uri=f"{BACK}/more")),
+        ("no address of iD's host", address("id", redirect_uri="http://elsewhere.example/id/land.html")),
     ):  # fmt: skip
         came = gateway.ask("GET", path)
         want((came.status, came.fields["Location"]), (400, None), f"{why}: nobody is led there")
     for why, more, error in (
-        ("without PKCE", {"code_challenge": "", "code_challenge_method": ""}, "invalid_request"), ("plain", {"code_challenge_method": "plain"}, "invalid_request"),
-        ("a scope that it hasn't", {"scope": "read_prefs write_api"}, "invalid_scope"), ("a token at once", {"response_type": "token"}, "unsupported_response_type"),
+        ("without PKCE", {"code_challenge": "", "code_challenge_method": ""}, "invalid_request"),
+        ("plain", {"code_challenge_method": "plain"}, "invalid_request"),
+        ("a scope that it hasn't", {"scope": "read_prefs write_api"}, "invalid_scope"),
+        ("a token at once", {"response_type": "token"}, "unsupported_response_type"),
     ):  # fmt: skip
         came = gateway.ask("GET", address(number, state="s", **more))
         want((came.status, code_of(came)["error"], code_of(came)["state"]), (302, error, "s"), why)
-    want(code_of(allowed(gateway, address(number, state="s"), answer="no")), {"error": "access_denied", "error_description": "The user has denied it", "state": "s"}, "a denial")
+    want(
+        code_of(allowed(gateway, address(number, state="s"), answer="no")),
+        {"error": "access_denied", "error_description": "The user has denied it", "state": "s"},
+        "a denial",
+    )
     want(allowed(gateway, address(number), "alice", "bobtoken").status, 401, "a wrong token in the form")
     code = code_of(allowed(gateway, address(number)))["code"]
     for why, more in (("a wrong verifier", {"code_verifier": "x" * 43}), ("no verifier", {"code_verifier": ""}), ("another application", {"client_id": "josm"}),
@@ -207,6 +226,7 @@ def kept(server: int) -> None:
 def guesses(server: int) -> None:
     """An address guesses twenty times and then waits, by Basic, Bearer, in the form; others aren't held up, nor is the name for whom it is known."""
     with Gateway(server) as gateway:
+
         def tried(address: str, who: str) -> Came:
             return gateway.api("GET", "user/details", who=who, X_Forwarded_For=f"10.0.0.1, {address}")
 
@@ -232,5 +252,3 @@ def run(program: str) -> str:
         kept(gateway.server)
         guesses(gateway.server)
     return f"requests-oauthlib logs in; {len(parts) + 2} parts of applications, codes, tokens, scopes, refusals, a new start, guesses"
-
-

@@ -10,8 +10,14 @@ NODE = '<osm><node changeset="{}" lat="1" lon="1"/></osm>'
 
 
 def preflight(gateway: Gateway, method: str, path: str) -> None:
-    came = gateway.ask("OPTIONS", path, Origin=ORIGIN, Access_Control_Request_Method=method, Access_Control_Request_Headers="authorization,content-type")
-    want((came.status, came.fields["Access-Control-Allow-Origin"], came.fields["Access-Control-Allow-Credentials"]), (204, "*", None), f"a preflight of {path}")
+    came = gateway.ask(
+        "OPTIONS", path, Origin=ORIGIN, Access_Control_Request_Method=method, Access_Control_Request_Headers="authorization,content-type"
+    )
+    want(
+        (came.status, came.fields["Access-Control-Allow-Origin"], came.fields["Access-Control-Allow-Credentials"]),
+        (204, "*", None),
+        f"a preflight of {path}",
+    )
     allowed = came.fields["Access-Control-Allow-Methods"].split(", "), came.fields["Access-Control-Allow-Headers"].lower().split(", ")
     want((method in allowed[0], {"authorization", "content-type"} <= set(allowed[1])), (True, True), f"what {path} allows")
 
@@ -34,7 +40,8 @@ def with_bearer(gateway: Gateway, who: str) -> int:
         ("POST", f"changeset/{number}/upload", f'<osmChange><create><node id="-1" changeset="{number}" lat="1" lon="1"/></create></osmChange>'),
         ("PUT", f"changeset/{number}", "<osm><changeset/></osm>"), ("PUT", f"changeset/{number}/close", None), ("GET", f"changeset/{number}/download", None),
         ("POST", f"changeset/{number}/comment?text=x", ""), ("POST", f"changeset/{number}/unsubscribe", ""), ("GET", "changesets?user=1", None),
-        ("POST", "notes?lat=1&lon=1&text=x", ""), ("POST", "notes/1/comment?text=y", ""), ("POST", "notes/1/close", ""), ("POST", "notes/1/reopen", ""), ("GET", "notes?bbox=0,0,2,2", None),
+        ("POST", "notes?lat=1&lon=1&text=x", ""), ("POST", "notes/1/comment?text=y", ""), ("POST", "notes/1/close", ""),
+        ("POST", "notes/1/reopen", ""), ("GET", "notes?bbox=0,0,2,2", None),
     )  # fmt: skip
     for method, path, body in calls:
         preflight(gateway, method, f"/api/0.6/{path}")
@@ -43,7 +50,11 @@ def with_bearer(gateway: Gateway, who: str) -> int:
     for path in ("/oauth2/token", "/oauth2/revoke"):
         preflight(gateway, "POST", path)
         want(gateway.ask("POST", path, "", Origin=ORIGIN).fields["Access-Control-Allow-Origin"], "*", path)
-    want(asked(gateway, "PUT", "node/create", "<osm/>", who).fields["Access-Control-Expose-Headers"].split(", ")[0], "Error", "a refusal that may be read")
+    want(
+        asked(gateway, "PUT", "node/create", "<osm/>", who).fields["Access-Control-Expose-Headers"].split(", ")[0],
+        "Error",
+        "a refusal that may be read",
+    )
     return len(calls) + 4
 
 
@@ -55,7 +66,9 @@ def refused(gateway: Gateway, who: str) -> None:
     came = gateway.api("PUT", "changeset/create", "<osm><changeset/></osm>", "", Cookie="token=alicetoken")
     want((came.status, came.fields["Set-Cookie"]), (401, None), "a cookie")
     came = asked(gateway, "GET", "user/details", who="Bearer nobodys")
-    want((came.status, came.fields["WWW-Authenticate"]), (401, 'Bearer error="invalid_token"'), "a challenge that makes no browser ask for a password")
+    want(
+        (came.status, came.fields["WWW-Authenticate"]), (401, 'Bearer error="invalid_token"'), "a challenge that makes no browser ask for a password"
+    )
     for path in ("/oauth2/authorize?client_id=josm", "/oauth2/applications", "/oauth2/authorized_applications"):
         want(gateway.ask("GET", path, Origin=ORIGIN).fields["Access-Control-Allow-Origin"], None, f"{path}, which no other page reads")
         want(gateway.ask("POST", path, "name=alice&token=alicetoken", who, Origin=ORIGIN).status, 403, f"{path}, which no other page sends")

@@ -37,7 +37,9 @@ def path_of(page: Page) -> str:
 
 def uploaded(gateway: Gateway, changeset: int, rows: str, who: str = ALICE) -> dict[str, list[int]]:
     """New ids by kind."""
-    reply = json.loads(gateway.well("POST", f"changeset/{changeset}/upload.json", f"<osmChange><create>{rows}</create></osmChange>", who, Accept="application/json"))
+    reply = json.loads(
+        gateway.well("POST", f"changeset/{changeset}/upload.json", f"<osmChange><create>{rows}</create></osmChange>", who, Accept="application/json")
+    )
     found: dict[str, list[int]] = {}
     for row in reply["diffResult"]:
         found.setdefault(row["type"], []).append(row["new_id"])
@@ -59,10 +61,22 @@ def odd_tags(page: Page, gateway: Gateway) -> None:
     """Values and keys that are names of what every object of JavaScript has."""
     number = gateway.changeset(comment="odd")
     lat, lon = 45.1, -29.9
-    nodes = "".join(node(number, 1 + place, lat + place % 2 * 0.001, lon + place // 2 * 0.001, tag("place", "constructor") if place == 5 else "") for place in range(6))
-    words = ("highway=constructor", "natural=constructor", "waterway=toString", "constructor=x", "building=hasOwnProperty", "__proto__=y", "landuse=__proto__")
+    nodes = "".join(
+        node(number, 1 + place, lat + place % 2 * 0.001, lon + place // 2 * 0.001, tag("place", "constructor") if place == 5 else "")
+        for place in range(6)
+    )
+    words = (
+        "highway=constructor",
+        "natural=constructor",
+        "waterway=toString",
+        "constructor=x",
+        "building=hasOwnProperty",
+        "__proto__=y",
+        "landuse=__proto__",
+    )
     ways = "".join(
-        f'<way id="{-1 - place}" changeset="{number}"><nd ref="-1"/><nd ref="-2"/><nd ref="-4"/><nd ref="-1"/>{tag(*word.split("="))}</way>' for place, word in enumerate(words)
+        f'<way id="{-1 - place}" changeset="{number}"><nd ref="-1"/><nd ref="-2"/><nd ref="-4"/><nd ref="-1"/>{tag(*word.split("="))}</way>'
+        for place, word in enumerate(words)
     )
     made = uploaded(gateway, number, nodes + ways)
     visit(page, f"/#map=17/{lat + 0.0005}/{lon + 0.0005}")
@@ -80,7 +94,10 @@ def odd_tags(page: Page, gateway: Gateway) -> None:
 def written(page: Page, gateway: Gateway) -> None:
     """Names of a street along it, of a place, none of which lies over another one."""
     number = gateway.changeset(comment="names")
-    nodes = [node(number, 1, LAT + 0.001, LON, tag("place", "village") + tag("name", "Oberdorf")), node(number, 2, LAT + 0.001, LON, tag("place", "hamlet") + tag("name", "Under it"))]
+    nodes = [
+        node(number, 1, LAT + 0.001, LON, tag("place", "village") + tag("name", "Oberdorf")),
+        node(number, 2, LAT + 0.001, LON, tag("place", "hamlet") + tag("name", "Under it")),
+    ]
     uploaded(gateway, number, "".join(nodes))
     gateway.well("PUT", f"changeset/{number}/close", who=ALICE)
     page.open(f"#map=17/{LAT}/{LON}")
@@ -94,9 +111,19 @@ def far(page: Page, gateway: Gateway) -> None:
     """A box with more nodes than a map has, from afar: its main road and its town, in a line what isn't shown."""
     for part in range(6):
         number = gateway.changeset(comment="many")
-        nodes = "".join(node(number, 1 + place, FAR_LAT + part * 0.002 + place // 100 * 0.00001, FAR_LON + place % 100 * 0.0005) for place in range(9_990))
+        nodes = "".join(
+            node(number, 1 + place, FAR_LAT + part * 0.002 + place // 100 * 0.00001, FAR_LON + place % 100 * 0.0005) for place in range(9_990)
+        )
         road = f'<way id="-1" changeset="{number}"><nd ref="-1"/><nd ref="-50"/><nd ref="-99"/>{tag("highway", "primary" if part % 2 else "footway")}</way>'
-        uploaded(gateway, number, nodes + road + node(number, 9_999, FAR_LAT + part * 0.002, FAR_LON, tag("place", "town" if part == 0 else "isolated_dwelling") + tag("name", f"T{part}")))
+        uploaded(
+            gateway,
+            number,
+            nodes
+            + road
+            + node(
+                number, 9_999, FAR_LAT + part * 0.002, FAR_LON, tag("place", "town" if part == 0 else "isolated_dwelling") + tag("name", f"T{part}")
+            ),
+        )
         gateway.well("PUT", f"changeset/{number}/close", who=ALICE)
     for zoom in (11, 13):
         visit(page, f"/#map={zoom}/{FAR_LAT + 0.01}/{FAR_LON + 0.025}")
@@ -116,15 +143,22 @@ def far(page: Page, gateway: Gateway) -> None:
 def addresses(page: Page, gateway: Gateway, way: int) -> None:
     number = gateway.changeset(comment="all sorts")
     members = f'<member type="way" ref="{way}" role="street"/><member type="node" ref="-1" role=""/>'
-    made = uploaded(gateway, number, node(number, 1, LAT, LON + 0.002, tag("natural", "tree")) + f'<relation id="-1" changeset="{number}">{members}{tag("type", "site")}</relation>')
+    made = uploaded(
+        gateway,
+        number,
+        node(number, 1, LAT, LON + 0.002, tag("natural", "tree"))
+        + f'<relation id="-1" changeset="{number}">{members}{tag("type", "site")}</relation>',
+    )
     gateway.well("PUT", f"changeset/{number}/close", who=ALICE)
     gateway.well("POST", f"changeset/{number}/comment", "text=well+%3Cdone%3E", BOB)
     note = json.loads(gateway.well("POST", "notes.json", f"lat={LAT}&lon={LON}&text=a+bench"))["properties"]["id"]
     tree, site = made["node"][0], made["relation"][0]
     for path, part, texts in (
-        (f"/node/{tree}", "#element", ("tree", f"changeset {number}")), (f"/node/{tree}/history", "#element", ("Version 1",)), (f"/way/{way}", "#element", ("Neue Gasse", "Version 2")),
+        (f"/node/{tree}", "#element", ("tree", f"changeset {number}")), (f"/node/{tree}/history", "#element", ("Version 1",)),
+        (f"/way/{way}", "#element", ("Neue Gasse", "Version 2")),
         (f"/relation/{site}", "#element", ("Relation", "Its 2 members")), (f"/note/{note}", "#note", ("a bench", "somebody opened it")),
-        (f"/changeset/{number}", "#changeset", ("all sorts", f"created node {tree}", f"created relation {site}", "well <done>")), ("/user/alice", "#changeset", ("alice", "Those of everybody")),
+        (f"/changeset/{number}", "#changeset", ("all sorts", f"created node {tree}", f"created relation {site}", "well <done>")),
+        ("/user/alice", "#changeset", ("alice", "Those of everybody")),
         ("/user/%C3%9Cn%C3%AF%20C%C3%B6d%C3%A9", "#changeset", ("Ünï Cödé", "0 changesets")), ("/node/999999", "#element", ("no node with the id 999999",)),
         ("/changeset/999999", "#changeset", ("no changeset",)), ("/note/999999", "#note", ("no note",)), ("/user/nobody", "#changesets", ("no user",)),
     ):  # fmt: skip
@@ -177,11 +211,17 @@ def past(page: Page, gateway: Gateway, way: int) -> None:
     has(page.text("#element table"), "Neue Gasse", "the tags of now")
 
     def go(moment: int) -> None:
-        page.driver.execute_script("const it = document.getElementById('moment'); it.value = arguments[0]; it.dispatchEvent(new Event('input'))", moment)
+        page.driver.execute_script(
+            "const it = document.getElementById('moment'); it.value = arguments[0]; it.dispatchEvent(new Event('input'))", moment
+        )
         page.until("the map of then", lambda: page.data("at") == str(moment))
 
     go(first)
-    want((page.one("#element").get_attribute("data-version"), "Neue Gasse" in page.text("#element table")), ("1", False), "the version of then, and its tags")
+    want(
+        (page.one("#element").get_attribute("data-version"), "Neue Gasse" in page.text("#element table")),
+        ("1", False),
+        "the version of then, and its tags",
+    )
     want(page.all("#element li.version")[-1].get_attribute("aria-current"), "", "which version is the one of then")
     go(first - 1)
     has(page.text("#element"), "wasn't there yet", "before it was made")

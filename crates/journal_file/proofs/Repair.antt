@@ -1,11 +1,11 @@
 -- What a crash leaves while the end of a file is repaired.
-use Rattle.std.proofs.Common.{◌≡◌, ℕ, zero, suc, ◌+◌, ◌-◌, ◌<◌, ◌≤◌, List, [], ◌∷◌, ◌++◌, length, take, drop, refl, sym, ap, ◌∙◌, subst, arith, append-nil, length-append, length-drop, take-append-drop}
+use Rattle.std.proofs.Common.{◌≡◌, ℕ, zero, suc, ◌+◌, ◌-◌, ◌<◌, ◌≤◌, List, [], ◌∷◌, ◌++◌, length, take, drop, refl, sym, ap, ◌∙◌, subst, arith, append_assoc, append-nil, length-append, length-drop, take-append-drop}
 use Rattle.std.proofs.lemmas.List.{take_at, take_all, drop_at}
 use Rattle.journal_file.specs.Device.{Holds, Torn, Cut}
 use Rattle.journal_file.specs.Whole.{text_of, IsText}
-use Rattle.journal_file.specs.Settled.{IsGated, IsDamaged}
+use Rattle.journal_file.specs.Settled.{IsGated, IsDamaged, Keeps}
 use Rattle.journal_file.proofs.WholeLines.{front_is, text_more, text_parts, nothing_front, nothing_short}
-use Rattle.journal_file.proofs.Gates.{put_at}
+use Rattle.journal_file.proofs.Gates.{put_at, front_same}
 
 take_past : (xs ys : List ℕ) (m n : ℕ) → m ≡ length xs + n → take m (xs ++ ys) ≡ xs ++ take n ys
 take_past [] ys m n is = let same : m ≡ n = omega arith in ap (λ (k : ℕ). take k ys) same
@@ -42,10 +42,18 @@ damage_is file behind is damaged =
       λ gate. damaged.other (cc (found, gate.1)),
     )
 
+-- one byte behind the text is no damage
+short_sound : (file : List ℕ) → length file ≤ length (text_of file) + 1 → IsDamaged file → ⊥
+short_sound file short damaged =
+    absurd (omega (arith, short, ap length damaged.is, length-append (text_of file) (damaged.first ∷ damaged.second ∷ damaged.rest)))
+
+-- a file keeps what it is
+pub same_keeps : (file c : List ℕ) → c ≡ file → Keeps file c
+same_keeps file c same = record { is = ap text_of same; sound = λ damaged. subst IsDamaged same damaged }
+
 module _ (file : List ℕ) (n : ℕ) (is : IsText (text_of file)) (size : n ≡ length (text_of file)) where
-  -- any cut keeps the text
-  pub cut_keeps : (c : List ℕ) → Cut n file c → text_of c ≡ text_of file
-  cut_keeps c cut =
+  cut_text : (c : List ℕ) → Cut n file c → text_of c ≡ text_of file
+  cut_text c cut =
       let text = text_of file in
       let split = text_parts file is in
       let m = length c - n in
@@ -53,21 +61,48 @@ module _ (file : List ℕ) (n : ℕ) (is : IsText (text_of file)) (size : n ≡ 
       let cut_end : c ≡ text ++ take m split.end = whole_is ∙ take_past text split.end (length c) m (omega (arith, cut.no_shorter, size)) in
       ap text_of cut_end ∙ text_more text (take m split.end) is ∙ ap (λ (l : List ℕ). text ++ l) (nothing_front m split.end split.nothing) ∙ append-nil text
 
+  -- any cut keeps the text, and makes no damage
+  pub cut_keeps : (c : List ℕ) → Cut n file c → Keeps file c
+  cut_keeps c cut =
+      let k = length c in
+      let text = cut_text c cut in
+      record {
+        is = text;
+        sound = λ damaged.
+            let behind = damaged.first ∷ damaged.second ∷ damaged.rest in
+            record {
+              first = damaged.first;
+              second = damaged.second;
+              rest = damaged.rest ++ drop k file;
+              is =
+                  sym (take-append-drop k file)
+                  ∙ ap (λ (l : List ℕ). l ++ drop k file) (cut.front ∙ damaged.is)
+                  ∙ append_assoc (text_of c) behind (drop k file)
+                  ∙ ap (λ (l : List ℕ). l ++ (behind ++ drop k file)) text;
+              other = damaged.other;
+            };
+      }
+
   pub cut_done : take n file ≡ text_of file
   cut_done =
       let split = text_parts file is in
       ap (λ (l : List ℕ). take n l) split.is ∙ take_at (text_of file) split.end n (sym size)
 
-  -- one byte behind the text is no line
-  pub torn_end : (c : List ℕ) → Torn n 1 (text_of file) c → text_of c ≡ text_of file
+  -- one byte behind the text is no line, and no damage
+  pub torn_end : (c : List ℕ) → Torn n (35 ∷ []) (text_of file) c → Keeps file c
   torn_end c torn =
       let text = text_of file in
-      let front : take n c ≡ text = torn.before ∙ take_all n text (omega (arith, size)) in
+      let front : take n c ≡ text = front_same n n (35 ∷ []) text c (omega arith) (omega (arith, size)) torn ∙ take_all n text (omega (arith, size)) in
       let whole_is : c ≡ text ++ drop n c = sym (take-append-drop n c) ∙ ap (λ (l : List ℕ). l ++ drop n c) front in
+      let text_is : text_of c ≡ text =
       ap text_of whole_is
       ∙ text_more text (drop n c) is
       ∙ ap (λ (l : List ℕ). text ++ l) (nothing_short (drop n c) (omega (arith, length-drop n c, size, torn.no_longer)))
-      ∙ append-nil text
+      ∙ append-nil text in
+      record {
+        is = text_is;
+        sound = λ damaged. absurd (short_sound c (omega (arith, ap length text_is, size, torn.no_longer)) damaged);
+      }
 
   pub written_end : (c : List ℕ) → Holds (text_of file) n (35 ∷ []) c → IsGated (text_of file) c
   written_end c holds =

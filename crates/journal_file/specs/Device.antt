@@ -1,17 +1,18 @@
 -- What the calls of a device do to its file, and what a crash may do between two syncs.
-use Rattle.std.specs.Prelude.{◌<◌, ◌≡◌, ◌⊎◌, ℕ, ◌+◌, ◌≤◌, max, List, ◌++◌, length, take, drop, Result, IsErr, OnOk}
+use Rattle.std.specs.Prelude.{◌<◌, ◌≡◌, ◌⊎◌, ℕ, ◌+◌, ◌≤◌, max, List, ◌++◌, length, take, drop, get_or, Result, IsErr, OnOk}
 use Rattle.journal_file.specs.declared.device.DeviceFailed.{DeviceFailed}
 
 -- new is old with these bytes from this place on
 abbrev pub Holds : List ℕ → ℕ → List ℕ → List ℕ → Type 0
 Holds old at bytes new = new ≡ take at old ++ bytes ++ drop (at + length bytes) old
 
--- after a write of n bytes that a crash cuts short: any bytes in its range and past the old end, the same elsewhere
-pub record Torn (at n : ℕ) (old new : List ℕ) : Type 0 where
-  pub before : take at new ≡ take at old
-  pub after : drop (at + n) new ≡ drop (at + n) old
+-- after a write of these bytes that a crash cuts short: any bytes in its range and past the old end, the same elsewhere; but where one byte
+-- alone was written over another, the old one or the new one
+pub record Torn (at : ℕ) (bytes old new : List ℕ) : Type 0 where
   pub no_shorter : length old ≤ length new
-  pub no_longer : length new ≤ max (length old) (at + n)
+  pub no_longer : length new ≤ max (length old) (at + length bytes)
+  pub outside : (i : ℕ) → i < length old → (i < at) ⊎ (at + length bytes ≤ i) → get_or new i 0 ≡ get_or old i 0
+  pub alone : length bytes ≡ 1 → at < length old → (get_or new at 0 ≡ get_or old at 0) ⊎ (get_or new at 0 ≡ get_or bytes 0 0)
 
 -- after a cut: some length between
 pub record Cut (n : ℕ) (old new : List ℕ) : Type 0 where

@@ -50,8 +50,8 @@ faults_in (call ∷ calls) = fault_of call + faults_in calls
 -- what a crash may leave
 abbrev pub left_after : List ℕ → List Call → List ℕ → Type 0
 left_after first [] c = c ≡ first
-left_after first (Wrote at bytes ∷ calls) c = (d : List ℕ) × left_after first calls d × Torn at (length bytes) d c
-left_after first (TriedToWrite at bytes ∷ calls) c = (d : List ℕ) × left_after first calls d × Torn at (length bytes) d c
+left_after first (Wrote at bytes ∷ calls) c = (d : List ℕ) × left_after first calls d × Torn at bytes d c
+left_after first (TriedToWrite at bytes ∷ calls) c = (d : List ℕ) × left_after first calls d × Torn at bytes d c
 left_after first (CutTo len ∷ calls) c = (d : List ℕ) × left_after first calls d × Cut len d c
 left_after first (TriedToCut len ∷ calls) c = (d : List ℕ) × left_after first calls d × Cut len d c
 left_after first (Synced ∷ calls) c = (faults_in calls ≡ 0 → c ≡ seen_after first calls) × left_after first calls c

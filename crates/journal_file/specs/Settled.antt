@@ -23,10 +23,6 @@ pub record IsStaged (seen : List ℕ) (may_leave : List ℕ → Type 0) (gate : 
   pub place : gate ≡ length text
   pub durable : Only seen may_leave
 
--- the file stands for the text, with all of these lines or with none of them
-abbrev pub IsBeforeOrAfter : List ℕ → List ℕ → List ℕ → Type 0
-IsBeforeOrAfter text lines file = (text_of file ≡ text) ⊎ (text_of file ≡ text ++ lines)
-
 -- More than one byte stands behind the text, and the first of them is no closed gate.
 pub record IsDamaged (file : List ℕ) : Type 0 where
   pub first : ℕ
@@ -34,6 +30,20 @@ pub record IsDamaged (file : List ℕ) : Type 0 where
   pub rest : List ℕ
   pub is : file ≡ text_of file ++ first ∷ second ∷ rest
   pub other : first ≢ 35
+
+-- The file stands for this text, and it isn't damaged.
+pub record Stands (text file : List ℕ) : Type 0 where
+  pub is : text_of file ≡ text
+  pub sound : IsDamaged file → ⊥
+
+-- The other stands for the same text as the file, and it isn't damaged where that isn't.
+pub record Keeps (file other : List ℕ) : Type 0 where
+  pub is : text_of other ≡ text_of file
+  pub sound : IsDamaged other → IsDamaged file
+
+-- the file stands for the text, with all of these lines or with none of them
+abbrev pub IsBeforeOrAfter : List ℕ → List ℕ → List ℕ → Type 0
+IsBeforeOrAfter text lines file = Stands text file ⊎ Stands (text ++ lines) file
 
 -- a file that is open to append: its device, the text that it stands for, and whether a call of the device has failed
 pub record Kept (D : Type 0) : Type 0 where

@@ -4,9 +4,9 @@ ghost use Rattle.journal_file.specs.Settled.{IsDamaged};
 
 use crate::text::{CLOSED, begins_with, text_len};
 
-/// Whether more than one byte stands behind the text, and the first of them is no closed gate. Where a
-/// write of one byte leaves either the old or the new one, no crash of `append` or `open` leaves such
-/// a file, and to open it would cut off what may be whole lines behind a damaged one.
+/// Whether more than one byte stands behind the text, and the first of them is no closed gate. No crash
+/// of `append` leaves such a file, nor one of `open` where it found none, and to open it would cut off
+/// what may be whole lines behind a damaged one.
 pub fn is_damaged(file: &[u8]) -> bool
     ensures { IsTrue result ↔ IsDamaged file.now }
 {

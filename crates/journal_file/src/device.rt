@@ -29,12 +29,13 @@ pub trait Device {
     ghost faults: { Self → ℕ };
 
     /// Writes over what is there, and past the end. Until a sync, a crash may leave any bytes in the
-    /// range. It leaves those before and behind it, also where they share a sector: a disk has to put
+    /// range; but where one byte alone was written over another, it leaves the old one or the new one. It
+    /// leaves the bytes before and behind the range, also where they share a sector: a disk has to put
     /// back what it rewrites. No room between lines could do without that, since the text has none.
     fn write_at(&mut self, at: usize, bytes: &[u8]) -> Result<(), DeviceFailed>
         requires { at ≤ length (seen self.old) }
         ensures written { OnOk result (Holds (seen self.old) at bytes.now (seen self.new)) }
-        ensures crash { Follows (Torn at (length bytes.now)) (may_leave self.old) (may_leave self.new) }
+        ensures crash { Follows (Torn at bytes.now) (may_leave self.old) (may_leave self.new) }
         ensures time { Elapses (moment self.old) (moment self.new) (left_since self.old) (left_since self.new) (may_leave self.new) }
         ensures cause { HasCause (faults self.old) (faults self.new) result };
 

@@ -2,7 +2,7 @@
 ghost use Rattle.std.specs.Prelude.{◌≡◌, ◌⊎◌, ◌<◌, ◌≤◌, ◌^◌, ◌++◌, List, ℕ, true, false, length, Err, IfOk, IfErr, OnOk, IsErrOf};
 ghost use Rattle.journal_file.specs.Device.{Only, LeavesOnly};
 ghost use Rattle.journal_file.specs.Whole.{text_of, IsText, AreLines, BeginsWith};
-ghost use Rattle.journal_file.specs.Settled.{IsBeforeOrAfter, kept};
+ghost use Rattle.journal_file.specs.Settled.{IsBeforeOrAfter, IsDamaged, Keeps, kept};
 ghost use Rattle.journal_file.specs.declared.faults.AppendFault.{AppendFault};
 ghost use Rattle.journal_file.specs.declared.faults.OpenFault.{OpenFault};
 
@@ -45,8 +45,8 @@ impl<D: Device> Model for JournalFile<D> {
 
 impl<D: Device> JournalFile<D> {
     /// Opens the file that these bytes were read from, as a crash may have left it, if it begins with
-    /// this header. It may crash too, at any moment, and then the file stands for the same text. An
-    /// `Err` hands the device back.
+    /// this header. It may crash too, at any moment, and then the file stands for the same text, and
+    /// isn't damaged where it wasn't before. An `Err` hands the device back.
     pub fn open(mut device: D, file: &[u8], header: &[u8]) -> Result<JournalFile<D>, (OpenFault, D)>
         requires read { file.now ≡ D.seen device }
         // After a restart, what is read is what is on the disk.
@@ -54,8 +54,8 @@ impl<D: Device> JournalFile<D> {
         requires fine { D.faults device ≡ 0 }
         requires header { IsText header.now }
         ensures ok { IfOk result (λ f. (f ≡ kept f.device (text_of file.now) false) × BeginsWith header.now file.now) }
-        ensures any_moment { IfOk result (λ f. LeavesOnly D.moment D.left_since device f.device (λ c. text_of c ≡ text_of file.now)) }
-        ensures any_moment_err { IfErr result (λ e. LeavesOnly D.moment D.left_since device e.1 (λ c. text_of c ≡ text_of file.now)) }
+        ensures any_moment { IfOk result (λ f. LeavesOnly D.moment D.left_since device f.device (Keeps file.now)) }
+        ensures any_moment_err { IfErr result (λ e. LeavesOnly D.moment D.left_since device e.1 (Keeps file.now)) }
         ensures foreign { IfErr result (λ e. e.0 ≡ OpenFault.Foreign → (e.1 ≡ device) × (BeginsWith header.now file.now → ⊥)) }
         ensures failed { IfErr result (λ e. e.0 ≡ OpenFault.Failed → D.faults device < D.faults e.1) }
     {
@@ -74,7 +74,7 @@ impl<D: Device> JournalFile<D> {
     }
 
     /// Adds whole lines. At `Ok` they stand: every crash from then on leaves them. A crash at any
-    /// moment of the call leaves the text with all of them, or with none.
+    /// moment of the call leaves the text with all of them, or with none, in a file that isn't damaged.
     pub fn append(&mut self, lines: &[u8]) -> Result<(), AppendFault>
         requires { AreLines lines.now }
         ensures ok { OnOk result ((self.new.text ≡ self.old.text ++ lines.now) × (self.new.broken ≡ false)) }
@@ -142,12 +142,13 @@ impl<D: Device> JournalFile<D> {
         self.broken
     }
 
-    /// A law: while no call of the device has failed, every crash leaves the text. The file is broken
-    /// just where one has.
+    /// A law: while no call of the device has failed, every crash leaves the text, in a file that isn't
+    /// damaged. The file is broken just where one has.
     pub fn law(&self)
         ensures fine { self.now.broken ≡ false → D.faults self.now.device ≡ 0 }
         ensures failed { self.now.broken ≡ true → 0 < D.faults self.now.device }
         ensures stands { self.now.broken ≡ false → (c : List ℕ) → D.may_leave self.now.device c → text_of c ≡ self.now.text }
+        ensures sound { self.now.broken ≡ false → (c : List ℕ) → D.may_leave self.now.device c → IsDamaged c → ⊥ }
         ensures text { self.now.broken ≡ false → IsText self.now.text }
     {
         let _gate = self.gate;

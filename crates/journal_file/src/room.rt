@@ -2,7 +2,7 @@
 ghost use Rattle.std.specs.Prelude.{◌≡◌, ◌+◌, ◌<◌, ◌≤◌, ◌^◌, ◌++◌, length, IfOk, OnOk, IsErr};
 ghost use Rattle.journal_file.specs.Device.{LeavesOnly};
 ghost use Rattle.journal_file.specs.Whole.{text_of, AreLines};
-ghost use Rattle.journal_file.specs.Settled.{IsSettled, IsBeforeOrAfter};
+ghost use Rattle.journal_file.specs.Settled.{IsSettled, IsBeforeOrAfter, Stands};
 
 use crate::device::{Device, DeviceFailed};
 use crate::write::put_lines;
@@ -23,7 +23,7 @@ fn lay_by<D: Device>(
     requires some { 0 < length block.now }
     requires fine { D.faults device.old ≡ 0 }
     ensures settled { OnOk result (IsSettled (D.seen device.new) (D.may_leave device.new) gate (text_of (D.seen device.old))) }
-    ensures any_moment { LeavesOnly D.moment D.left_since device.old device.new (λ c. text_of c ≡ text_of (D.seen device.old)) }
+    ensures any_moment { LeavesOnly D.moment D.left_since device.old device.new (Stands (text_of (D.seen device.old))) }
     ensures fine { OnOk result (D.faults device.new ≡ D.faults device.old) }
     ensures later { D.faults device.old ≤ D.faults device.new }
     ensures failed { IsErr result → D.faults device.old < D.faults device.new }
@@ -52,7 +52,7 @@ fn make_room<D: Device>(
     requires place { gate < 2 ^ 62 }
     requires fine { D.faults device.old ≡ 0 }
     ensures settled { OnOk result (IsSettled (D.seen device.new) (D.may_leave device.new) gate (text_of (D.seen device.old))) }
-    ensures any_moment { LeavesOnly D.moment D.left_since device.old device.new (λ c. text_of c ≡ text_of (D.seen device.old)) }
+    ensures any_moment { LeavesOnly D.moment D.left_since device.old device.new (Stands (text_of (D.seen device.old))) }
     ensures fine { OnOk result (D.faults device.new ≡ D.faults device.old) }
     ensures later { D.faults device.old ≤ D.faults device.new }
     ensures failed { IsErr result → D.faults device.old < D.faults device.new }

@@ -2,7 +2,7 @@
 ghost use Rattle.std.specs.Prelude.{◌≡◌, ◌+◌, ◌<◌, ◌≤◌, ◌^◌, ◌++◌, List, ℕ, length, IfOk, OnOk, IsErr};
 ghost use Rattle.journal_file.specs.Device.{Only, LeavesOnly};
 ghost use Rattle.journal_file.specs.Whole.{text_of, IsText, AreLines};
-ghost use Rattle.journal_file.specs.Settled.{IsSettled, IsStaged, IsBeforeOrAfter};
+ghost use Rattle.journal_file.specs.Settled.{IsSettled, IsStaged, IsBeforeOrAfter, Stands, Keeps};
 
 use crate::device::{Device, DeviceFailed};
 use crate::text::{CLOSED, OPEN, begins_with, text_len};
@@ -14,7 +14,7 @@ fn stage<D: Device>(device: &mut D, gate: usize, lines: &[u8]) -> Result<(), Dev
     requires room { gate < 2 ^ 62 }
     requires fine { D.faults device.old ≡ 0 }
     ensures staged { OnOk result (IsStaged (D.seen device.new) (D.may_leave device.new) gate (text_of (D.seen device.old)) lines.now) }
-    ensures any_moment { LeavesOnly D.moment D.left_since device.old device.new (λ c. text_of c ≡ text_of (D.seen device.old)) }
+    ensures any_moment { LeavesOnly D.moment D.left_since device.old device.new (Stands (text_of (D.seen device.old))) }
     ensures fine { OnOk result (D.faults device.new ≡ D.faults device.old) }
     ensures later { D.faults device.old ≤ D.faults device.new }
     ensures failed { IsErr result → D.faults device.old < D.faults device.new }
@@ -59,8 +59,8 @@ pub(crate) fn repair<D: Device>(device: &mut D, file: &[u8]) -> Result<usize, De
     requires text { IsText (text_of file.now) }
     requires fine { D.faults device.old ≡ 0 }
     ensures settled { IfOk result (λ gate. IsSettled (D.seen device.new) (D.may_leave device.new) gate (text_of file.now)) }
-    // A crash at any moment of the call leaves the same text.
-    ensures any_moment { LeavesOnly D.moment D.left_since device.old device.new (λ c. text_of c ≡ text_of file.now) }
+    // A crash at any moment of the call leaves the same text, and no damage that wasn't there.
+    ensures any_moment { LeavesOnly D.moment D.left_since device.old device.new (Keeps file.now) }
     ensures fine { OnOk result (D.faults device.new ≡ D.faults device.old) }
     ensures later { D.faults device.old ≤ D.faults device.new }
     ensures failed { IsErr result → D.faults device.old < D.faults device.new }
@@ -81,7 +81,7 @@ fn close_at<D: Device>(device: &mut D, end: usize) -> Result<(), DeviceFailed>
     requires place { end ≡ length (text_of (D.seen device.old)) }
     requires fine { D.faults device.old ≡ 0 }
     ensures settled { OnOk result (IsSettled (D.seen device.new) (D.may_leave device.new) end (text_of (D.seen device.old))) }
-    ensures any_moment { LeavesOnly D.moment D.left_since device.old device.new (λ c. text_of c ≡ text_of (D.seen device.old)) }
+    ensures any_moment { LeavesOnly D.moment D.left_since device.old device.new (Keeps (D.seen device.old)) }
     ensures fine { OnOk result (D.faults device.new ≡ D.faults device.old) }
     ensures later { D.faults device.old ≤ D.faults device.new }
     ensures failed { IsErr result → D.faults device.old < D.faults device.new }

@@ -1,5 +1,5 @@
 //! What gives the files of journals.
-ghost use Rattle.std.specs.Prelude.{◌≡◌, IfOk, MatchResult};
+ghost use Rattle.std.specs.Prelude.{◌≡◌, ℕ, List, IfOk, MatchResult};
 ghost use Rattle.journal_file.specs.Device.{Only};
 ghost use Rattle.journal_host.specs.Told.{JournalsTold, asked_at, lent_at, taken_back};
 
@@ -25,6 +25,8 @@ pub trait Journals {
     ) -> Result<(Self::File, Vec<u8>), DiskFault>
         ensures read { IfOk result (λ r. r.1.items ≡ Self.File.seen r.0) }
         ensures durable { IfOk result (λ r. Only (Self.File.seen r.0) (Self.File.may_leave r.0)) }
+        // Since it is given, no crash leaves anything else.
+        ensures moments { IfOk result (λ r. (t : ℕ) (c : List ℕ) → Self.File.left_since r.0 t c → c ≡ r.1.items) }
         ensures fine { IfOk result (λ r. Self.File.faults r.0 ≡ 0) }
         ensures told { MatchResult result
             (λ r. told self.new ≡ lent_at (told self.old) path.now r.1.items)

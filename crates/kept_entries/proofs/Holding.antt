@@ -2,8 +2,7 @@
 use Rattle.std.proofs.Common.{◌≡◌, ◌⊎◌, inl, inr, ℕ, ◌≤◌, List, ◌++◌, length, refl, sym, ap, ◌∙◌, arith, length-append}
 use Rattle.std.proofs.lemmas.List.{take_at, take_all, take-append-le}
 use Rattle.journal_file.specs.Device.{LeavesOnly}
-use Rattle.journal_file.specs.Whole.{text_of}
-use Rattle.journal_file.specs.Settled.{IsBeforeOrAfter}
+use Rattle.journal_file.specs.Settled.{IsBeforeOrAfter, Stands}
 use Rattle.kept_entries.specs.Held.{Holds, HoldsFrom}
 
 module _ {E : Type 0} (text : List E → List ℕ) where
@@ -13,22 +12,25 @@ module _ {E : Type 0} (text : List E → List ℕ) where
     enough = h.enough;
     within = omega (arith, h.within, length-append held more);
     is = h.is ∙ ap text (sym (take-append-le h.count held more h.within));
+    sound = h.sound;
   }
 
-  holds_held : (k : ℕ) (held more : List E) (c : List ℕ) → k ≤ length held → text_of c ≡ text held → Holds text k (held ++ more) c
-  holds_held k held more c le is = record {
+  holds_held : (k : ℕ) (held more : List E) (c was : List ℕ) → k ≤ length held → Stands was c → was ≡ text held → Holds text k (held ++ more) c
+  holds_held k held more c was le stands is = record {
     count = length held;
     enough = le;
     within = omega (arith, length-append held more);
-    is = is ∙ ap text (sym (take_at held more (length held) refl));
+    is = stands.is ∙ is ∙ ap text (sym (take_at held more (length held) refl));
+    sound = stands.sound;
   }
 
-  pub holds_all : (k : ℕ) (all : List E) (c : List ℕ) → k ≤ length all → text_of c ≡ text all → Holds text k all c
-  holds_all k all c le is = record {
+  pub holds_all : (k : ℕ) (all : List E) (c was : List ℕ) → k ≤ length all → Stands was c → was ≡ text all → Holds text k all c
+  holds_all k all c was le stands is = record {
     count = length all;
     enough = le;
     within = omega arith;
-    is = is ∙ ap text (sym (take_all (length all) all (omega arith)));
+    is = stands.is ∙ is ∙ ap text (sym (take_all (length all) all (omega arith)));
+    sound = stands.sound;
   }
 
   module _ (lines : List E → List ℕ) (more : (entries others : List E) → text (entries ++ others) ≡ text entries ++ lines others) where
@@ -40,7 +42,7 @@ module _ {E : Type 0} (text : List E → List ℕ) where
       where
         by : left_since old t c ⊎ IsBeforeOrAfter was added c → Holds text k (held ++ entries) c
         by (inl past) = holds_longer k held entries c (holds c past)
-        by (inr (inl none)) = holds_held k held entries c enough (none ∙ is)
+        by (inr (inl none)) = holds_held k held entries c was enough none is
         by (inr (inr all)) =
-            holds_all k (held ++ entries) c (omega (arith, enough, length-append held entries))
-            (all ∙ ap (λ (l : List ℕ). l ++ added) is ∙ ap (λ (l : List ℕ). text held ++ l) adds ∙ sym (more held entries))
+            holds_all k (held ++ entries) c (was ++ added) (omega (arith, enough, length-append held entries)) all
+            (ap (λ (l : List ℕ). l ++ added) is ∙ ap (λ (l : List ℕ). text held ++ l) adds ∙ sym (more held entries))

@@ -1,15 +1,17 @@
 -- What a file holds of a list of entries that only grows.
 use Rattle.std.specs.Prelude.{◌≡◌, ℕ, ◌≤◌, List, length, take}
+use Rattle.journal_file.specs.Settled.{IsDamaged}
 use Rattle.journal_file.specs.Whole.{text_of}
 
 -- over how a journal is written
 module _ {E : Type 0} (text : List E → List ℕ) where
-  -- the file stands for a beginning of these entries, of so many at least
+  -- the file stands for a beginning of these entries, of so many at least, and it isn't damaged
   pub record Holds (least : ℕ) (entries : List E) (file : List ℕ) : Type 0 where
     pub count : ℕ
     pub enough : least ≤ count
     pub within : count ≤ length entries
     pub is : text_of file ≡ text (take count entries)
+    pub sound : IsDamaged file → ⊥
 
   -- Every crash from that moment on leaves a beginning of these entries, of so many at least.
   abbrev pub HoldsFrom : {D : Type 0} → (D → ℕ → List ℕ → Type 0) → D → ℕ → ℕ → List E → Type 0

@@ -62,29 +62,68 @@ fn is_done_with<D: Device>(file: &mut JournalFile<D>) -> bool {
     file.is_broken() && file.append(FIRST) == Err(AppendFault::Failed)
 }
 
+/// The text of the lines that were acknowledged, and the same with those that were added last.
+#[derive(Drop)]
+struct Script {
+    before: Vec<u8>,
+    after: Vec<u8>,
+}
+
+impl Script {
+    fn new(alloc: Global) -> Result<Script, Memory> {
+        let before = HEADER.to_vec(alloc)?;
+        Ok(Script {
+            before,
+            after: HEADER.to_vec(alloc)?,
+        })
+    }
+
+    /// Adds lines until a call fails. Whether a file that failed takes no lines any more.
+    fn play<D: Device>(&mut self, file: &mut JournalFile<D>) -> Result<bool, Memory> {
+        for lines in [FIRST, SECOND, THIRD] {
+            self.after.extend_from_slice(lines)?;
+            if file.append(lines).is_err() {
+                return Ok(is_done_with(file));
+            }
+            self.before.extend_from_slice(lines)?;
+        }
+        Ok(true)
+    }
+
+    fn has(&self, found: &[u8]) -> bool {
+        found == self.before.as_slice() || found == self.after.as_slice()
+    }
+}
+
+/// Whether what a crash left has the lines that were acknowledged, and of the next ones all or none, and is recovered.
+fn stands(alloc: Global, crashed: &[u8], script: &Script, seed: u64) -> Result<bool, Memory> {
+    let is_known = script.has(kept_text(crashed));
+    Ok(is_known && recovers(alloc, crashed, seed.wrapping_add(1))?)
+}
+
+/// Adds the lines of the script to a file, and has it crash.
+fn crash<const ROOM: usize>(
+    alloc: Global,
+    first: &[u8],
+    file: &mut JournalFile<RoomyFile<ROOM>>,
+    seed: u64,
+) -> Result<bool, Memory> {
+    let mut script = Script::new(alloc)?;
+    if !script.play(file)? {
+        return Ok(false);
+    }
+    let crashed = left_by(alloc, first, file.device().file().deeds(), seed)?;
+    stands(alloc, &crashed, &script, seed)
+}
+
 /// The lines of the script are added to a file in memory that fails from a call on: what a crash may
 /// leave then has the lines that were acknowledged, and of the next ones all or none.
 fn script_crashes<const ROOM: usize>(alloc: Global, left: u64, seed: u64) -> Result<bool, Memory> {
     let first = joined(alloc, &[HEADER, b"#"])?;
-    let Some(mut file) = fresh::<ROOM>(alloc, &first, left)? else {
-        return Ok(false);
-    };
-    let mut before = HEADER.to_vec(alloc)?;
-    let mut after = HEADER.to_vec(alloc)?;
-    for lines in [FIRST, SECOND, THIRD] {
-        after.extend_from_slice(lines)?;
-        if file.append(lines).is_err() {
-            if !is_done_with(&mut file) {
-                return Ok(false);
-            }
-            break;
-        }
-        before = after.to_vec(alloc)?;
+    match fresh::<ROOM>(alloc, &first, left)? {
+        Some(mut file) => crash(alloc, &first, &mut file, seed),
+        None => Ok(false),
     }
-    let crashed = left_by(alloc, &first, file.device().file().deeds(), seed)?;
-    let found = kept_text(&crashed);
-    let stands = found == before.as_slice() || found == after.as_slice();
-    Ok(stands && recovers(alloc, &crashed, seed.wrapping_add(1))?)
 }
 
 /// A crash behind so many calls of the script, in each outcome that is drawn.

@@ -76,6 +76,47 @@ fn has_all<N: HubName, K: HubName>(
     Ok(whole && counted && syncs(file.deeds()) == given.saturating_mul(2))
 }
 
+/// The receipts for so many marks.
+fn receipts_at<N: HubName, K: HubName, R: Wait>(
+    rt: &R,
+    alloc: Global,
+    shelf: &Mutex<MarkShelf<N, K>>,
+    board: &Board<K>,
+    marks: &Mutex<Marks<N>>,
+    count: u64,
+) -> Result<Front<K, Receipt>, KeepFault> {
+    let mut source = Source { rt, alloc, marks };
+    receipts_for(rt, alloc, shelf, board, &mut source, count)
+}
+
+/// Whether the file has all that both threads kept. The last receipt is told, so this asks nothing of the file.
+fn has_both<N: HubName, K: HubName, R: Wait>(
+    rt: &R,
+    alloc: Global,
+    shelf: &Mutex<MarkShelf<N, K>>,
+    board: &Board<K>,
+    marks: &Mutex<Marks<N>>,
+) -> Result<bool, KeepFault> {
+    let told = receipts_at(rt, alloc, shelf, board, marks, 2 * MARKS as u64)?;
+    let right = has_all(alloc, &marks.lock(rt), &shelf.lock(rt))?;
+    Ok(right && shelf.lock(rt).receipts().len() == told.len())
+}
+
+fn keep_both<N: HubName + Send + Sync, K: HubName + Send + Sync, R: Threads + Wait + Sync>(
+    rt: &R,
+    alloc: Global,
+    shelf: &Mutex<MarkShelf<N, K>>,
+    board: &Board<K>,
+    marks: &Mutex<Marks<N>>,
+) -> Result<bool, KeepFault> {
+    let (one, other) = join(
+        rt,
+        || mark(rt, alloc, shelf, board, marks, true),
+        || mark(rt, alloc, shelf, board, marks, false),
+    );
+    Ok(one? && other? && has_both(rt, alloc, shelf, board, marks)?)
+}
+
 /// Two threads keep marks in one file. It holds all of both in the end, in the order of the list, and
 /// each receipt took two syncs.
 fn by_two<N: HubName + Send + Sync, K: HubName + Send + Sync, R: Threads + Wait + Sync>(
@@ -96,24 +137,86 @@ fn by_two<N: HubName + Send + Sync, K: HubName + Send + Sync, R: Threads + Wait 
         front,
         marks: Vec::new(alloc),
     });
-    let (one, other) = join(
-        rt,
-        || mark(rt, alloc, &shelf, &board, &marks, true),
-        || mark(rt, alloc, &shelf, &board, &marks, false),
-    );
-    // The last receipt is told, so this asks nothing of the file.
-    let mut source = Source {
-        rt,
-        alloc,
-        marks: &marks,
-    };
-    let told = receipts_for(rt, alloc, &shelf, &board, &mut source, 2 * MARKS as u64)?;
-    let right = one? && other? && has_all(alloc, &marks.lock(rt), &shelf.lock(rt))?;
-    Ok(right && shelf.lock(rt).receipts().len() == told.len())
+    keep_both(rt, alloc, &shelf, &board, &marks)
 }
 
 fn two_threads<R: Threads + Wait + Sync>(rt: &R, alloc: Global) -> Result<bool, KeepFault> {
     by_two::<Brand, Brand, R>(rt, alloc, Opened::new(), Opened::new())
+}
+
+fn add_three<N: HubName, R: Wait>(rt: &R, marks: &Mutex<Marks<N>>) -> Result<(), KeepFault> {
+    for mark in [true, false, true] {
+        marks.lock(rt).add(mark)?;
+    }
+    Ok(())
+}
+
+/// Whether one append keeps all three marks.
+fn keeps_three<N: HubName, K: HubName, R: Wait>(
+    rt: &R,
+    alloc: Global,
+    shelf: &Mutex<MarkShelf<N, K>>,
+    board: &Board<K>,
+    marks: &Mutex<Marks<N>>,
+) -> Result<bool, KeepFault> {
+    add_three(rt, marks)?;
+    let first = receipts_at(rt, alloc, shelf, board, marks, 1)?.len();
+    let again = receipts_at(rt, alloc, shelf, board, marks, 3)?.len();
+    Ok(first == 1 && again == 1)
+}
+
+/// Whether the file fails where so many marks are to be kept.
+fn fails<N: HubName, K: HubName, R: Wait>(
+    rt: &R,
+    alloc: Global,
+    shelf: &Mutex<MarkShelf<N, K>>,
+    board: &Board<K>,
+    marks: &Mutex<Marks<N>>,
+    count: u64,
+) -> bool {
+    matches!(
+        receipts_at(rt, alloc, shelf, board, marks, count),
+        Err(KeepFault::File)
+    )
+}
+
+/// Whether a fourth mark isn't kept, however often it is tried.
+fn keeps_no_fourth<N: HubName, K: HubName, R: Wait>(
+    rt: &R,
+    alloc: Global,
+    shelf: &Mutex<MarkShelf<N, K>>,
+    board: &Board<K>,
+    marks: &Mutex<Marks<N>>,
+) -> Result<bool, KeepFault> {
+    let fourth = marks.lock(rt).add(false)?;
+    let failed = fails(rt, alloc, shelf, board, marks, fourth);
+    let broken = shelf.lock(rt).is_broken();
+    Ok(failed && broken && fails(rt, alloc, shelf, board, marks, fourth))
+}
+
+/// Whether a shorter front still has its receipts, and nothing more was asked of the file.
+fn still_stands<N: HubName, K: HubName, R: Wait>(
+    rt: &R,
+    alloc: Global,
+    shelf: &Mutex<MarkShelf<N, K>>,
+    board: &Board<K>,
+    marks: &Mutex<Marks<N>>,
+) -> Result<bool, KeepFault> {
+    let third = receipts_at(rt, alloc, shelf, board, marks, 3)?;
+    let shelf = shelf.lock(rt);
+    Ok(shelf.gave(&third) && third.len() == 1 && shelf.device().deeds().len() == 7)
+}
+
+fn keeps_till<N: HubName, K: HubName, R: Wait>(
+    rt: &R,
+    alloc: Global,
+    shelf: &Mutex<MarkShelf<N, K>>,
+    board: &Board<K>,
+    marks: &Mutex<Marks<N>>,
+) -> Result<bool, KeepFault> {
+    let three = keeps_three(rt, alloc, shelf, board, marks)?;
+    let no_fourth = keeps_no_fourth(rt, alloc, shelf, board, marks)?;
+    Ok(three && no_fourth && still_stands(rt, alloc, shelf, board, marks)?)
 }
 
 /// One append keeps all marks that there are. Behind a fault nothing is kept and nothing more is asked
@@ -136,26 +239,7 @@ fn till_it_fails<N: HubName, K: HubName, R: Wait>(
         front,
         marks: Vec::new(alloc),
     });
-    let mut source = Source {
-        rt,
-        alloc,
-        marks: &marks,
-    };
-    for mark in [true, false, true] {
-        marks.lock(rt).add(mark)?;
-    }
-    let first = receipts_for(rt, alloc, &shelf, &board, &mut source, 1)?;
-    let again = receipts_for(rt, alloc, &shelf, &board, &mut source, 3)?;
-    let one = first.len() == 1 && again.len() == 1;
-    let fourth = marks.lock(rt).add(false)?;
-    let failed = receipts_for(rt, alloc, &shelf, &board, &mut source, fourth);
-    let broken = shelf.lock(rt).is_broken();
-    let tried = receipts_for(rt, alloc, &shelf, &board, &mut source, fourth);
-    let third = receipts_for(rt, alloc, &shelf, &board, &mut source, 3)?;
-    let shelf = shelf.lock(rt);
-    let stands = shelf.gave(&third) && third.len() == 1 && shelf.device().deeds().len() == 7;
-    let refused = matches!(failed, Err(KeepFault::File)) && matches!(tried, Err(KeepFault::File));
-    Ok(one && broken && refused && stands)
+    keeps_till(rt, alloc, &shelf, &board, &marks)
 }
 
 fn a_fault<R: Wait>(rt: &R, alloc: Global) -> Result<bool, KeepFault> {

@@ -24,6 +24,10 @@ status_of NoJournal = 8
 abbrev pub StandsFor : {F : Type 0} → (F → ℕ) → (F → ℕ → List ℕ → Type 0) → F → List ℕ → Type 0
 StandsFor moment left_since file text = (c : List ℕ) → left_since file (moment file) c → text_of c ≡ text
 
+-- no crash from now on leaves a file that is damaged
+abbrev pub LeavesSound : {F : Type 0} → (F → ℕ) → (F → ℕ → List ℕ → Type 0) → F → Type 0
+LeavesSound moment left_since file = (c : List ℕ) → left_since file (moment file) c → IsDamaged c → ⊥
+
 -- over how a journal is written, what the fields of its entries allow, and which entries may follow one another
 module _ {E : Type 0} (text : List E → List ℕ) (is_entry : E → Type 0) (is_legal : List E → Type 0) where
   -- the file stands for the text of no legal journal

@@ -3,7 +3,7 @@ use Rattle.std.specs.Prelude.{◌≡◌, ℕ, ◌<◌, ◌⊎◌, List, All}
 use Rattle.journal_file.specs.Settled.{IsDamaged}
 use Rattle.journal_file.specs.Whole.{text_of}
 use Rattle.journal_host.specs.Told.{JournalsTold, asked_at, lent_at, taken_back}
-use Rattle.kept_text.specs.Restarts.{StandsFor, HoldsNone}
+use Rattle.kept_text.specs.Restarts.{StandsFor, LeavesSound, HoldsNone}
 
 -- No file was given: it isn't there to be had, or there was no memory.
 pub record LacksFile {F : Type 0} (path : List ℕ) (before after : JournalsTold F) (status : ℕ) : Type 0 where
@@ -40,6 +40,10 @@ module _ {F : Type 0} (moment : F → ℕ) (left_since : F → ℕ → List ℕ 
       pub file : F
       pub back : ComesBack path before after read file
       pub cause : HasCause text is_entry is_legal read (faults file) status
+      -- Where no call of it failed it is as it was: whenever a crash came since it was given, it left what was read, byte for byte.
+      pub left_alone : (status ≡ 3 → ⊥) → (t : ℕ) (c : List ℕ) → left_since file t c → c ≡ read
+      -- Where one failed, no crash leaves a file that the next start refuses as damaged.
+      pub sound : status ≡ 3 → LeavesSound moment left_since file
 
     -- no journal was taken up
     abbrev pub LacksJournal : List ℕ → JournalsTold F → JournalsTold F → ℕ → Type 0

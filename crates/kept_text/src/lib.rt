@@ -5,6 +5,7 @@
 mod faults;
 mod intake;
 mod judging;
+mod law;
 mod parts;
 mod reading;
 mod restarting;
@@ -12,6 +13,7 @@ mod taking_up;
 
 pub use faults::TextFault;
 pub use judging::EntryJudge;
+pub use law::held_is_taken_up;
 pub use reading::KeptText;
 pub use restarting::{RestartFault, restart};
 pub use taking_up::take_up;

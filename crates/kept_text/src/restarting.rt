@@ -2,10 +2,12 @@
 //!
 //! Nothing goes on from a file before its whole text was judged anew. What is no journal's text is
 //! left untouched, and so is what no crash leaves.
-ghost use Rattle.std.specs.Prelude.{◌≡◌, ◌<◌, ℕ, List, All, IfOk, IfErr, MatchResult, vec_len};
+ghost use Rattle.std.specs.Prelude.{◌≡◌, ◌<◌, ℕ, List, All, IfOk, IfErr, OnOk, MatchResult, vec_len};
 ghost use Rattle.journal_file.specs.Device.{Only, LeavesOnly};
 ghost use Rattle.journal_file.specs.Whole.{text_of};
-ghost use Rattle.kept_text.specs.Restarts.{IsCause, StandsFor};
+ghost use Rattle.journal_file.specs.Settled.{IsDamaged, Stands, Keeps};
+ghost use Rattle.kept_text.specs.Restarts.{IsCause, StandsFor, LeavesSound};
+ghost use Rattle.kept_text.specs.declared.restarting.RestartFault.{RestartFault};
 
 use crate::faults::TextFault;
 use crate::intake::take_in_all;
@@ -48,6 +50,7 @@ fn read_text<
     T: KeptText<E> + Send,
     S: EntryJudge<E> + Send,
 >(rt: &R, alloc: Global, file: &[u8]) -> Result<S::Journal, RestartFault>
+    ensures sound { OnOk result (IsDamaged file.now → ⊥) }
     ensures text { IfOk result (λ journal. text_of file.now ≡ T.text (S.entries journal)) }
     ensures legal { IfOk result (λ journal. S.is_legal (S.entries journal)) }
     ensures only { IfOk result (λ journal. (entries : List E) → All T.is_entry entries → text_of file.now ≡ T.text entries → S.entries journal ≡ entries) }
@@ -90,8 +93,14 @@ pub fn restart<
     ensures stands { MatchResult result
         (λ r. StandsFor D.moment D.left_since r.1.device (text_of file.now))
         (λ e. StandsFor D.moment D.left_since e.1 (text_of file.now)) }
-    ensures any_moment { IfOk result (λ r. LeavesOnly D.moment D.left_since device r.1.device (λ c. text_of c ≡ text_of file.now)) }
-    ensures any_moment_err { IfErr result (λ e. LeavesOnly D.moment D.left_since device e.1 (λ c. text_of c ≡ text_of file.now)) }
+    // No crash of the call, or behind it, leaves a file that the next start refuses as damaged.
+    ensures sound { MatchResult result
+        (λ r. LeavesSound D.moment D.left_since r.1.device)
+        (λ e. e.0 ≡ RestartFault.Failed → LeavesSound D.moment D.left_since e.1) }
+    ensures any_moment { IfOk result (λ r. LeavesOnly D.moment D.left_since device r.1.device (Stands (text_of file.now))) }
+    ensures any_moment_err { IfErr result (λ e. LeavesOnly D.moment D.left_since device e.1 (Keeps file.now)) }
+    // What is refused for anything but a failed call of the device is as it was.
+    ensures untouched { IfErr result (λ e. (e.0 ≡ RestartFault.Failed → ⊥) → e.1 ≡ device) }
 {
     T::text_law();
     let journal = match read_text::<R, E, T, S>(rt, alloc, file) {

@@ -1,6 +1,6 @@
 //! Taking up the journal that the file at a path holds.
 ghost use Rattle.std.specs.Prelude.{◌≡◌, ◌⊎◌, IfOk, MatchResult};
-ghost use Rattle.kept_text.specs.Restarts.{status_of, StandsFor};
+ghost use Rattle.kept_text.specs.Restarts.{status_of, StandsFor, LeavesSound};
 ghost use Rattle.kept_text.specs.TakenUp.{TakesUp, LacksJournal};
 
 use crate::judging::EntryJudge;
@@ -33,8 +33,9 @@ fn status_of_restart(fault: RestartFault) -> u8
 }
 
 /// Takes up the journal in the file at that path, whose entries are read and judged anew. Where it
-/// can't, the file is given back, and the error is the program's status: 3 where the file wasn't given or
-/// failed, 5 for want of memory, and 8 where it is damaged or holds no journal.
+/// can't, the file is given back, as it was where none of its calls failed, and the error is the program's
+/// status: 3 where the file wasn't given or failed, 5 for want of memory, and 8 where it is damaged or
+/// holds no journal.
 pub fn take_up<
     R: Threads + Sync,
     J: Journals,
@@ -53,6 +54,7 @@ pub fn take_up<
         path.now (J.told journals.old) (J.told journals.new) status) }
     ensures text { IfOk result (λ r. r.1.text ≡ T.text (S.entries r.0)) }
     ensures stands { IfOk result (λ r. StandsFor J.File.moment J.File.left_since r.1.device r.1.text) }
+    ensures sound { IfOk result (λ r. LeavesSound J.File.moment J.File.left_since r.1.device) }
 {
     let (device, bytes) = match journals.lend(alloc, path, T::header()) {
         Ok(lent) => lent,

@@ -3,7 +3,7 @@ use crate::gates::RowGate;
 use crate::notes::{Notes, Told, is_wanted, point_of};
 use crate::rows::{Phase, Step};
 use api_desk::{HubDesk, MapHub, MapSession};
-use http_link::Desk;
+use http_link::{Desk, Reply};
 use osm_base::{Bytes, SESSION_LIMIT};
 use route_table::Routes;
 use row_lines::{RowFault, number};
@@ -31,6 +31,45 @@ pub struct Job<S: Drop> {
     pub notes: Notes,
 }
 
+/// How many calls a session had, and how many entries it had seen.
+#[derive(Clone, Copy)]
+struct Before {
+    calls: u64,
+    seen: u64,
+}
+
+/// The reply to the message that the bytes are.
+fn reply_to<N: HubName, R: Wait + Drop, W: Wait>(
+    alloc: Global,
+    desk: &mut RowDesk<'_, N, R, W>,
+    bytes: Bytes,
+) -> Result<Reply, RowFault> {
+    match whole_message(alloc, bytes)? {
+        Some(message) => Ok(desk.answer(alloc, message, MOMENT)?),
+        None => Err(RowFault::Unread),
+    }
+}
+
+/// What the session of a desk was told by a reply to these bytes.
+fn told_by<N: HubName, R: Wait + Drop, W: Wait>(
+    desk: &RowDesk<'_, N, R, W>,
+    before: Before,
+    bytes: Bytes,
+    reply: Reply,
+    wanted: Option<&str>,
+) -> Told {
+    let session = desk.session();
+    let accepted = u64::from(session.calls() > before.calls);
+    let point = point_of(&reply, before.seen, session.seen());
+    Told {
+        session: session.number(),
+        place: point.saturating_mul(2).saturating_sub(accepted),
+        bytes,
+        is_wanted: is_wanted(&reply, wanted),
+        reply,
+    }
+}
+
 /// Sends bytes to a desk, and notes what it is told.
 fn send<N: HubName, R: Wait + Drop, W: Wait>(
     alloc: Global,
@@ -39,25 +78,16 @@ fn send<N: HubName, R: Wait + Drop, W: Wait>(
     bytes: Bytes,
     wanted: Option<&str>,
 ) -> Result<Told, RowFault> {
-    let calls = desk.session().calls();
-    let seen = desk.session().seen();
+    let before = Before {
+        calls: desk.session().calls(),
+        seen: desk.session().seen(),
+    };
     let kept = Bytes::of(alloc, bytes.as_slice())?;
-    let message = whole_message(alloc, bytes)?.ok_or(RowFault::Unread)?;
-    let reply = desk.answer(alloc, message, MOMENT)?;
-    let session = desk.session();
-    if session.owes() || session.debts() > 0 {
+    let reply = reply_to(alloc, desk, bytes)?;
+    if desk.session().owes() || desk.session().debts() > 0 {
         notes.owed = notes.owed.saturating_add(1);
     }
-    let accepted = u64::from(session.calls() > calls);
-    let point = point_of(&reply, seen, session.seen());
-    let place = point.saturating_mul(2).saturating_sub(accepted);
-    Ok(Told {
-        session: session.number(),
-        place,
-        bytes: kept,
-        is_wanted: is_wanted(&reply, wanted),
-        reply,
-    })
+    Ok(told_by(desk, before, kept, reply, wanted))
 }
 
 /// Sends the request of a line, by the desk at that place.

@@ -1,8 +1,7 @@
 //! What sessions were told.
 use http_link::Reply;
-use itoa::Buffer;
 use osm_base::Bytes;
-use row_lines::{RowFault, add_numbered, add_request, add_written_out};
+use row_lines::{RowFault, add_marked, add_numbered, add_request, add_written_out};
 use std::alloc::Global;
 
 /// A request, its reply, and where in the journal it was answered.
@@ -16,19 +15,6 @@ pub struct Told {
     pub reply: Reply,
     /// Whether it is what must come, where the row says so.
     pub is_wanted: bool,
-}
-
-/// Adds the text with the number in the place of each `%`.
-fn add_named(made: &mut String, text: &str, number: u64) -> Result<(), RowFault> {
-    let mut digits = Buffer::new();
-    let digits = digits.format(number);
-    let mut parts = text.split('%');
-    made.push_str(parts.next().unwrap_or(""))?;
-    for part in parts {
-        made.push_str(digits)?;
-        made.push_str(part)?;
-    }
-    Ok(())
 }
 
 /// Whether a reply is the one that must come: `STATUS`, or `STATUS BODY`.
@@ -121,7 +107,7 @@ impl Notes {
         let mut numbered = String::new(alloc);
         add_numbered(&mut numbered, whole.as_str(), number)?;
         let mut named = String::new(alloc);
-        add_named(&mut named, numbered.as_str(), self.changeset(place))?;
+        add_marked(&mut named, numbered.as_str(), '%', self.changeset(place))?;
         add_request(bytes, &[], named.as_str())
     }
 }

@@ -12,7 +12,7 @@ use map_machine::MapMachine;
 use osm_model::Entry;
 use row_lines::RowFault;
 use shared_front::HubName;
-use snapshot_hub::{Closer, End, Seats, Shown};
+use snapshot_hub::{Closer, Closing, End, Seats, Shown};
 use std::alloc::Global;
 use std::sync::Wait;
 use std::thread::{Threads, map_vec};
@@ -119,28 +119,16 @@ fn unwanted<R: Print>(rt: &R, told: &[Told]) -> u64 {
     count
 }
 
-/// Ends the sessions of a hub that no thread shares any more, and says what came of the row.
-fn finish<N: HubName, R: Wait + Drop, P: Print>(
+/// What came of a row, by what its sessions were told, and by the journal and the ends of its hub.
+fn judge<S: Drop, P: Print>(
     rt: &P,
     alloc: Global,
     users: &UserTable,
-    hub: &mut RowHub<N, R>,
-    jobs: Vec<Job<MapSession<N>>>,
+    jobs: Vec<Job<S>>,
+    closing: &Closing<'_, Entry>,
     row: &Row<'_>,
-) -> Result<Outcome, RowFault>
-    requires open { hub.old ≡ Some (record { told = []; sessions = row.now.sessions }) }
-    requires ends { vec_len row.now.ends ≤ row.now.sessions }
-{
-    let mut jobs = jobs;
-    let late = hub.gate().late();
-    let mut closer = hub.close();
-    let unmatched = end_all(
-        &mut closer,
-        jobs.as_mut_slice(),
-        row.ends.as_slice(),
-        u64::from(row.each),
-    );
-    let closing = closer.done();
+    ends: Ends,
+) -> Result<Outcome, RowFault> {
     let (told, owed) = told_of(alloc, jobs)?;
     let entries = closing.journal.len() as u64;
     let calls = told.len() as u64;
@@ -151,11 +139,80 @@ fn finish<N: HubName, R: Wait + Drop, P: Print>(
         ends: closing.ends.len() as u64,
         unwanted,
         astray,
-        late,
+        late: ends.late,
         owed,
-        unmatched,
+        unmatched: ends.unmatched,
         miscounted: row.entries.is_some_and(|wanted| wanted != entries),
     })
+}
+
+/// How many holds ran out of turns, and how many ends didn't match.
+#[derive(Clone, Copy)]
+struct Ends {
+    late: u64,
+    unmatched: u64,
+}
+
+/// Ends the sessions of a hub that no thread shares any more, and says what came of the row.
+fn finish<N: HubName, R: Wait + Drop, P: Print>(
+    rt: &P,
+    alloc: Global,
+    users: &UserTable,
+    hub: &mut RowHub<N, R>,
+    jobs: Result<Vec<Job<MapSession<N>>>, RowFault>,
+    row: &Row<'_>,
+) -> Result<Outcome, RowFault>
+    requires open { hub.old ≡ Some (record { told = []; sessions = row.now.sessions }) }
+    requires ends { vec_len row.now.ends ≤ row.now.sessions }
+{
+    let mut jobs = jobs?;
+    let late = hub.gate().late();
+    let mut closer = hub.close();
+    let unmatched = end_all(
+        &mut closer,
+        jobs.as_mut_slice(),
+        row.ends.as_slice(),
+        u64::from(row.each),
+    );
+    let closing = closer.done();
+    judge(
+        rt,
+        alloc,
+        users,
+        jobs,
+        &closing,
+        row,
+        Ends { late, unmatched },
+    )
+}
+
+/// Plays a phase, which is read first.
+fn play_text<N: HubName + Send + Sync, R: Threads + Wait + Sync>(
+    rt: &R,
+    alloc: Global,
+    hub: &RowHub<N, &R>,
+    users: &UserTable,
+    jobs: Vec<Job<MapSession<N>>>,
+    text: &str,
+) -> Result<Vec<Job<MapSession<N>>>, RowFault> {
+    let phase = Phase::read(alloc, text)?;
+    play_phase::<N, R>(rt, alloc, hub, users, jobs, &phase)
+}
+
+/// Plays the phases of a row, one after the other.
+fn play_phases<N: HubName + Send + Sync, R: Threads + Wait + Sync>(
+    rt: &R,
+    alloc: Global,
+    hub: &RowHub<N, &R>,
+    users: &UserTable,
+    sessions: Vec<MapSession<N>>,
+    row: &Row<'_>,
+) -> Result<Vec<Job<MapSession<N>>>, RowFault> {
+    let mut jobs = jobs_of(alloc, sessions, row.each as usize)?;
+    for text in row.phases.split("\n-- ") {
+        jobs = play_text::<N, R>(rt, alloc, hub, users, jobs, text)?;
+    }
+    Ok(jobs)
 }
 
 /// Plays a row on a new hub of that name.
@@ -173,10 +230,6 @@ pub fn play_on<N: HubName + Send + Sync, R: Threads + Wait + Sync + Print>(
 {
     let gate = RowGate::new(alloc, row.sessions, row.holds.as_slice())?;
     let (mut hub, sessions) = RowHub::<N, &R>::new(alloc, rt, seats, gate)?;
-    let mut jobs = jobs_of(alloc, sessions, row.each as usize)?;
-    for text in row.phases.split("\n-- ") {
-        let phase = Phase::read(alloc, text)?;
-        jobs = play_phase::<N, R>(rt, alloc, &hub, users, jobs, &phase)?;
-    }
+    let jobs = play_phases::<N, R>(rt, alloc, &hub, users, sessions, row);
     finish::<N, &R, R>(rt, alloc, users, &mut hub, jobs, row)
 }

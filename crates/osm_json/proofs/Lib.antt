@@ -7,6 +7,7 @@ pub mod Firsts
 pub mod Gathered
 pub mod Given
 pub mod Grouped
+pub mod Growing
 pub mod Kept
 pub mod Latest
 pub mod Members
@@ -15,6 +16,7 @@ pub mod Objects
 pub mod Operations
 pub mod Parts
 pub mod Places
+pub mod Placing
 pub mod Plain
 pub mod PlainData
 pub mod PlainParts

@@ -91,10 +91,6 @@ record_sent {a} {b} {c} {d} {fs} begin fields end =
     let inner : Appends b c (flat_map field_tokens fs) = record { before = fields.before; tokens = fields.tokens } in
     rw record_tokens (begin ⨾ inner ⨾ end)
 
--- one item of an array
-pub item_sent : {A : Type 0} {a b : Written} (shown : A → Data) (x : A) → Appends a b (tokens_of (shown x)) → Appends a b (flat_map (λ x. tokens_of (shown x)) (x ∷ []))
-item_sent {A} {a} {b} shown x p = record { before = p.before; tokens = p.tokens ∙ ap (λ ts. a.tokens ++ ts) (sym (append-nil (tokens_of (shown x)))) }
-
 -- an array, from its items
 pub list_sent : {A : Type 0} {a b c d : Written} (shown : A → Data) (xs : List A) → Appends a b (begin_array ∷ []) → Appends b c (flat_map (λ x. tokens_of (shown x)) xs) → Appends c d (end_array ∷ [])
     → Appends a d (tokens_of (list_of shown xs))
@@ -112,11 +108,7 @@ document_sent name part begin key value version end = record_sent begin (member_
 
 -- ---- the text
 
-pub text_written : (before w : Written) (d : Data) → before.before ≡ [] → before.tokens ≡ [] → Appends before w (tokens_of d) → w.before ++ print w.tokens ≡ compact_text d
-unfolding tokens_of
-text_written before w d none empty p = rw (p.before, none, p.tokens, empty) (print-outline d)
-
--- the same behind bytes that are there already
+-- the text of what was written behind bytes that are there already
 pub text_behind : (before w : Written) (d : Data) → before.tokens ≡ [] → Appends before w (tokens_of d) → w.before ++ print w.tokens ≡ before.before ++ compact_text d
 unfolding tokens_of
 text_behind before w d empty p = rw (p.before, p.tokens, empty) (ap (λ text. before.before ++ text) (print-outline d))

@@ -1,3 +1,4 @@
+pub mod Added
 pub mod Again
 pub mod Answered
 pub mod Blocks

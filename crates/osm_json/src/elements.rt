@@ -1,162 +1,166 @@
 //! Versions of elements, and what a changeset made.
-ghost use Rattle.std.specs.Prelude.{◌≡◌, [], ◌∷◌, All, codes, flat_map};
-ghost use Rattle.osm_json.specs.Shown.{field_if};
-ghost use Rattle.osm_json.specs.Rows.{number_fields, redaction_fields, origin_fields, action_name as name_of_action, element as element_data, bounds as bounds_data, elements as elements_data, block as block_data, download as download_data};
+//!
+//! The fixed parts of a row are whole pieces, and what rows of one upload share is kept from one to the next.
+ghost use Rattle.std.specs.Prelude.{◌≡◌, All, is_some, flat_map};
+ghost use Rattle.serde_json.specs.Written.{compact_text};
+ghost use Rattle.osm_json.specs.Rows.{element as element_data, elements as elements_data, block as block_data, download as download_data};
+ghost use Rattle.osm_json.specs.Added.{Adds, later_text, origin_of, ending_text, joined, opening_text, block_opening_text};
 ghost use Rattle.osm_change.specs.Moments.{HasShownStamp};
-ghost use Rattle.osm_json.specs.Sent.{Sends, SendsFields, tokens_of};
 
-use crate::contents::{edges, visible, visible_tags};
-use crate::moment::ShownMoment;
-use crate::send::{FieldValue, kind_name, members, moment_behind, optional, version};
-use json::Writer;
+use crate::body::Body;
+use crate::origin::ShownOrigin;
+use crate::rows::{redaction, visible, visible_tags};
 use osm_base::Box7;
 use osm_change::ElementRow;
 use osm_element::Version;
 use std::alloc::AllocError;
 
-fn number(out: &mut Writer, row: &ElementRow<'_>) -> Result<(), AllocError>
-    ensures { SendsFields result out.old out.new (number_fields row.now) }
+/// A row, with its origin.
+fn element(out: &mut Body, row: &ElementRow<'_>, origin: &ShownOrigin<'_>) -> Result<(), AllocError>
+    requires { origin.now ≡ origin_of row.now }
+    ensures { Adds result out.old out.new (compact_text (element_data row.now)) }
 {
-    members(
-        out,
-        &[
-            ("changeset", FieldValue::Natural(row.version.changeset())),
-            ("id", FieldValue::Natural(row.key.id)),
-        ],
-    )
-}
-
-fn redaction(out: &mut Writer, version: &Version) -> Result<(), AllocError>
-    ensures { SendsFields result out.old out.new (redaction_fields version.now) }
-{
-    members(out, &[("redaction", optional(version.redaction()))])
-}
-
-fn origin(out: &mut Writer, row: &ElementRow<'_>) -> Result<(), AllocError>
-    ensures { SendsFields result out.old out.new (origin_fields row.now) }
-{
-    members(
-        out,
-        &[
-            ("type", FieldValue::Text(kind_name(row.key.kind))),
-            ("uid", FieldValue::Natural(row.owner.id)),
-            ("user", FieldValue::Text(row.owner.name.as_str())),
-            ("version", FieldValue::Natural(row.number)),
-            ("visible", FieldValue::Flag(row.version.content().is_some())),
-        ],
-    )
-}
-
-/// A row, behind one whose moment was the last that was shown.
-fn element(out: &mut Writer, row: &ElementRow<'_>, last: &mut ShownMoment) -> Result<(), AllocError>
-    requires { HasShownStamp row.now }
-    ensures { Sends result out.old out.new (tokens_of (element_data row.now)) }
-{
-    out.begin_object()?;
-    number(out, row)?;
+    out.natural(b"{\"changeset\":", row.version.changeset())?;
+    out.natural(b",\"id\":", row.key.id)?;
     visible(out, row.version)?;
     redaction(out, row.version)?;
     visible_tags(out, row.version)?;
-    moment_behind(out, "timestamp", row.version.stamp(), last)?;
-    origin(out, row)?;
-    out.end_object()
+    out.piece(origin.text())?;
+    out.natural(b"", row.number)?;
+    ending(out, row.version)?;
+    Ok(())
 }
 
-fn element_rows(out: &mut Writer, rows: &[ElementRow<'_>]) -> Result<(), AllocError>
-    requires { All HasShownStamp rows.now }
-    ensures { Sends result out.old out.new (flat_map (λ r. tokens_of (element_data r)) rows.now) }
+fn ending(out: &mut Body, version: &Version) -> Result<(), AllocError>
+    ensures { Adds result out.old out.new (ending_text (is_some version.now.content)) }
 {
-    let Some(first) = rows.first() else {
-        return Ok(());
-    };
-    let mut last = ShownMoment::of(first.version.stamp());
-    for row in rows {
-        element(out, row, &mut last)?;
+    match version.content() {
+        Some(_) => out.piece(b",\"visible\":true}")?,
+        None => out.piece(b",\"visible\":false}")?,
     }
     Ok(())
 }
 
-fn bounds(out: &mut Writer, bounds: &Option<Box7>) -> Result<(), AllocError>
-    ensures { SendsFields result out.old out.new
-        (field_if (codes "bounds") bounds_data bounds.now ∷ []) }
+/// Rows behind one with this origin.
+fn later_rows<'a>(
+    out: &mut Body,
+    rows: &[ElementRow<'a>],
+    origin: ShownOrigin<'a>,
+) -> Result<(), AllocError>
+    requires { All HasShownStamp rows.now }
+    ensures { Adds result out.old out.new (flat_map (λ r. later_text (element_data r)) rows.now) }
 {
-    match bounds {
-        None => Ok(()),
-        Some(within) => {
-            out.key("bounds")?;
-            out.begin_object()?;
-            edges(out, within)?;
-            out.end_object()?;
-            Ok(())
+    let mut origin = origin;
+    for row in rows {
+        origin = origin.behind(row)?;
+        out.piece(b",")?;
+        element(out, row, &origin)?;
+    }
+    Ok(())
+}
+
+fn element_rows(out: &mut Body, rows: &[ElementRow<'_>]) -> Result<(), AllocError>
+    requires { All HasShownStamp rows.now }
+    ensures { Adds result out.old out.new (joined element_data rows.now) }
+{
+    let Some((first, rest)) = rows.split_first() else {
+        return Ok(());
+    };
+    let origin = ShownOrigin::of(out.allocator(), first)?;
+    element(out, first, &origin)?;
+    later_rows(out, rest, origin)?;
+    Ok(())
+}
+
+fn opening(out: &mut Body, within: &Option<Box7>) -> Result<(), AllocError>
+    ensures { Adds result out.old out.new (opening_text within.now) }
+{
+    match within {
+        None => out.piece(b"{\"elements\":[")?,
+        Some(area) => {
+            let (left, bottom, right, top) = area.edges();
+            out.integer(b"{\"bounds\":{\"maxlat7\":", top)?;
+            out.integer(b",\"maxlon7\":", right)?;
+            out.integer(b",\"minlat7\":", bottom)?;
+            out.integer(b",\"minlon7\":", left)?;
+            out.piece(b"},\"elements\":[")?;
         }
     }
+    Ok(())
 }
 
 pub(crate) fn elements(
-    out: &mut Writer,
+    out: &mut Body,
     within: &Option<Box7>,
     rows: &[ElementRow<'_>],
 ) -> Result<(), AllocError>
     requires { All HasShownStamp rows.now }
-    ensures { Sends result out.old out.new (tokens_of (elements_data within.now rows.now)) }
+    ensures { Adds result out.old out.new (compact_text (elements_data within.now rows.now)) }
 {
-    out.begin_object()?;
-    bounds(out, within)?;
-    out.key("elements")?;
-    out.begin_array()?;
+    opening(out, within)?;
     element_rows(out, rows)?;
-    out.end_array()?;
-    version(out)?;
-    out.end_object()
+    out.piece(b"],\"version\":\"0.6\"}")?;
+    Ok(())
 }
 
-fn action_name(row: &ElementRow<'_>) -> &'static str
-    ensures { result.now ≡ name_of_action row.now }
+fn block_opening(row: &ElementRow<'_>) -> &'static [u8]
+    ensures { result.now ≡ block_opening_text row.now }
 {
     if row.number == 1 {
-        "create"
-    } else if row.version.content().is_none() {
-        "delete"
-    } else {
-        "modify"
+        return b"{\"create\":[";
+    }
+    match row.version.content() {
+        Some(_) => b"{\"modify\":[",
+        None => b"{\"delete\":[",
     }
 }
 
-fn block(out: &mut Writer, row: &ElementRow<'_>, last: &mut ShownMoment) -> Result<(), AllocError>
-    requires { HasShownStamp row.now }
-    ensures { Sends result out.old out.new (tokens_of (block_data row.now)) }
+fn block(out: &mut Body, row: &ElementRow<'_>, origin: &ShownOrigin<'_>) -> Result<(), AllocError>
+    requires { origin.now ≡ origin_of row.now }
+    ensures { Adds result out.old out.new (compact_text (block_data row.now)) }
 {
-    out.begin_object()?;
-    out.key(action_name(row))?;
-    out.begin_array()?;
-    element(out, row, last)?;
-    out.end_array()?;
-    out.end_object()
+    out.piece(block_opening(row))?;
+    element(out, row, origin)?;
+    out.piece(b"]}")?;
+    Ok(())
 }
 
-fn blocks(out: &mut Writer, rows: &[ElementRow<'_>]) -> Result<(), AllocError>
+fn later_blocks<'a>(
+    out: &mut Body,
+    rows: &[ElementRow<'a>],
+    origin: ShownOrigin<'a>,
+) -> Result<(), AllocError>
     requires { All HasShownStamp rows.now }
-    ensures { Sends result out.old out.new (flat_map (λ r. tokens_of (block_data r)) rows.now) }
+    ensures { Adds result out.old out.new (flat_map (λ r. later_text (block_data r)) rows.now) }
 {
-    let Some(first) = rows.first() else {
-        return Ok(());
-    };
-    let mut last = ShownMoment::of(first.version.stamp());
+    let mut origin = origin;
     for row in rows {
-        block(out, row, &mut last)?;
+        origin = origin.behind(row)?;
+        out.piece(b",")?;
+        block(out, row, &origin)?;
     }
     Ok(())
 }
 
-pub(crate) fn download(out: &mut Writer, rows: &[ElementRow<'_>]) -> Result<(), AllocError>
+fn blocks(out: &mut Body, rows: &[ElementRow<'_>]) -> Result<(), AllocError>
     requires { All HasShownStamp rows.now }
-    ensures { Sends result out.old out.new (tokens_of (download_data rows.now)) }
+    ensures { Adds result out.old out.new (joined block_data rows.now) }
 {
-    out.begin_object()?;
-    out.key("osmChange")?;
-    out.begin_array()?;
+    let Some((first, rest)) = rows.split_first() else {
+        return Ok(());
+    };
+    let origin = ShownOrigin::of(out.allocator(), first)?;
+    block(out, first, &origin)?;
+    later_blocks(out, rest, origin)?;
+    Ok(())
+}
+
+pub(crate) fn download(out: &mut Body, rows: &[ElementRow<'_>]) -> Result<(), AllocError>
+    requires { All HasShownStamp rows.now }
+    ensures { Adds result out.old out.new (compact_text (download_data rows.now)) }
+{
+    out.piece(b"{\"osmChange\":[")?;
     blocks(out, rows)?;
-    out.end_array()?;
-    version(out)?;
-    out.end_object()
+    out.piece(b"],\"version\":\"0.6\"}")?;
+    Ok(())
 }

@@ -12,7 +12,7 @@ ghost use Rattle.osm_change.specs.Moments.{IsShownMoment};
 ghost use Rattle.osm_json.specs.Sent.{Sends, SendsFields, tokens_of, field_tokens};
 ghost use Rattle.osm_json.specs.Fields.{shown_field, shown_fields, IsMember};
 
-use crate::moment::{ShownMoment, moment_text};
+use crate::moment::moment_text;
 use json::Writer;
 use osm_base::{Kind, Stamp};
 use osm_change::Said;
@@ -142,20 +142,6 @@ pub(crate) fn moment(out: &mut Writer, name: &str, stamp: Stamp) -> Result<(), A
 {
     let shown = moment_text(stamp);
     text(out, name, shown.as_str())
-}
-
-/// The same behind a moment that was shown.
-pub(crate) fn moment_behind(
-    out: &mut Writer,
-    name: &str,
-    stamp: Stamp,
-    last: &mut ShownMoment,
-) -> Result<(), AllocError>
-    requires { IsShownMoment stamp }
-    ensures { Sends result out.old out.new (field_tokens (field name.now (moment stamp))) }
-{
-    last.set(stamp);
-    text(out, name, last.text())
 }
 
 pub(crate) fn optional_moment(

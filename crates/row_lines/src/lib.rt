@@ -9,5 +9,5 @@ mod wire;
 
 pub use escapes::add_unescaped;
 pub use faults::RowFault;
-pub use lines::{add_numbered, add_written_out, number, word_of};
+pub use lines::{add_marked, add_numbered, add_written_out, number, word_of};
 pub use wire::{add_reply, add_request};

@@ -17,9 +17,14 @@ pub fn number(text: &str) -> Result<u64, RowFault> {
 
 /// Adds the text with the number in the place of each `#`.
 pub fn add_numbered(made: &mut String, text: &str, number: u64) -> Result<(), RowFault> {
+    add_marked(made, text, '#', number)
+}
+
+/// Adds the text with the number in the place of each such mark.
+pub fn add_marked(made: &mut String, text: &str, mark: char, number: u64) -> Result<(), RowFault> {
     let mut digits = Buffer::new();
     let digits = digits.format(number);
-    let mut parts = text.split('#');
+    let mut parts = text.split(mark);
     made.push_str(parts.next().unwrap_or(""))?;
     for part in parts {
         made.push_str(digits)?;

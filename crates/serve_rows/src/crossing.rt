@@ -281,7 +281,50 @@ struct Crossed {
     is_in_time: bool,
 }
 
-/// Serves both links, each on a thread of its own.
+/// Serves the links of the workers, each on a thread of its own.
+fn serve_workers<N: HubName + Send + Sync, R: Threads + Wait + Sync>(
+    rt: &R,
+    alloc: Global,
+    hub: &MapHub<N, Crossing, &R>,
+    users: &UserTable,
+    workers: &mut [Worker<Option<MapSession<N>>, MemPort>],
+) {
+    let service = CrossingService { rt, hub, users };
+    serve_all(rt, alloc, &service, workers);
+}
+
+/// Whether the workers' links got what they must.
+fn have_got<S: Drop>(
+    alloc: Global,
+    workers: Vec<Worker<S, MemPort>>,
+    talks: &[&[Turn]],
+) -> Result<bool, Memory> {
+    let ports = ports_of(alloc, workers)?;
+    all_got(alloc, ports.as_slice(), talks)
+}
+
+/// Serves a link for each session, and answers whether each got what it must.
+fn cross_on<N: HubName + Send + Sync, R: Threads + Wait + Sync>(
+    rt: &R,
+    alloc: Global,
+    hub: &MapHub<N, Crossing, &R>,
+    users: &UserTable,
+    sessions: Vec<MapSession<N>>,
+    talks: &[&[Turn]],
+) -> Result<bool, Memory> {
+    let mut workers = seats_of(alloc, hub, sessions, talks)?;
+    serve_workers(rt, alloc, hub, users, workers.as_mut_slice());
+    have_got(alloc, workers, talks)
+}
+
+fn crossed_of(got: Result<bool, Memory>, is_in_time: bool) -> Result<Crossed, Memory> {
+    Ok(Crossed {
+        is_right: got?,
+        is_in_time,
+    })
+}
+
+/// Has the sessions of a new hub cross.
 fn cross<N: HubName + Send + Sync, R: Threads + Wait + Sync>(
     rt: &R,
     alloc: Global,
@@ -294,18 +337,8 @@ fn cross<N: HubName + Send + Sync, R: Threads + Wait + Sync>(
     requires seated { seats.sessions ≡ N.sessions }
 {
     let (hub, sessions) = MapHub::<N, Crossing, &R>::new(alloc, rt, seats, Crossing::new(holds))?;
-    let mut workers = seats_of(alloc, &hub, sessions, talks)?;
-    let service = CrossingService {
-        rt,
-        hub: &hub,
-        users,
-    };
-    serve_all(rt, alloc, &service, workers.as_mut_slice());
-    let ports = ports_of(alloc, workers)?;
-    Ok(Crossed {
-        is_right: all_got(alloc, ports.as_slice(), talks)?,
-        is_in_time: hub.gate().is_in_time(),
-    })
+    let got = cross_on(rt, alloc, &hub, users, sessions, talks);
+    crossed_of(got, hub.gate().is_in_time())
 }
 
 fn cross_with_users<R: Threads + Wait + Sync>(

@@ -37,18 +37,3 @@ pub fn port(
     }
     MemPort::new(alloc, all, bad_accepts.to_vec(alloc)?)
 }
-
-/// Ports with so many links each, which all send these texts, and the last one's accepts that fail.
-pub fn ports(
-    alloc: Global,
-    links: &[usize],
-    sent: &[&str],
-    bad: &[u64],
-) -> Result<Vec<MemPort>, Memory> {
-    let mut all = Vec::new(alloc);
-    for (place, count) in links.iter().enumerate() {
-        let is_last = place + 1 == links.len();
-        all.push(port(alloc, *count, sent, if is_last { bad } else { &[] })?)?;
-    }
-    Ok(all)
-}

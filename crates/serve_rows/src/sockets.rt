@@ -56,12 +56,16 @@ impl Replies {
 }
 
 /// Creates a changeset and uploads a node to it, on a link that the server ends.
-fn edit<R: Net>(rt: &R, alloc: Global, address: SocketAddr, replies: &Replies) -> io::Result<bool> {
-    let mut stream = TcpStream::connect(rt, address)?;
-    let is_created = ask(alloc, &mut stream, CREATION, replies.creation.as_str())?;
-    let is_uploaded = ask(alloc, &mut stream, UPLOAD, replies.upload.as_str())?;
+fn edit_on<S: Read + Write>(alloc: Global, stream: &mut S, replies: &Replies) -> io::Result<bool> {
+    let is_created = ask(alloc, stream, CREATION, replies.creation.as_str())?;
+    let is_uploaded = ask(alloc, stream, UPLOAD, replies.upload.as_str())?;
     let has_ended = stream.read(&mut [0])? == 0;
     Ok(is_created && is_uploaded && has_ended)
+}
+
+fn edit<R: Net>(rt: &R, alloc: Global, address: SocketAddr, replies: &Replies) -> io::Result<bool> {
+    let mut stream = TcpStream::connect(rt, address)?;
+    edit_on(alloc, &mut stream, replies)
 }
 
 /// What each of two links asks, and the replies to the one that asks first and to the other.
@@ -90,21 +94,36 @@ impl Turns {
     }
 }
 
-/// Opens two links. The first is silent until the second has its reply, and gets its own while the
-/// second is still open: so two workers serve at once, and neither waits for the other.
+/// A link that waits so long for its reply.
+fn link_to<R: Net>(rt: &R, address: SocketAddr) -> io::Result<R::Stream> {
+    let stream = TcpStream::connect(rt, address)?;
+    stream.set_read_timeout(Some(Duration::from_secs(REPLY_WAIT)))?;
+    Ok(stream)
+}
+
+/// The first of two links is silent until the second has its reply, and gets its own while the second
+/// is still open: so two workers serve at once, and neither waits for the other.
+fn turn_by_turn<S: Read + Write>(
+    alloc: Global,
+    silent: &mut S,
+    other: &mut S,
+    turns: &Turns,
+) -> io::Result<bool> {
+    let is_first = ask(alloc, other, turns.request, turns.first.as_str())?;
+    let is_second = ask(alloc, silent, turns.request, turns.second.as_str())?;
+    Ok(is_first && is_second)
+}
+
+/// Opens two links, and has them take turns.
 fn take_turns<R: Net>(
     rt: &R,
     alloc: Global,
     address: SocketAddr,
     turns: &Turns,
 ) -> io::Result<bool> {
-    let mut silent = TcpStream::connect(rt, address)?;
-    let mut other = TcpStream::connect(rt, address)?;
-    silent.set_read_timeout(Some(Duration::from_secs(REPLY_WAIT)))?;
-    other.set_read_timeout(Some(Duration::from_secs(REPLY_WAIT)))?;
-    let is_first = ask(alloc, &mut other, turns.request, turns.first.as_str())?;
-    let is_second = ask(alloc, &mut silent, turns.request, turns.second.as_str())?;
-    Ok(is_first && is_second)
+    let mut silent = link_to(rt, address)?;
+    let mut other = link_to(rt, address)?;
+    turn_by_turn(alloc, &mut silent, &mut other, turns)
 }
 
 /// What is sent to a server.

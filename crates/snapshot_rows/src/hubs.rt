@@ -2,111 +2,101 @@
 ghost use Rattle.std.specs.Prelude.{◌≡◌, ◌<◌, false};
 
 use crate::listing::{Lack, Listing, Noted, Wish};
-use hub_core::Path;
-use machine_law::Tag;
+use crate::tells::{Given, given_of};
 use osm_base::{Memory, Steps};
 use osm_outside::NoGate;
 use shared_front::HubName;
 use snapshot_hub::{Hub, Session, Shown};
+use std::marker::Brand;
 use std::sync::Wait;
-use std::sync::ledger::Ledger;
+use std::sync::ledger::{Blank, Ledger};
 
 pub type ListHub<N, R> = Hub<N, Listing, Shown<N, Listing>, NoGate, R>;
 
 pub type ListSession<N> = Session<N, Listing, Shown<N, Listing>>;
-
-/// What a commit gives, in plain values.
-#[derive(Clone, Copy, PartialEq, Eq)]
-pub enum Given {
-    Added { place: u64 },
-    AddedAfterAll { place: u64, look: u64 },
-    Refused,
-}
 
 /// Commits a number by a session that owes nothing.
 pub fn add<N: HubName, R: Wait + Drop, W: Wait, L: Ledger>(
     rt: &W,
     hub: &ListHub<N, R>,
     session: &mut ListSession<N>,
-    number: u64,
-    lack: Lack,
+    wish: Wish,
     steps: &mut Steps<L>,
 ) -> Result<Given, Memory> {
     if session.owes() {
         return Err(Memory);
     }
-    let plan = session.plan(hub.gate(), Wish { number, lack }, steps)?;
-    let done = hub.commit(rt, session, plan, 0, steps)?;
-    Ok(match (done.place, done.path) {
-        (Some(place), Path::Fast) => Given::Added { place },
-        (Some(place), Path::Slow(look)) => Given::AddedAfterAll { place, look },
-        (None, _) => Given::Refused,
-    })
+    let plan = session.plan(hub.gate(), wish, steps)?;
+    Ok(given_of(&hub.commit(rt, session, plan, 0, steps)?))
 }
 
-/// Where a session stands, in plain values.
-#[derive(Clone, Copy, PartialEq, Eq)]
-pub struct Standing {
-    pub seen: u64,
-    pub calls: u64,
-    pub owes: bool,
-    pub debts: u64,
+/// Plans a number by a session, has another session add one, and commits the plan then.
+pub fn cross<N: HubName, R: Wait + Drop, W: Wait, L: Ledger>(
+    rt: &W,
+    hub: &ListHub<N, R>,
+    session: &mut ListSession<N>,
+    other: &mut ListSession<N>,
+    numbers: [u64; 2],
+    steps: &mut Steps<L>,
+) -> Result<(Given, Given), Memory> {
+    if session.owes() {
+        return Err(Memory);
+    }
+    let [number, others] = numbers;
+    let plan = session.plan(hub.gate(), plain(number), steps)?;
+    let first = add(rt, hub, other, plain(others), steps)?;
+    let second = given_of(&hub.commit(rt, session, plan, 0, steps)?);
+    Ok((first, second))
 }
 
-pub fn standing_of<N: HubName, R: Wait + Drop>(
-    _hub: &ListHub<N, R>,
-    session: &ListSession<N>,
-) -> Standing {
-    Standing {
-        seen: session.seen(),
-        calls: session.calls(),
-        owes: session.owes(),
-        debts: session.debts(),
+/// The wish for a number that finds its memory.
+pub fn plain(number: u64) -> Wish {
+    Wish {
+        number,
+        lack: Lack::Nothing,
     }
 }
 
-/// A session that owes nothing and never did.
-pub fn at(seen: u64, calls: u64) -> Standing {
-    Standing {
-        seen,
-        calls,
-        owes: false,
-        debts: 0,
-    }
-}
-
-/// Whether the number at a place is this one, for a session that owes nothing.
-pub fn reads<N: HubName, R: Wait + Drop, L: Ledger>(
+/// The number at a place, for a session that owes nothing.
+pub fn at<N: HubName, R: Wait + Drop, L: Ledger>(
     _hub: &ListHub<N, R>,
     session: &mut ListSession<N>,
     place: u64,
-    number: Option<u8>,
     steps: &mut Steps<L>,
-) -> Result<bool, Memory> {
+) -> Result<Option<u8>, Memory> {
     if session.owes() {
         return Err(Memory);
     }
     let bytes = session.ask(&place, 0, steps)?;
-    Ok(bytes.as_slice().first().copied() == number)
+    Ok(bytes.as_slice().first().copied())
 }
 
-/// Whether a part of the journal has these entries.
-pub fn has_part<N: HubName, R: Wait + Drop, W: Wait>(
+/// Adds the numbers from 0 on by a new session, so many, and answers whether it owed after none.
+fn add_all<N: HubName, R: Wait + Drop, W: Wait, L: Ledger>(
     rt: &W,
     hub: &ListHub<N, R>,
     session: &mut ListSession<N>,
-    from: u64,
     count: u64,
-    wanted: &[Noted],
-) -> Result<bool, Memory> {
-    let part = hub.part(rt, session, from, count)?;
-    Ok(part.as_slice() == wanted)
+    blank: Blank,
+) -> Result<bool, Memory>
+    requires name { blank.name ≡ L.name }
+    requires parts { blank.parts ≡ L.parts }
+    requires some { 0 < blank.parts }
+{
+    let (book, share) = blank.open::<L>();
+    let mut steps = Steps::of(book, share);
+    for number in 0..count {
+        add(rt, hub, session, plain(number), &mut steps)?;
+    }
+    Ok(session.calls() == count && session.debts() == 0)
 }
 
-/// The entry of a session's call.
-pub fn noted(session: u32, call: u64, number: u64, lack: Lack) -> Noted {
-    Noted {
-        tag: Tag { session, call },
-        wish: Wish { number, lack },
-    }
+/// The same, with the ledger picked.
+pub fn add_many<N: HubName, R: Wait + Drop, W: Wait>(
+    rt: &W,
+    hub: &ListHub<N, R>,
+    session: &mut ListSession<N>,
+    count: u64,
+) -> Result<bool, Memory> {
+    add_all::<N, R, W, Brand>(rt, hub, session, count, Blank::new(1))
 }

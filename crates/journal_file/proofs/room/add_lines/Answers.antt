@@ -1,7 +1,7 @@
 use Rattle.std.proofs.Common.{◌≡◌, ℕ, List, ◌++◌, ◌+◌, length, inl, subst}
 use Rattle.journal_file.specs.Device.{LeavesOnly}
 use Rattle.journal_file.specs.Whole.{text_of}
-use Rattle.journal_file.specs.Settled.{IsSettled, IsBeforeOrAfter}
+use Rattle.journal_file.specs.Settled.{IsSettled, IsBeforeOrAfter, Stands}
 use Rattle.journal_file.proofs.Gates.{gated_text, settled_now}
 use Rattle.journal_file.proofs.Moments.{goes_over, weaker}
 use Rattle.journal_file.proofs.room.add_lines.Goals as goal
@@ -14,7 +14,7 @@ returns-in_err-end-clause-any_moment g c =
     let d = g.D.Device in
     let old = c.args.device.now in
     let text = text_of (d.seen old) in
-    weaker d.moment d.left_since old c.make_room.new.device (λ f. text_of f ≡ text) (IsBeforeOrAfter text c.args.lines.now) (λ f is. inl is) c.make_room.ensures.any_moment
+    weaker d.moment d.left_since old c.make_room.new.device (Stands text) (IsBeforeOrAfter text c.args.lines.now) (λ f is. inl is) c.make_room.ensures.any_moment
 
 pub returns-in_err-put_lines-clause-any_moment : goal.returns-in_err-put_lines-clause-any_moment
 returns-in_err-put_lines-clause-any_moment g c =
@@ -27,7 +27,7 @@ returns-in_err-put_lines-clause-any_moment g c =
     let same : text_of (d.seen mid) ≡ text = gated_text _ _ c.in_ok-end.ensures.settled.gated in
     let P = IsBeforeOrAfter text lines in
     let on = subst (λ (l : List ℕ). LeavesOnly d.moment d.left_since mid new (IsBeforeOrAfter l lines)) same c.put_lines.ensures.any_moment in
-    goes_over d.moment d.left_since old mid new (λ f. text_of f ≡ text) P P (λ f is. inl is) (λ f has. has) c.make_room.ensures.any_moment on
+    goes_over d.moment d.left_since old mid new (Stands text) P P (λ f is. inl is) (λ f has. has) c.make_room.ensures.any_moment on
 
 pub returns-clause-any_moment : goal.returns-clause-any_moment
 returns-clause-any_moment g c =
@@ -40,7 +40,7 @@ returns-clause-any_moment g c =
     let same : text_of (d.seen mid) ≡ text = gated_text _ _ c.in_ok-end.ensures.settled.gated in
     let P = IsBeforeOrAfter text lines in
     let on = subst (λ (l : List ℕ). LeavesOnly d.moment d.left_since mid new (IsBeforeOrAfter l lines)) same c.put_lines.ensures.any_moment in
-    goes_over d.moment d.left_since old mid new (λ f. text_of f ≡ text) P P (λ f is. inl is) (λ f has. has) c.make_room.ensures.any_moment on
+    goes_over d.moment d.left_since old mid new (Stands text) P P (λ f is. inl is) (λ f has. has) c.make_room.ensures.any_moment on
 
 pub returns-clause-settled : goal.returns-clause-settled
 returns-clause-settled g c =

@@ -1,9 +1,9 @@
 use Rattle.std.proofs.Common.{◌≡◌, ℕ, List, [], ◌∷◌, length, sym, ◌∙◌, ap, subst, arith}
 use Rattle.journal_file.specs.Device.{Only, Cut, Torn, Holds}
 use Rattle.journal_file.specs.Whole.{text_of}
-use Rattle.journal_file.specs.Settled.{IsGated}
+use Rattle.journal_file.specs.Settled.{IsGated, Keeps}
 use Rattle.journal_file.proofs.Moments.{started, goes_on}
-use Rattle.journal_file.proofs.Repair.{cut_keeps, cut_done, torn_end, written_end, text_within}
+use Rattle.journal_file.proofs.Repair.{cut_keeps, cut_done, same_keeps, torn_end, written_end, text_within}
 use Rattle.journal_file.proofs.write.close_at.Goals as goal
 
 pub cut-requires : goal.cut-requires
@@ -25,8 +25,8 @@ returns-in_err-cut-clause-any_moment g c =
     let file = d.seen old in
     let text = text_of file in
     let n = c.args.end in
-    let P : List ℕ → Type 0 = λ f. text_of f ≡ text in
-    let here : (f : List ℕ) → d.may_leave old f → P f = λ f now. ap text_of (c.requires.durable f now) in
+    let P : List ℕ → Type 0 = Keeps file in
+    let here : (f : List ℕ) → d.may_leave old f → P f = λ f now. same_keeps file f (c.requires.durable f now) in
     let start = started d.moment d.left_since old P (λ f left. here f (g.met.D.Device.only_now old f left)) in
     let after_cut : (f : List ℕ) → d.may_leave c.cut.new.self f → P f = λ f now.
     let from = c.cut.ensures.crash f now in
@@ -41,8 +41,8 @@ returns-in_err-sync-clause-any_moment g c =
     let file = d.seen old in
     let text = text_of file in
     let n = c.args.end in
-    let P : List ℕ → Type 0 = λ f. text_of f ≡ text in
-    let here : (f : List ℕ) → d.may_leave old f → P f = λ f now. ap text_of (c.requires.durable f now) in
+    let P : List ℕ → Type 0 = Keeps file in
+    let here : (f : List ℕ) → d.may_leave old f → P f = λ f now. same_keeps file f (c.requires.durable f now) in
     let start = started d.moment d.left_since old P (λ f left. here f (g.met.D.Device.only_now old f left)) in
     let after_cut : (f : List ℕ) → d.may_leave c.cut.new.self f → P f = λ f now.
     let from = c.cut.ensures.crash f now in
@@ -58,8 +58,8 @@ returns-in_err-write_at-clause-any_moment g c =
     let file = d.seen old in
     let text = text_of file in
     let n = c.args.end in
-    let P : List ℕ → Type 0 = λ f. text_of f ≡ text in
-    let here : (f : List ℕ) → d.may_leave old f → P f = λ f now. ap text_of (c.requires.durable f now) in
+    let P : List ℕ → Type 0 = Keeps file in
+    let here : (f : List ℕ) → d.may_leave old f → P f = λ f now. same_keeps file f (c.requires.durable f now) in
     let start = started d.moment d.left_since old P (λ f left. here f (g.met.D.Device.only_now old f left)) in
     let after_cut : (f : List ℕ) → d.may_leave c.cut.new.self f → P f = λ f now.
     let from = c.cut.ensures.crash f now in
@@ -70,7 +70,7 @@ returns-in_err-write_at-clause-any_moment g c =
     let after_write : (f : List ℕ) → d.may_leave c.write_at.new.self f → P f = λ f now.
     let from = c.write_at.ensures.crash f now in
     let was : from.0 ≡ text = c.in_ok-sync.ensures.durable (c.in_ok-cut.ensures.cause.fine ∙ c.requires.fine) from.0 from.1 ∙ is_cut in
-    torn_end file n c.requires.text c.requires.place f (subst (λ (l : List ℕ). Torn n 1 l f) was from.2) in
+    torn_end file n c.requires.text c.requires.place f (subst (λ (l : List ℕ). Torn n (35 ∷ []) l f) was from.2) in
     let three = goes_on d.moment d.left_since old c.sync.new.self c.write_at.new.self P (d.may_leave c.write_at.new.self) two c.write_at.ensures.time after_write in
     three
 
@@ -81,8 +81,8 @@ returns-in_err-sync-2-clause-any_moment g c =
     let file = d.seen old in
     let text = text_of file in
     let n = c.args.end in
-    let P : List ℕ → Type 0 = λ f. text_of f ≡ text in
-    let here : (f : List ℕ) → d.may_leave old f → P f = λ f now. ap text_of (c.requires.durable f now) in
+    let P : List ℕ → Type 0 = Keeps file in
+    let here : (f : List ℕ) → d.may_leave old f → P f = λ f now. same_keeps file f (c.requires.durable f now) in
     let start = started d.moment d.left_since old P (λ f left. here f (g.met.D.Device.only_now old f left)) in
     let after_cut : (f : List ℕ) → d.may_leave c.cut.new.self f → P f = λ f now.
     let from = c.cut.ensures.crash f now in
@@ -93,7 +93,7 @@ returns-in_err-sync-2-clause-any_moment g c =
     let after_write : (f : List ℕ) → d.may_leave c.write_at.new.self f → P f = λ f now.
     let from = c.write_at.ensures.crash f now in
     let was : from.0 ≡ text = c.in_ok-sync.ensures.durable (c.in_ok-cut.ensures.cause.fine ∙ c.requires.fine) from.0 from.1 ∙ is_cut in
-    torn_end file n c.requires.text c.requires.place f (subst (λ (l : List ℕ). Torn n 1 l f) was from.2) in
+    torn_end file n c.requires.text c.requires.place f (subst (λ (l : List ℕ). Torn n (35 ∷ []) l f) was from.2) in
     let three = goes_on d.moment d.left_since old c.sync.new.self c.write_at.new.self P (d.may_leave c.write_at.new.self) two c.write_at.ensures.time after_write in
     let four = goes_on d.moment d.left_since old c.write_at.new.self c.sync-2.new.self P (d.may_leave c.sync-2.new.self) three c.sync-2.ensures.time (λ f now. after_write f (c.sync-2.ensures.crash f now)) in
     four
@@ -105,8 +105,8 @@ returns-clause-any_moment g c =
     let file = d.seen old in
     let text = text_of file in
     let n = c.args.end in
-    let P : List ℕ → Type 0 = λ f. text_of f ≡ text in
-    let here : (f : List ℕ) → d.may_leave old f → P f = λ f now. ap text_of (c.requires.durable f now) in
+    let P : List ℕ → Type 0 = Keeps file in
+    let here : (f : List ℕ) → d.may_leave old f → P f = λ f now. same_keeps file f (c.requires.durable f now) in
     let start = started d.moment d.left_since old P (λ f left. here f (g.met.D.Device.only_now old f left)) in
     let after_cut : (f : List ℕ) → d.may_leave c.cut.new.self f → P f = λ f now.
     let from = c.cut.ensures.crash f now in
@@ -117,7 +117,7 @@ returns-clause-any_moment g c =
     let after_write : (f : List ℕ) → d.may_leave c.write_at.new.self f → P f = λ f now.
     let from = c.write_at.ensures.crash f now in
     let was : from.0 ≡ text = c.in_ok-sync.ensures.durable (c.in_ok-cut.ensures.cause.fine ∙ c.requires.fine) from.0 from.1 ∙ is_cut in
-    torn_end file n c.requires.text c.requires.place f (subst (λ (l : List ℕ). Torn n 1 l f) was from.2) in
+    torn_end file n c.requires.text c.requires.place f (subst (λ (l : List ℕ). Torn n (35 ∷ []) l f) was from.2) in
     let three = goes_on d.moment d.left_since old c.sync.new.self c.write_at.new.self P (d.may_leave c.write_at.new.self) two c.write_at.ensures.time after_write in
     let four = goes_on d.moment d.left_since old c.write_at.new.self c.sync-2.new.self P (d.may_leave c.sync-2.new.self) three c.sync-2.ensures.time (λ f now. after_write f (c.sync-2.ensures.crash f now)) in
     four

@@ -1,7 +1,7 @@
-use Rattle.std.proofs.Common.{◌≡◌, ℕ, List, ◌∷◌, ◌++◌, inl, length, drop, sym, ◌∙◌, ap, subst, arith, length-append}
+use Rattle.std.proofs.Common.{ℕ, List, ◌∷◌, ◌++◌, inl, length, drop, sym, ◌∙◌, ap, subst, arith, length-append}
 use Rattle.journal_file.specs.Device.{Only}
 use Rattle.journal_file.specs.Whole.{text_of}
-use Rattle.journal_file.specs.Settled.{IsBeforeOrAfter, IsGated}
+use Rattle.journal_file.specs.Settled.{IsBeforeOrAfter, IsGated, Stands}
 use Rattle.journal_file.proofs.Gates.{open_crash, open_is}
 use Rattle.journal_file.proofs.Moments.{goes_on, weaker}
 use Rattle.journal_file.proofs.write.put_lines.Goals as goal
@@ -19,7 +19,7 @@ returns-in_err-stage-clause-any_moment g c =
     let text = text_of (d.seen old) in
     let lines = c.args.lines.now in
     let P = IsBeforeOrAfter text lines in
-    let first = weaker d.moment d.left_since old c.stage.new.device (λ f. text_of f ≡ text) P (λ f is. inl is) c.stage.ensures.any_moment in
+    let first = weaker d.moment d.left_since old c.stage.new.device (Stands text) P (λ f is. inl is) c.stage.ensures.any_moment in
     first
 
 pub returns-in_err-write_at-clause-any_moment : goal.returns-in_err-write_at-clause-any_moment
@@ -29,7 +29,7 @@ returns-in_err-write_at-clause-any_moment g c =
     let text = text_of (d.seen old) in
     let lines = c.args.lines.now in
     let P = IsBeforeOrAfter text lines in
-    let first = weaker d.moment d.left_since old c.stage.new.device (λ f. text_of f ≡ text) P (λ f is. inl is) c.stage.ensures.any_moment in
+    let first = weaker d.moment d.left_since old c.stage.new.device (Stands text) P (λ f is. inl is) c.stage.ensures.any_moment in
     let staged = c.in_ok-stage.ensures.staged in
     let crash = open_crash text lines (d.seen c.stage.new.device) c.args.gate (d.may_leave c.stage.new.device) (d.may_leave c.write_at.new.self) staged c.requires.lines c.requires.some c.write_at.ensures.crash in
     let second = goes_on d.moment d.left_since old c.stage.new.device c.write_at.new.self P (d.may_leave c.write_at.new.self) first c.write_at.ensures.time crash in
@@ -42,7 +42,7 @@ returns-in_err-sync-clause-any_moment g c =
     let text = text_of (d.seen old) in
     let lines = c.args.lines.now in
     let P = IsBeforeOrAfter text lines in
-    let first = weaker d.moment d.left_since old c.stage.new.device (λ f. text_of f ≡ text) P (λ f is. inl is) c.stage.ensures.any_moment in
+    let first = weaker d.moment d.left_since old c.stage.new.device (Stands text) P (λ f is. inl is) c.stage.ensures.any_moment in
     let staged = c.in_ok-stage.ensures.staged in
     let crash = open_crash text lines (d.seen c.stage.new.device) c.args.gate (d.may_leave c.stage.new.device) (d.may_leave c.write_at.new.self) staged c.requires.lines c.requires.some c.write_at.ensures.crash in
     let second = goes_on d.moment d.left_since old c.stage.new.device c.write_at.new.self P (d.may_leave c.write_at.new.self) first c.write_at.ensures.time crash in
@@ -56,7 +56,7 @@ returns-clause-any_moment g c =
     let text = text_of (d.seen old) in
     let lines = c.args.lines.now in
     let P = IsBeforeOrAfter text lines in
-    let first = weaker d.moment d.left_since old c.stage.new.device (λ f. text_of f ≡ text) P (λ f is. inl is) c.stage.ensures.any_moment in
+    let first = weaker d.moment d.left_since old c.stage.new.device (Stands text) P (λ f is. inl is) c.stage.ensures.any_moment in
     let staged = c.in_ok-stage.ensures.staged in
     let crash = open_crash text lines (d.seen c.stage.new.device) c.args.gate (d.may_leave c.stage.new.device) (d.may_leave c.write_at.new.self) staged c.requires.lines c.requires.some c.write_at.ensures.crash in
     let second = goes_on d.moment d.left_since old c.stage.new.device c.write_at.new.self P (d.may_leave c.write_at.new.self) first c.write_at.ensures.time crash in

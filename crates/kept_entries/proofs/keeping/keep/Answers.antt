@@ -1,5 +1,6 @@
 use Rattle.std.proofs.Common.{◌≡◌, ◌+◌, ◌++◌, inl, inr, ℕ, List, length, sym, ◌∙◌, ap, subst, arith, length-append}
 use Rattle.std.proofs.lemmas.Bool.{cases_Bool}
+use Rattle.journal_file.specs.Settled.{Stands}
 use Rattle.kept_entries.proofs.Holding.{holds_longer, holds_all, run_holds}
 use Rattle.kept_entries.proofs.keeping.keep.Goals as goal
 
@@ -12,14 +13,15 @@ returns-in-Ok-clause-now g c =
     let adds : c.deref.result.now ≡ g.T.Lines.lines entries =
     c.deref.ensures.value ∙ c.in_ok-lines.ensures.lines ∙ ap (λ (l : List ℕ). l ++ g.T.Lines.lines entries) c.new.ensures.items in
     λ held is f left.
-    let stands = c.law.ensures.stands c.in-Ok.ensures.ok.1 f (g.met.D.Device.only_now new.device f left) in
+    let now = g.met.D.Device.only_now new.device f left in
+    let going = c.in-Ok.ensures.ok.1 in
+    let stands : Stands new.text f = record { is = c.law.ensures.stands going f now; sound = c.law.ensures.sound going f now } in
     let text =
-    stands
-    ∙ c.in-Ok.ensures.ok.0
+    c.in-Ok.ensures.ok.0
     ∙ ap (λ (l : List ℕ). l ++ c.deref.result.now) is
     ∙ ap (λ (l : List ℕ). g.T.Lines.text held ++ l) adds
     ∙ sym (g.met.T.Lines.more held entries) in
-    holds_all g.T.Lines.text (length held + length entries) (held ++ entries) f (omega (arith, length-append held entries)) text
+    holds_all g.T.Lines.text (length held + length entries) (held ++ entries) f new.text (omega (arith, length-append held entries)) stands text
 
 pub returns-in-Ok-clause-each : goal.returns-in-Ok-clause-each
 returns-in-Ok-clause-each g c =

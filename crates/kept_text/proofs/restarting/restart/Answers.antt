@@ -1,7 +1,8 @@
 use Rattle.std.proofs.Common.{◌∙◌}
-use Rattle.journal_file.specs.Whole.{text_of}
+use Rattle.journal_file.specs.Settled.{Keeps}
 use Rattle.kept_text.proofs.Behind.{begins_found, begins_with}
-use Rattle.kept_text.proofs.Moments.{stands_now}
+use Rattle.kept_text.proofs.Causes.{not_failed}
+use Rattle.kept_text.proofs.Moments.{leaves_now, all_stand}
 use Rattle.kept_text.proofs.restarting.restart.Goals as goal
 
 pub returns-in-Err-Foreign-default-clause-cause : goal.returns-in-Err-Foreign-default-clause-cause
@@ -13,13 +14,31 @@ returns-in-Err-Foreign-default-clause-cause g c entries typed legal same =
     (c.in-Err-Foreign-default.ensures.foreign c.in-Err-Foreign-default.field-0-0-is).1 begins
 
 pub returns-in-Ok-open-clause-stands : goal.returns-in-Ok-open-clause-stands
-returns-in-Ok-open-clause-stands g c =
+returns-in-Ok-open-clause-stands g c = λ crash left.
     let device = g.D.Device in
-    stands_now device.moment device.left_since device.may_leave g.met.D.Device.counts_now g.met.D.Device.only_now c.args.device c.in-Ok-open.open.device
-    (text_of c.args.file.now) c.in-Ok-open.ensures.any_moment
+    let keeps =
+    leaves_now device.moment device.left_since device.may_leave g.met.D.Device.counts_now g.met.D.Device.only_now c.args.device c.in-Ok-open.open.device
+    (Keeps c.args.file.now) c.in-Ok-open.ensures.any_moment crash left in keeps.is
 
 pub returns-in-Err-Foreign-default-clause-stands : goal.returns-in-Err-Foreign-default-clause-stands
-returns-in-Err-Foreign-default-clause-stands g c =
+returns-in-Err-Foreign-default-clause-stands g c = λ crash left.
     let device = g.D.Device in
-    stands_now device.moment device.left_since device.may_leave g.met.D.Device.counts_now g.met.D.Device.only_now c.args.device c.in-Err-Foreign-default.device
-    (text_of c.args.file.now) c.in-Err-Foreign-default.ensures.any_moment_err
+    let keeps =
+    leaves_now device.moment device.left_since device.may_leave g.met.D.Device.counts_now g.met.D.Device.only_now c.args.device c.in-Err-Foreign-default.device
+    (Keeps c.args.file.now) c.in-Err-Foreign-default.ensures.any_moment_err crash left in keeps.is
+
+pub returns-in-Ok-open-clause-sound : goal.returns-in-Ok-open-clause-sound
+returns-in-Ok-open-clause-sound g c = λ crash left damaged.
+    let device = g.D.Device in
+    let keeps =
+    leaves_now device.moment device.left_since device.may_leave g.met.D.Device.counts_now g.met.D.Device.only_now c.args.device c.in-Ok-open.open.device
+    (Keeps c.args.file.now) c.in-Ok-open.ensures.any_moment crash left in c.in-Ok.ensures.sound (keeps.sound damaged)
+
+pub returns-in-Ok-open-clause-any_moment : goal.returns-in-Ok-open-clause-any_moment
+returns-in-Ok-open-clause-any_moment g c =
+    let device = g.D.Device in
+    all_stand device.moment device.left_since c.args.device c.in-Ok-open.open.device c.args.file.now c.in-Ok.ensures.sound c.in-Ok-open.ensures.any_moment
+
+pub returns-in-Err-clause-sound : goal.returns-in-Err-clause-sound
+returns-in-Err-clause-sound g c = λ failed.
+    absurd (not_failed g.T.Lines.text g.T.KeptText.is_entry g.S.EntryJudge.is_legal c.in-Err.fault c.args.file.now c.in-Err.ensures.cause failed)

@@ -1,7 +1,8 @@
-use Rattle.std.proofs.Common.{ap, ◌∙◌, inl, inr}
+use Rattle.std.proofs.Common.{ap, ◌∙◌, inl, inr, subst}
 use Rattle.journal_file.specs.Whole.{text_of}
 use Rattle.journal_host.specs.Told.{taken_back}
-use Rattle.kept_text.proofs.Causes.{refused_so}
+use Rattle.kept_text.specs.Restarts.{status_of}
+use Rattle.kept_text.proofs.Causes.{refused_so, of_failed}
 use Rattle.kept_text.proofs.taking_up.take_up.Goals as goal
 
 pub returns-in-Err-clause-taken : goal.returns-in-Err-clause-taken
@@ -22,4 +23,8 @@ returns-clause-taken g c =
       };
       cause = refused_so g.T.Lines.text g.T.KeptText.is_entry g.S.EntryJudge.is_legal c.in-Err-restart.fault bytes read (device.faults file) c.status_of_restart.result
           c.deref.ensures.value c.status_of_restart.ensures c.in-Err-restart.ensures.cause;
+      left_alone = λ other t crash left.
+          let same = c.in-Err-restart.ensures.untouched (λ is. other (c.status_of_restart.ensures ∙ ap status_of is)) in
+          c.in-Ok.ensures.moments t crash (subst (λ x. device.left_since x t crash) same left);
+      sound = λ three. c.in-Err-restart.ensures.sound (of_failed c.in-Err-restart.fault c.status_of_restart.result c.status_of_restart.ensures three);
     })

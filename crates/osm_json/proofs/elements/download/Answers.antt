@@ -1,11 +1,5 @@
-use Rattle.std.proofs.Common.{codes}
-use Rattle.osm_json.specs.Shown.{list_of}
-use Rattle.osm_json.specs.Rows.{download, block}
-use Rattle.osm_json.proofs.Tokens.{sent, list_sent, document_sent, at_last}
+use Rattle.osm_json.proofs.Growing.{◌⨾◌, becomes, download_text}
 use Rattle.osm_json.proofs.elements.download.Goals as goal
 
 pub returns : goal.returns
-unfolding download
-returns c =
-    let rows = list_sent block c.args.rows.now (sent c.in_ok-begin_array.ensures) c.in_ok-blocks.ensures (sent c.in_ok-end_array.ensures) in
-    at_last c.end_object.result c.end_object.ensures (λ end. document_sent (codes "osmChange") (list_of block c.args.rows.now) (sent c.in_ok-begin_object.ensures) (sent c.in_ok-key.ensures) rows c.in_ok-version.ensures end)
+returns c = becomes (download_text c.args.rows.now) (c.in_ok-piece.ensures ⨾ c.in_ok-blocks.ensures ⨾ c.in_ok-piece-2.ensures)

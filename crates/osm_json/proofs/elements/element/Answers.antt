@@ -1,12 +1,12 @@
-use Rattle.osm_json.specs.Rows.{element, stamp_field}
-use Rattle.osm_json.proofs.Tokens.{◌⊕◌, one_sent, record_sent, sent, at_last}
+use Rattle.osm_change.specs.declared.answers.ElementRow.{ElementRow}
+use Rattle.osm_json.proofs.Growing.{◌⨾◌, becomes, element_text}
 use Rattle.osm_json.proofs.elements.element.Goals as goal
 
 pub returns : goal.returns
-unfolding element
 returns c =
-    let number = rw (← c.row.view_is) at c.in_ok-number.ensures in
-    let stamp = one_sent (stamp_field c.row.inside.version.now.stamp) (simp c.stamp.ensures at c.in_ok-moment_behind.ensures) in
-    let origin = rw (← c.row.view_is) at c.in_ok-origin.ensures in
-    let fields = number ⊕ c.in_ok-visible.ensures ⊕ c.in_ok-redaction.ensures ⊕ c.in_ok-visible_tags.ensures ⊕ stamp ⊕ origin in
-    at_last c.end_object.result c.end_object.ensures (λ end. rw (← c.row.view_is) (record_sent (sent c.in_ok-begin_object.ensures) fields end))
+    let r : ElementRow = record { key = c.row.inside.key; number = c.row.inside.number; version = c.row.inside.version.now; owner = c.row.inside.owner.now } in
+    let changeset = rw c.changeset.ensures at c.in_ok-natural.ensures in
+    let origin = rw (c.text.ensures, c.requires, ← c.row.view_is) at c.in_ok-piece.ensures in
+    rw (← c.row.view_is)
+    (becomes (element_text r)
+    (changeset ⨾ c.in_ok-natural-2.ensures ⨾ c.in_ok-visible.ensures ⨾ c.in_ok-redaction.ensures ⨾ c.in_ok-visible_tags.ensures ⨾ origin ⨾ c.in_ok-natural-3.ensures ⨾ c.in_ok-ending.ensures))

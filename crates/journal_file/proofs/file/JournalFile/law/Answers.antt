@@ -1,0 +1,13 @@
+use Rattle.std.proofs.Common.{sym, ◌∙◌, ap, subst}
+use Rattle.journal_file.specs.Whole.{text_of}
+use Rattle.journal_file.proofs.Gates.{settled_stands}
+use Rattle.journal_file.proofs.file.JournalFile.law.Goals as goal
+
+pub returns-clause-sound : goal.returns-clause-sound
+returns-clause-sound g c =
+    let d = g.D.Device in
+    let inside = c.self.inside in
+    λ going crash left.
+    let settled = (c.self.invariant.0 (ap (λ k. k.broken) c.self.view_is ∙ going)).0 in
+    let here = subst (λ x. d.may_leave x crash) (sym (ap (λ k. k.device) c.self.view_is)) left in
+    (settled_stands (d.seen inside.device) (d.may_leave inside.device) inside.gate (text_of (d.seen inside.device)) settled crash here).sound

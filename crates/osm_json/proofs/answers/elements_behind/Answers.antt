@@ -1,0 +1,10 @@
+use Rattle.std.proofs.Common.{◌∙◌, ◌++◌, List, ℕ, ap}
+use Rattle.serde_json.specs.Written.{compact_text}
+use Rattle.osm_json.specs.Rows.{elements}
+use Rattle.osm_json.proofs.answers.elements_behind.Goals as goal
+
+pub returns : goal.returns
+returns c =
+    c.into_bytes.ensures
+    ∙ c.in_ok-elements.ensures.bytes
+    ∙ ap (λ (front : List ℕ). front ++ compact_text (elements c.args.within.now c.args.rows.now)) c.new-out.ensures
