@@ -15,6 +15,7 @@ from dataclasses import dataclass, field
 from typing import TYPE_CHECKING
 
 from .links import InDoubt, Links
+from .processes import Shared
 from .refusals import Refused
 from .spool import Spool
 
@@ -75,6 +76,8 @@ class Once:
     locks: dict[Hashable, tuple[asyncio.Lock, int]] = field(default_factory=dict)
     counts: OrderedDict[int, int] = field(default_factory=OrderedDict)
     """How many changes a changeset had behind the last one that went through here; others may have made more since."""
+    shared: Shared | None = None
+    """Locks among several processes, which then don't remember what others may have changed."""
 
     @asynccontextmanager
     async def alone(self, key: Hashable) -> AsyncIterator[None]:
@@ -83,7 +86,13 @@ class Once:
         self.locks[key] = lock, users + 1
         try:
             async with lock:
-                yield
+                if self.shared is not None:
+                    await self.shared.take(key)
+                try:
+                    yield
+                finally:
+                    if self.shared is not None:
+                        self.shared.give(key)
         finally:
             lock, users = self.locks[key]
             if users == 1:
@@ -94,7 +103,7 @@ class Once:
     def learn(self, changeset: int, count: int | None) -> None:
         """None where it isn't known any longer."""
         self.counts.pop(changeset, None)
-        if count is not None:
+        if count is not None and self.shared is None:
             self.counts[changeset] = count
             if len(self.counts) > COUNTS:
                 self.counts.popitem(last=False)

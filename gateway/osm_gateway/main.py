@@ -6,16 +6,19 @@ import asyncio
 import os
 import resource
 import signal
+from dataclasses import replace
 
 from aiohttp import web
 
 from . import json_write, xml_write
 from .app import LEAFLET, app_of
 from .call import Gateway
+from .doubts import Once
 from .id_editor import program_of
 from .links import Address, Links
 from .log import CommonLog, hear_faults, tell
 from .people import BadUsers, People, people_of
+from .processes import Shared, is_taken, run
 from .room import MEGABYTE, Room
 from .store import BadStore, Store
 from .words import Words, read_words
@@ -72,10 +75,10 @@ def licensed(words: Words) -> None:
     json_write.licence = "".join(f',"{name}":{json_write.value_of(value)}' for name, value in words.licence)
 
 
-async def serve(words: Words, people: People, store: Store) -> int:
+async def serve(words: Words, people: People, store: Store, shared: Shared | None = None) -> int:
     server = links_of("the map", words.server, words)
     notes = links_of("notes", words.notes, words) if words.notes else None
-    gateway = Gateway(words, people, server, notes, Room(words.room * MEGABYTE, tell), store)
+    gateway = Gateway(words, people, server, notes, Room(words.room * MEGABYTE, tell), store, once=Once(shared=shared))
     if not words.data:
         tell("authorizations, preferences and discussions are in memory alone: --data names a file for them")
     ended = asyncio.Event()
@@ -87,7 +90,7 @@ async def serve(words: Words, people: People, store: Store) -> int:
     )  # fmt: skip
     await runner.setup()
     try:
-        await web.TCPSite(runner, words.host, words.port, backlog=1024, shutdown_timeout=ENDING).start()
+        await web.TCPSite(runner, words.host, words.port, backlog=1024, shutdown_timeout=ENDING, reuse_port=shared is not None or None).start()
     except OSError as why:
         tell(f"can't listen on {words.host}:{words.port}: {why}")
         await runner.cleanup()
@@ -114,4 +117,10 @@ def main() -> int:
     licensed(words)
     many_files()
     hear_faults()
-    return asyncio.run(serve(words, people, opened(words)))
+    if words.processes == 1:
+        return asyncio.run(serve(words, people, opened(words)))
+    if is_taken(words.host, words.port):
+        return 6
+    opened(words).close()
+    shared, part = Shared(), replace(words, links=max(words.links // words.processes, 1), room=max(words.room // words.processes, 1))
+    return run(words.processes, lambda: asyncio.run(serve(part, people, opened(part), shared)))

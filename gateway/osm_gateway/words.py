@@ -9,7 +9,7 @@ from urllib.parse import urlsplit
 from .links import Address
 
 USAGE = """gateway/run --server URL --users FILE [--notes URL] [--listen ADDRESS] [--host NAME].. [--public-url URL] [--data FILE] [--id FOLDER]
-    [--rate N] [--guesses N] [--copyright TEXT] [--attribution URL] [--license URL] [--links N] [--room MB] [--quiet]"""
+    [--rate N] [--guesses N] [--copyright TEXT] [--attribution URL] [--license URL] [--links N] [--room MB] [--processes N] [--quiet]"""
 
 
 @dataclass(frozen=True)
@@ -35,6 +35,7 @@ class Words:
     """Wrong tokens that an address may show at once."""
     licence: tuple[tuple[str, str], ...] = ()
     """Attributes of documents: `copyright`, `attribution`, `license`."""
+    processes: int = 1
 
 
 LICENCE = ("copyright", "attribution", "license")
@@ -73,6 +74,7 @@ def read_words(words: list[str] | None = None) -> Words:
     for name in LICENCE:
         parser.add_argument(f"--{name}", metavar="TEXT", help=f"the attribute {name} of documents and of the capabilities")
     parser.add_argument("--links", type=int, default=8, metavar="N", help="links to each server, at most its workers; 8 if not said")
+    parser.add_argument("--processes", type=int, default=1, metavar="N", help="processes at the address, 1 if not said; more need --data")
     parser.add_argument("--quiet", action="store_true", help="no line for each request")
     it = parser.parse_args(words)
     try:
@@ -89,6 +91,8 @@ def read_words(words: list[str] | None = None) -> Words:
         parser.error("--links takes a number from 1 to 64")
     if not 1 <= it.room <= 1_000_000:
         parser.error("--room takes a number from 1 to 1000000")
+    if not 1 <= it.processes <= 64 or it.processes > 1 and not it.data:
+        parser.error("--processes takes a number from 1 to 64, and from 2 on it needs --data")
     hosts = frozenset({host.lower(), name.lower(), "localhost", "127.0.0.1", "::1", *(name.lower() for name in it.host)})
     licence = tuple((name, getattr(it, name)) for name in LICENCE if getattr(it, name))
-    return Words(server, notes, it.users, host, port, hosts, public, it.links, it.room, it.quiet, it.data, it.id, it.rate, it.guesses, licence)
+    return Words(server, notes, it.users, host, port, hosts, public, it.links, it.room, it.quiet, it.data, it.id, it.rate, it.guesses, licence, it.processes)

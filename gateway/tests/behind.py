@@ -91,7 +91,7 @@ class Gateway:
         self.log = os.path.join(self.folder.name, "log")
         with open(self.told, "w") as told, open(self.log, "w") as log:
             self.process = subprocess.Popen(words, stdout=log, stderr=told, stdin=subprocess.DEVNULL)
-        until = time.monotonic() + 30
+        until = time.monotonic() + 120
         while not self.answers():
             if self.process.poll() is not None or time.monotonic() > until:
                 raise Wrong(f"the gateway didn't start: {self.lines()}")

@@ -498,7 +498,7 @@ def coding_wanted(data: bytes, name: str) -> bytes:
             inflate = zlib.decompressobj(31 if name == "gzip" else 15)
             inflate.decompress(rest)
             rest = inflate.unused_data
-            if rest and name == "deflate":
+            if not inflate.eof or rest and name == "deflate":
                 raise Invalid
         return wanted
     except (OSError, EOFError, zlib.error):

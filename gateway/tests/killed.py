@@ -5,13 +5,15 @@ from __future__ import annotations
 import os
 import signal
 import socket
+import subprocess
+import tempfile
 import threading
 import time
 
-from behind import ALICE, USERS, Came, Gateway, Wrong, has, want
+from behind import ALICE, RUN, USERS, Came, Gateway, Wrong, has, want
 from large import BOX, map_of
 from rows import Standing
-from serving import Reply, Server
+from serving import Reply, Server, family
 
 NODES = 50_000
 
@@ -74,6 +76,23 @@ def stopping() -> float:
     return took
 
 
+def several() -> None:
+    """Of several processes one is killed: the others end in order, and the status says so. Nobody else gets their address meanwhile."""
+    with Standing() as standing, tempfile.TemporaryDirectory() as folder:
+        words = ("--processes", "3", "--data", os.path.join(folder, "data"))
+        with Gateway(standing.port, more=words) as gateway:
+            port, users = gateway.port, os.path.join(gateway.folder.name, "users.txt")
+            again = (RUN, "--server", f"http://127.0.0.1:{standing.port}", "--users", users, "--listen", f"127.0.0.1:{port}", *words)
+            done = subprocess.run(again, capture_output=True, text=True, timeout=60, check=False)
+            want((done.returncode, "can't listen" in done.stderr), (6, True), "another gateway at the same address")
+        gateway = Gateway(standing.port, more=words)
+        with gateway:
+            os.kill(family(gateway.process.pid)[1], signal.SIGKILL)
+            want(gateway.process.wait(60) != 0, True, "the status")
+            want((lines(gateway, "ended by itself with status -9"), lines(gateway, "gateway: ended")), (1, 2), "what is told")
+            gateway.process.returncode = 0  # as it has to be at the end of a `with`
+
+
 def refusals(program: str) -> None:
     """Words and texts that can't be: a line, and a status that isn't 0."""
     with Gateway(1, users="1 a user A\n") as there:
@@ -91,5 +110,6 @@ def refusals(program: str) -> None:
 def run(program: str) -> str:
     again(program)
     took = stopping()
+    several()
     refusals(program)
     return f"503 with a text while the server is gone, a line when it goes and when it is back; ended within {took:.1f} s with a reply on its way"
