@@ -39,7 +39,7 @@ def bare(came: Came, status: int, text: str, what: str) -> None:
 def digits(program: str) -> str:
     with Site(program, notes=True) as gateway:
         for path in (f"notes?bbox=0,0,1,1&closed={NINES}", f"notes?bbox=0,0,1,1&limit={NINES}", f"changesets?limit={NINES}", "changesets?limit=-1",
-                     f"notes?bbox=0,0,1,1&closed=-{NINES}", "notes?bbox=0,0,1,1&limit=0", "notes?bbox=0,0,1,1&closed=%D9%A3", "changesets?limit=1_0"):  # fmt: skip
+                     f"notes?bbox=0,0,1,1&closed=-{NINES}", "notes?bbox=0,0,1,1&limit=0", "notes?bbox=0,0,1,1&closed=%d9%a3", "changesets?limit=1_0"):  # fmt: skip
             want(gateway.api("GET", path).status, 400, path)
         zeros = "0" * 50
         for path in (f"notes?bbox=0,0,1,1&closed={zeros}7&limit={zeros}5", f"changesets?limit={zeros}1", "notes?bbox=0,0,1,1&closed=-01"):

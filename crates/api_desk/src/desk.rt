@@ -23,7 +23,7 @@ use crate::answers::refuse;
 use crate::feed::feed_reply;
 use crate::requests::{Request, request_of};
 use desk_parts::reply_from;
-use http_link::{Desk, Reply};
+use http_link::{AlwaysTells, Desk, Reply, Withheld};
 use http_wire::Message;
 use hub_core::{Book, NoOutlet};
 use machine_law::{Machine, Tag};
@@ -196,11 +196,17 @@ impl Desk for OneDesk<'_> {
 
     ghost tells = { λ _. ⊤ };
 
+    ghost withholds = { λ _ _. ⊥ };
+
     fn answer(&mut self, alloc: Global, message: Message, moment: u64) -> Result<Reply, Memory> {
         self.answer_on::<Brand>(alloc, &message, moment, Blank::new(1))
     }
 
-    fn may_tell(&mut self) -> bool {
-        true
+    fn may_tell(&mut self) -> Result<(), Withheld> {
+        Ok(())
     }
+}
+
+impl AlwaysTells for OneDesk<'_> {
+    ghost never = { λ _ _ h. h };
 }

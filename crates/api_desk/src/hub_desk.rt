@@ -22,7 +22,7 @@ use crate::answers::refuse;
 use crate::hub_feed::answer_feed;
 use crate::requests::{Request, request_of};
 use desk_parts::reply_from;
-use http_link::{Desk, Reply};
+use http_link::{AlwaysTells, Desk, Reply, Withheld};
 use http_wire::Message;
 use map_machine::{MapMachine, fronts_are_the_maps};
 use osm_base::{Bytes, Memory, Steps};
@@ -182,13 +182,20 @@ impl<'a, N: HubName, G: Gate + Drop, R: Wait + Drop, W: Wait> Desk for HubDesk<'
 
     ghost tells = { λ _. ⊤ };
 
+    ghost withholds = { λ _ _. ⊥ };
+
     fn answer(&mut self, alloc: Global, message: Message, moment: u64) -> Result<Reply, Memory> {
         self.answer_on::<Brand>(alloc, &message, moment, Blank::new(1))
     }
 
-    fn may_tell(&mut self) -> bool {
-        true
+    fn may_tell(&mut self) -> Result<(), Withheld> {
+        Ok(())
     }
+}
+
+impl<'a, N: HubName, G: Gate + Drop, R: Wait + Drop, W: Wait> AlwaysTells
+    for HubDesk<'a, N, G, R, W> {
+    ghost never = { λ _ _ h. h };
 }
 
 impl<'a, N: HubName, G: Gate + Drop, R: Wait + Drop, W: Wait> SessionDesk<

@@ -1,6 +1,5 @@
 -- The one list of a hub that was closed, and what the link of its one session comes to.
-use Rattle.std.proofs.Common.{◌≡◌, ℕ, zero, suc, ◌≤◌, ◌==◌, cond, List, [], ◌∷◌, take, drop, refl, sym, ap, subst, arith}
-use Rattle.std.proofs.lemmas.List.{take-append-drop}
+use Rattle.std.proofs.Common.{◌≡◌, ℕ, zero, suc, ◌≤◌, ◌==◌, cond, List, [], ◌∷◌, take, refl, sym, ap, subst, arith}
 use Rattle.std.proofs.lemmas.List.Sums.{sum_by-append}
 use Rattle.std.specs.Prelude.{IfSome, slice_get}
 use mathlib.Core.List.{IsPrefix}
@@ -9,14 +8,12 @@ use Rattle.http_link.specs.declared.end.LinkEnd.{LinkEnd}
 use Rattle.http_link.specs.declared.end.LinkEnd.TheVariants.{Memory}
 use Rattle.machine_law.specs.Rules.{Rules, replay}
 use Rattle.hub_core.specs.Journal.{calls_of}
-use Rattle.snapshot_hub.specs.Known.{Known, newcomer, seeing, IsKnown}
+use Rattle.snapshot_hub.specs.Known.{Known, newcomer, seeing}
 use Rattle.snapshot_hub.specs.Closings.{IsFront}
-use Rattle.snapshot_hub.specs.Closed.{EndsAs, EndEach, HasClosed}
-use Rattle.snapshot_hub.specs.declared.ends.End.{End}
-use Rattle.snapshot_hub.specs.declared.ends.End.TheVariants.{Matched, Unmatched}
+use Rattle.snapshot_hub.specs.Closed.{HasClosed}
 use Rattle.user_table.specs.Users.{Users}
 use Rattle.session_desk.specs.Answered.{AtDesk, RowOf, HasServed}
-use Rattle.desk_serve.specs.Link.{IsListOf, HasItsCalls, ServesLink, ServesPipe}
+use Rattle.desk_serve.specs.Link.{IsListOf, TellsLink, ServesPipe}
 use Rattle.desk_serve.specs.Desks.{at_desk}
 use Rattle.desk_serve.proofs.Sound.{PointsConsistent, sound_of}
 use Rattle.desk_serve.proofs.Serving.{LinksLeftAlone, nothing_served}
@@ -38,82 +35,59 @@ module _ {S C Q P E K : Type 0} (rules : Rules S C Q P E K) where
     own = front.seated;
   }
 
-  -- what a session has seen at last begins the list that begins with the journal and with what it had seen before
-  pub within_at_last : (one journal : List E) (old new : Known E) (ended : End) → EndsAs rules journal old new ended
-      → IsPrefix journal one → IsPrefix old.front one → IsPrefix new.front one
-  within_at_last one journal old new Matched ends begins before = subst (λ (es : List E). IsPrefix es one) (sym ends.ends.0) begins
-  within_at_last one journal old new (Unmatched seen entries) ends begins before = subst (λ (k : Known E). IsPrefix k.front one) (sym ends.stays) before
-
-  -- it has its calls then, as it had before
-  more_calls : (session : ℕ) (xs ys : List E) → IsPrefix xs ys → calls_of rules.tag_of session xs ≤ calls_of rules.tag_of session ys
+  -- a session has as many calls in a longer list at least
+  pub more_calls : (session : ℕ) (xs ys : List E) → IsPrefix xs ys → calls_of rules.tag_of session xs ≤ calls_of rules.tag_of session ys
   more_calls session xs ys p =
       omega (arith, sum_by-append (λ (e : E). cond ((rules.tag_of e).session == session) 1 0) xs p.0, ap (calls_of rules.tag_of session) p.1)
-
-  has_its_calls : (it : Known E) → IsKnown rules it → HasItsCalls rules it
-  has_its_calls it known =
-      omega (arith, known.enough, more_calls it.number (take it.anchor it.front) it.front (drop it.anchor it.front, take-append-drop it.anchor it.front))
-
-  pub calls_at_last : (old new : Known E) → new ≡ seeing old new.front → IsPrefix old.front new.front → IsKnown rules old → HasItsCalls rules new
-  calls_at_last old new seen begins known = subst (HasItsCalls rules) (sym seen) (omega (arith, has_its_calls old known, more_calls old.number old.front new.front begins))
-
-  -- ---- a list of one session
-
-  pub end_of_one : (journal : List E) (old : Known E) (news : List (Known E)) (ends : List End)
-      → EndEach rules journal (old ∷ []) news ends → (new : Known E) × (ended : End) × EndsAs rules journal old new ended
-  end_of_one journal old [] ends h = absurd h
-  end_of_one journal old (new ∷ news) [] h = absurd h
-  end_of_one journal old (new ∷ news) (ended ∷ ends) h = (new, ended, h.0)
 
 -- ---- the one link of a new hub
 
 module _ {S C Q P E K : Type 0} (rules : Rules S C Q P E K) (row : RowOf E) where
-  pub pipe_served : (users : Users) (old new : Known E) (before after : Told) (end : LinkEnd) (served : ServesLink rules row (at_desk users old) (at_desk users new) before after end)
-      → ServedStay row → PointsConsistent rules → old ≡ newcomer 0 → HasClosed rules 1 (new ∷ []) → ServesPipe rules row users before after end
-  pipe_served users old new before after end served stay consistent fresh closed =
-      let last = end_of_one rules closed.journal new closed.each.0 closed.each.1 closed.each.2 in
-      let known = last.0 in
-      let ends = last.2 in
+  pub pipe_served : (users : Users) (old new : Known E) (before after : Told) (end : LinkEnd) → TellsLink rules row (at_desk users old) (at_desk users new) before after end
+      → ServedStay row → PointsConsistent rules → old ≡ newcomer 0 → HasClosed rules 1 (new ∷ []) [] → ServesPipe rules row users before after end
+  pipe_served users old new before after end telling stay consistent fresh closed =
+      let served = telling.serves in
+      let known = seeing new closed.one in
       let all : HasServed row users old 0 served.exchanges new =
       link_served rules row (at_desk users old) (at_desk users new) (record { came = before; went = after; end = end }) served 0 (omega arith) in record {
         exchanges = served.exchanges;
         link = served.link;
+        tells = telling.tells;
         one = closed.one;
         list = list_of rules consistent 1 closed.one closed.front;
         session = known;
-        within = within_at_last rules closed.one closed.journal new known last.1 ends closed.begins closed.seen.0;
-        calls = calls_at_last rules new known ends.seen ends.begins closed.known.0;
-        served = subst (λ (k : Known E). HasServed row users k 0 served.exchanges known) fresh (seen_at_last row users old new known 0 served.exchanges stay ends.seen ends.begins all);
-        journal = closed.journal;
-        begins = closed.begins;
-        ended = last.1;
-        ends = ends.ends;
+        whole = refl;
+        calls = closed.each.0.calls;
+        served = subst (λ (k : Known E). HasServed row users k 0 served.exchanges known) fresh
+            (seen_at_last row users old new known 0 served.exchanges stay refl closed.each.0.begins all);
       }
 
   -- the same of the only session of a list, and the desk that was made of it
   pub pipe_of_one : (users : Users) (items left : List (Known E)) (session : Known E) (desk new : AtDesk E) (before after : Told) (end : LinkEnd)
       → ServedStay row → PointsConsistent rules → items ≡ session ∷ [] → left ≡ new.known ∷ []
       → ((number : ℕ) → IfSome (slice_get items number) (λ s. s ≡ newcomer number))
-      → desk ≡ at_desk users session → ServesLink rules row desk new before after end
-      → HasClosed rules 1 left → ServesPipe rules row users before after end
-  pipe_of_one users items left session desk new before after end stay consistent first last fresh made served closed =
-      pipe_served users session new.known before after end (served_at rules row users session desk new before after end made served) stay consistent
-      (first_is items session first fresh) (subst (λ (l : List (Known E)). HasClosed rules 1 l) last closed)
+      → desk ≡ at_desk users session → TellsLink rules row desk new before after end
+      → HasClosed rules 1 left [] → ServesPipe rules row users before after end
+  pipe_of_one users items left session desk new before after end stay consistent first last fresh made telling closed =
+      let served : TellsLink rules row (at_desk users session) (at_desk users new.known) before after end = record {
+        serves = served_at rules row users session desk new before after end made telling.serves;
+        tells = telling.tells;
+      } in
+      pipe_served users session new.known before after end served stay consistent
+      (first_is items session first fresh) (subst (λ (l : List (Known E)). HasClosed rules 1 l []) last closed)
 
   -- there was no memory for the hub or the desk
   pub pipe_unserved : (users : Users) (before : Told) → LinksLeftAlone → rules.consistent rules.start → ServesPipe rules row users before before Memory
   pipe_unserved users before alone consistent = record {
     exchanges = [];
     link = alone before;
+    tells = tt;
     one = [];
     list = record { sound = record { legal = refl; consistent = nowhere }; numbered = refl; own = λ session le. refl };
     session = newcomer 0;
-    within = ([], refl);
-    calls = omega arith;
+    whole = refl;
+    calls = refl;
     served = nothing_served rules row users (newcomer 0) 0 (omega arith);
-    journal = [];
-    begins = ([], refl);
-    ended = Matched;
-    ends = (refl, omega arith);
   } where
     nowhere : (point : ℕ) → rules.consistent (replay rules (take point []))
     nowhere zero = consistent

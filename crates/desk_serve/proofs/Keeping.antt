@@ -3,6 +3,7 @@ use Rattle.std.proofs.Common.{◌≡◌, ℕ, ◌≤◌, inl, inr, List, [], ◌
 use Rattle.osm_outside.specs.Told.{Told}
 use Rattle.http_wire.specs.declared.message.Message.{Message}
 use Rattle.http_link.specs.declared.desk.Reply.{Reply}
+use Rattle.http_link.specs.declared.desk.Withheld.{Withheld}
 use Rattle.http_link.specs.Exchange.{Exchange, Chain, Telling}
 use Rattle.http_link.specs.Link.{AreTold}
 use Rattle.http_link.specs.declared.end.LinkEnd.{LinkEnd}
@@ -11,7 +12,7 @@ use Rattle.machine_law.specs.Rules.{Rules}
 use Rattle.user_table.specs.Users.{Users}
 use Rattle.server_frame.specs.OnLink.{AnswersLinkTold}
 use Rattle.session_desk.specs.Answered.{AtDesk, RowOf, IsFresh, HasServed}
-use Rattle.kept_desk.specs.Kept.{AtKept, Tells, AllowsKept, Sending, sendings, exchanges_in, HasKeptAndTold}
+use Rattle.kept_desk.specs.Kept.{AtKept, Tells, Withholds, HasWithheld, AllowsKept, Sending, sendings, exchanges_in, HasKeptAndTold}
 use Rattle.kept_desk.proofs.Told.{none_told}
 use Rattle.desk_serve.specs.Link.{IsSound}
 use Rattle.desk_serve.specs.Kept.{KeepsLink}
@@ -30,26 +31,29 @@ module _ {D X : Type 0} (view : D → X) where
   chain_seen allows allows_seen seen old new (e ∷ exchanges) (mid, is, more) =
       (view mid, seen old mid e.message e.moment e.answer is, chain_seen allows allows_seen seen mid new exchanges more)
 
-  module _ (allows : D → Message → ℕ → Reply → D → Type 0) (tells : D → Type 0) (allows_seen : X → Message → ℕ → Reply → X → Type 0) (tells_seen : X → Type 0)
-      (seen : IsSeen allows allows_seen) (told : (it : D) → tells it → tells_seen (view it)) where
+  module _ (allows : D → Message → ℕ → Reply → D → Type 0) (tells : D → Type 0) (withholds : D → Withheld → Type 0)
+      (allows_seen : X → Message → ℕ → Reply → X → Type 0) (tells_seen : X → Type 0) (withholds_seen : X → Withheld → Type 0)
+      (seen : IsSeen allows allows_seen) (told : (it : D) → tells it → tells_seen (view it))
+      (withheld : (it : D) (why : Withheld) → withholds it why → withholds_seen (view it) why) where
     telling_seen : IsSeen (Telling allows tells) (Telling allows_seen tells_seen)
     telling_seen old new message moment reply h = (seen old new message moment reply h.0, told new h.1)
 
-    told_seen : (old new : D) (exchanges : List Exchange) (end : LinkEnd) → AreTold allows tells old exchanges new end
-        → AreTold allows_seen tells_seen (view old) exchanges (view new) end
-    told_seen old new exchanges Unkept (front, last, mid, are, chain, is) = (
+    told_seen : (old new : D) (exchanges : List Exchange) (end : LinkEnd) → AreTold allows tells withholds old exchanges new end
+        → AreTold allows_seen tells_seen withholds_seen (view old) exchanges (view new) end
+    told_seen old new exchanges (Unkept why) (front, last, mid, are, chain, is, cause) = (
       front,
       last,
       view mid,
       are,
       chain_seen (Telling allows tells) (Telling allows_seen tells_seen) telling_seen old mid front chain,
       seen mid new last.message last.moment last.answer is,
+      withheld new why cause,
     )
     told_seen old new exchanges other h = chain_seen (Telling allows tells) (Telling allows_seen tells_seen) telling_seen old new exchanges h
 
     -- a link that was answered
-    pub answers_seen : (old new : D) (before after : Told) (end : LinkEnd) → AnswersLinkTold allows tells old new before after end
-        → AnswersLinkTold allows_seen tells_seen (view old) (view new) before after end
+    pub answers_seen : (old new : D) (before after : Told) (end : LinkEnd) → AnswersLinkTold allows tells withholds old new before after end
+        → AnswersLinkTold allows_seen tells_seen withholds_seen (view old) (view new) before after end
     answers_seen old new before after end h = record {
       answers = record {
         exchanges = h.answers.exchanges;
@@ -67,8 +71,8 @@ module _ {E : Type 0} (row : RowOf E) where
   -- what a desk's exchanges come to until a link's end
   abbrev pub ToldChain : Type 0
   ToldChain = (old new : AtKept E) (exchanges : List Exchange) (end : LinkEnd) (point : ℕ) → point ≤ length old.desk.known.front
-      → AreTold (AllowsKept row) Tells old exchanges new end
-      → (new.desk.users ≡ old.desk.users) × HasKeptAndTold row old.desk.users old point (sendings end exchanges) new
+      → AreTold (AllowsKept row) Tells Withholds old exchanges new end
+      → (new.desk.users ≡ old.desk.users) × HasKeptAndTold row old.desk.users old point (sendings end exchanges) new × HasWithheld end new
 
   -- what was told was answered
   abbrev pub ToldIsServed : Type 0
@@ -82,10 +86,10 @@ sound_at {E = E} rules desk other same h = subst (λ (d : AtDesk E). IsSound rul
 
 module _ {S C Q P E K : Type 0} (rules : Rules S C Q P E K) (row : RowOf E) where
   pub keeps_link : (old fresh new : AtKept E) (before after : Told) (end : LinkEnd) → ToldChain row → ToldIsServed row → SameExchanges
-      → fresh.desk.users ≡ old.desk.users → IsFresh rules old.desk.known fresh.desk.known → fresh.receipts ≡ old.receipts
-      → AnswersLinkTold (AllowsKept row) Tells fresh new before after end → IsSound rules new.desk.known.front
+      → fresh.desk.users ≡ old.desk.users → IsFresh rules old.desk.known fresh.desk.known → fresh.receipts ≡ old.receipts → fresh.failed ≡ old.failed
+      → AnswersLinkTold (AllowsKept row) Tells Withholds fresh new before after end → IsSound rules new.desk.known.front
       → KeepsLink rules row old new before after end
-  keeps_link old fresh new before after end chain is_served same users is_fresh receipts s sound =
+  keeps_link old fresh new before after end chain is_served same users is_fresh receipts failed s sound =
       let exchanges = s.answers.exchanges in
       let told : (point : ℕ) → point ≤ length fresh.desk.known.front → HasKeptAndTold row old.desk.users fresh point (sendings end exchanges) new =
       λ point le. subst (λ (u : Users). HasKeptAndTold row u fresh point (sendings end exchanges) new) users (chain fresh new exchanges end point le s.told).1 in record {
@@ -104,7 +108,9 @@ module _ {S C Q P E K : Type 0} (rules : Rules S C Q P E K) (row : RowOf E) wher
         known = refl;
         users = users;
         receipts = receipts;
+        failed = failed;
         kept = told;
+        withheld = (chain fresh new exchanges end 0 (omega arith) s.told).2;
       }
 
   -- there was no memory to freshen the session
@@ -125,5 +131,7 @@ module _ {S C Q P E K : Type 0} (rules : Rules S C Q P E K) (row : RowOf E) wher
         known = refl;
         users = users;
         receipts = ap (λ (d : AtKept E). d.receipts) same;
+        failed = ap (λ (d : AtKept E). d.failed) same;
+        withheld = tt;
         kept = λ point le. none_told row old.desk.users new point le;
       }

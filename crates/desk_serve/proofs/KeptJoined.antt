@@ -1,9 +1,12 @@
 -- The links of one session that keeps before it tells, joined one after another.
-use Rattle.std.proofs.Common.{◌≡◌, ℕ, ◌≤◌, ◌⊎◌, inl, inr, List, [], ◌∷◌, ◌++◌, length, refl, sym, ◌∙◌, subst, arith}
+use Rattle.std.proofs.Common.{◌≡◌, ℕ, true, ◌≤◌, ◌⊎◌, inl, inr, List, [], ◌∷◌, ◌++◌, length, refl, sym, ap, ◌∙◌, subst, arith}
 use mathlib.Core.List.{IsPrefix}
 use Rattle.osm_outside.specs.Told.{Told}
 use Rattle.http_link.specs.Exchange.{Exchange}
+use Rattle.http_link.specs.declared.desk.Withheld.TheVariants as withheld
 use Rattle.http_link.specs.declared.end.LinkEnd.{LinkEnd}
+use Rattle.http_link.specs.declared.end.LinkEnd.TheVariants as ends
+use Rattle.std.specs.List.{AllByRecursion}
 use Rattle.link_workers.specs.Port.{Visit, ServesEach}
 use Rattle.machine_law.specs.Rules.{Rules}
 use Rattle.snapshot_hub.specs.Known.{Known, seeing}
@@ -13,13 +16,13 @@ use Rattle.session_desk.specs.Rows.{Place}
 use Rattle.session_desk.specs.Steps.{place_at}
 use Rattle.session_desk.specs.Answered.{RowOf, IsFresh}
 use Rattle.session_desk.proofs.Lists.{prefix_trans, prefix_length}
-use Rattle.kept_desk.specs.Kept.{AtKept, at_kept, Sending, sendings, AreKeptAndTold, HasKeptAndTold}
+use Rattle.kept_desk.specs.Kept.{AtKept, at_kept, Sending, sendings, HasWithheld, AreKeptAndTold, HasKeptAndTold}
 use Rattle.kept_desk.proofs.Kept.{Still, still, same_place}
 use Rattle.kept_desk.proofs.Told.{none_told}
 use Rattle.desk_serve.specs.Desks.{at_desk}
 use Rattle.desk_serve.specs.Link.{LacksStart}
 use Rattle.desk_serve.specs.Kept.{KeepsLink}
-use Rattle.desk_serve.specs.KeptPorts.{KeptJoins, all_sendings}
+use Rattle.desk_serve.specs.KeptPorts.{KeptJoins, HasCause, all_sendings}
 
 module _ {E : Type 0} (row : RowOf E) where
   -- what one link and then another told by the same session is told together
@@ -38,12 +41,13 @@ module _ {E : Type 0} (row : RowOf E) where
   pub kept_at_last : (users : Users) (old stopped : AtKept E) (known : Known E) (receipts : List Receipt) (point : ℕ) (told : List Sending) → KeptStay
       → known ≡ seeing stopped.desk.known known.front → IsPrefix stopped.desk.known.front known.front → IsPrefix stopped.receipts receipts
       → HasKeptAndTold row users old point told stopped
-      → HasKeptAndTold row users old point told (at_kept (at_desk users known) stopped.tells_of receipts)
+      → HasKeptAndTold row users old point told (at_kept (at_desk users known) stopped.tells_of receipts stopped.failed)
   kept_at_last users old stopped known receipts point told stay is longer more served =
-      subst (λ (k : Known E). HasKeptAndTold row users old point told (at_kept (at_desk users k) stopped.tells_of receipts)) (sym is) (record {
+      subst (λ (k : Known E). HasKeptAndTold row users old point told (at_kept (at_desk users k) stopped.tells_of receipts stopped.failed)) (sym is) (record {
         number = served.number;
         begins = prefix_trans old.desk.known.front stopped.desk.known.front known.front served.begins longer;
         receipts = prefix_trans old.receipts stopped.receipts receipts served.receipts more;
+        failed = served.failed;
         last = served.last;
         within = omega (arith, served.within, prefix_length stopped.desk.known.front known.front longer);
         told = stay users old stopped point told known.front receipts served longer more;
@@ -52,11 +56,12 @@ module _ {E : Type 0} (row : RowOf E) where
 module _ {S C Q P E K : Type 0} (rules : Rules S C Q P E K) (row : RowOf E) where
   -- what was told by a session that had been freshened, it told from what it knew before
   from_start : (users : Users) (old start new : AtKept E) (point : ℕ) (told : List Sending) → Still rules old.desk.known start.desk.known
-      → start.receipts ≡ old.receipts → HasKeptAndTold row users start point told new → HasKeptAndTold row users old point told new
-  from_start users old start new point told s same h = record {
+      → start.receipts ≡ old.receipts → start.failed ≡ old.failed → HasKeptAndTold row users start point told new → HasKeptAndTold row users old point told new
+  from_start users old start new point told s same unfailed h = record {
     number = h.number ∙ s.number;
     begins = prefix_trans old.desk.known.front start.desk.known.front new.desk.known.front s.begins h.begins;
     receipts = subst (λ (l : List Receipt). IsPrefix l new.receipts) same h.receipts;
+    failed = λ was. h.failed (unfailed ∙ was);
     last = h.last;
     within = h.within;
     told =
@@ -80,7 +85,7 @@ module _ {S C Q P E K : Type 0} (rules : Rules S C Q P E K) (row : RowOf E) wher
   link_kept old new v s point le =
       let begun : Still rules old.desk.known s.serves.start = still_at old.desk.known s.serves.start v.came v.went s.serves.exchanges v.end s.serves.started in
       from_start old.desk.users old s.start new point (sendings v.end s.serves.exchanges)
-      (subst (λ (k : Known E). Still rules old.desk.known k) (sym s.known) begun) s.receipts
+      (subst (λ (k : Known E). Still rules old.desk.known k) (sym s.known) begun) s.receipts s.failed
       (s.kept point (omega (arith, le, prefix_length old.desk.known.front s.serves.start.front begun.begins)))
 
   join_more : (old mid new : AtKept E) (v : Visit) (visits : List Visit) (point : ℕ) → KeptChain row
@@ -102,3 +107,30 @@ module _ {S C Q P E K : Type 0} (rules : Rules S C Q P E K) (row : RowOf E) wher
   kept_joined chain old new (v ∷ visits) point le h =
       let first = link_kept old h.0 v h.1 point le in
       join_more old h.0 new v visits point chain h.1 first (kept_joined chain h.0 new visits first.last first.within h.2)
+
+  -- ---- replies that were withheld
+
+  -- a cause that follows from what the desk noted
+  cause_of : (cause : Type 0) (it : AtKept E) (end : LinkEnd) → (it.failed ≡ true → cause) → HasWithheld end it → HasCause cause end
+  cause_of cause it ends.Ended so h = tt
+  cause_of cause it ends.Closed so h = tt
+  cause_of cause it ends.Budget so h = tt
+  cause_of cause it (ends.Refused why) so h = tt
+  cause_of cause it ends.ReadFault so h = tt
+  cause_of cause it ends.WriteFault so h = tt
+  cause_of cause it (ends.Unkept withheld.Failed) so h = so h
+  cause_of cause it (ends.Unkept withheld.Memory) so h = tt
+  cause_of cause it ends.Memory so h = tt
+
+  -- that keeping failed is noted for good
+  stays_failed : (old new : AtKept E) (visits : List Visit) → ServesEach (KeepsLink rules row) old visits new → old.failed ≡ true → new.failed ≡ true
+  stays_failed old new [] same was = ap (λ (k : AtKept E). k.failed) same ∙ was
+  stays_failed old new (v ∷ visits) h was =
+      stays_failed h.0 new visits h.2 ((h.1.kept 0 (omega arith)).failed (h.1.failed ∙ was))
+
+  -- where a link ended with a reply withheld because keeping failed, the desk notes it to the end
+  pub causes : (cause : Type 0) (old new : AtKept E) (visits : List Visit) → ServesEach (KeepsLink rules row) old visits new → (new.failed ≡ true → cause)
+      → AllByRecursion (λ visit. HasCause cause visit.end) visits
+  causes cause old new [] h so = tt
+  causes cause old new (v ∷ visits) h so =
+      (cause_of cause h.0 v.end (λ was. so (stays_failed h.0 new visits h.2 was)) h.1.withheld, causes cause h.0 new visits h.2 so)

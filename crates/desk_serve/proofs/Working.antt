@@ -3,7 +3,6 @@ use Rattle.std.proofs.Common.{◌≡◌, ℕ, zero, suc, ◌+◌, ◌||◌, Bool
 use Rattle.std.proofs.lemmas.List.{length-map, map-append, reverse-append}
 use Rattle.std.specs.List.{AllByRecursion, AllZip, list_any, range_with_len}
 use Rattle.std.specs.Prelude.{IfSome, slice_get}
-use mathlib.Core.List.{IsPrefix}
 use Rattle.osm_outside.specs.Port.{PortTold}
 use Rattle.osm_outside.specs.Told.{Told}
 use Rattle.http_link.specs.declared.end.LinkEnd.{LinkEnd}
@@ -14,15 +13,14 @@ use Rattle.link_workers.specs.Seats.{seated, sessions_of, ports_of}
 use Rattle.link_workers.specs.Workers.{Works}
 use Rattle.machine_law.specs.Rules.{Rules}
 use Rattle.user_table.specs.Users.{Users}
-use Rattle.snapshot_hub.specs.Known.{Known, newcomer, IsKnown}
-use Rattle.snapshot_hub.specs.Closed.{EndsAs, EndEach, HasClosed}
-use Rattle.snapshot_hub.specs.declared.ends.End.{End}
+use Rattle.snapshot_hub.specs.Known.{Known, newcomer, seeing}
+use Rattle.snapshot_hub.specs.Closed.{HasAllOf, HasClosed}
 use Rattle.session_desk.specs.Answered.{AtDesk, RowOf}
-use Rattle.desk_serve.specs.Link.{IsListOf, ServesLink}
+use Rattle.desk_serve.specs.Link.{IsListOf, ServesLink, TellsLink}
 use Rattle.desk_serve.specs.Desks.{at_desk}
-use Rattle.desk_serve.specs.Ports.{Shift, HasServedPort, Work, HasWorked, ServesAll, HaveServed}
+use Rattle.desk_serve.specs.Ports.{Shift, HasServedPort, HasWorked, ServesAll, HaveServed}
 use Rattle.desk_serve.proofs.Joined.{LinksChain, ServedStay, Joins, joined, seen_at_last, desk_is}
-use Rattle.desk_serve.proofs.Closing.{list_of, within_at_last, calls_at_last}
+use Rattle.desk_serve.proofs.Closing.{list_of}
 use Rattle.desk_serve.proofs.Sound.{PointsConsistent}
 
 pub cons_same : {A : Type 0} (x y : A) (xs ys : List A) → x ∷ xs ≡ y ∷ ys → (x ≡ y) × (xs ≡ ys)
@@ -91,16 +89,16 @@ module _ {S C Q P E K : Type 0} (rules : Rules S C Q P E K) (row : RowOf E) wher
 
   -- serving links by a desk comes to serving them by what contracts see of it
   abbrev pub ServesSeen : {D : Type 0} → (D → D → Told → Told → LinkEnd → Type 0) → (D → AtDesk E) → Type 0
-  ServesSeen {D} serves view = (old new : D) (before after : Told) (end : LinkEnd) → serves old new before after end → ServesLink rules row (view old) (view new) before after end
+  ServesSeen {D} serves view = (old new : D) (before after : Told) (end : LinkEnd) → serves old new before after end → TellsLink rules row (view old) (view new) before after end
 
   each_seen : {D : Type 0} (serves : D → D → Told → Told → LinkEnd → Type 0) (view : D → AtDesk E) → ServesSeen serves view
-      → (old new : D) (visits : List Visit) → ServesEach serves old visits new → ServesEach (ServesLink rules row) (view old) visits (view new)
+      → (old new : D) (visits : List Visit) → ServesEach serves old visits new → ServesEach (TellsLink rules row) (view old) visits (view new)
   each_seen serves view seen old new [] same = ap view same
   each_seen serves view seen old new (v ∷ visits) h = (view h.0, seen old h.0 v.came v.went v.end h.1, each_seen serves view seen h.0 new visits h.2)
 
   port_seen : {D : Type 0} (serves : D → D → Told → Told → LinkEnd → Type 0) (view : D → AtDesk E) → ServesSeen serves view
       → (old new : D) (before after : PortTold) (failed : Bool) → ServesPort serves old new before after failed
-      → ServesPort (ServesLink rules row) (view old) (view new) before after failed
+      → ServesPort (TellsLink rules row) (view old) (view new) before after failed
   port_seen serves view seen old new before after failed h = record {
     links = record {
       visits = h.links.visits;
@@ -116,9 +114,14 @@ module _ {S C Q P E K : Type 0} (rules : Rules S C Q P E K) (row : RowOf E) wher
   }
 
   -- the users of a desk stay over all links
-  users_stay : (old new : AtDesk E) (visits : List Visit) → ServesEach (ServesLink rules row) old visits new → new.users ≡ old.users
+  users_stay : (old new : AtDesk E) (visits : List Visit) → ServesEach (TellsLink rules row) old visits new → new.users ≡ old.users
   users_stay old new [] same = ap (λ (d : AtDesk E). d.users) same
-  users_stay old new (v ∷ visits) h = users_stay h.0 new visits h.2 ∙ h.1.users
+  users_stay old new (v ∷ visits) h = users_stay h.0 new visits h.2 ∙ h.1.serves.users
+
+  -- links that were served so were served
+  each_serves : (old new : AtDesk E) (visits : List Visit) → ServesEach (TellsLink rules row) old visits new → ServesEach (ServesLink rules row) old visits new
+  each_serves old new [] same = same
+  each_serves old new (v ∷ visits) h = (h.0, h.1.serves, each_serves h.0 new visits h.2)
 
   -- what workers with these desks and ports come to
   pub record Shifts {D Port : Type 0} (view : D → AtDesk E) (users : Users) (told : Port → PortTold) (numbers : List ℕ) (ports : List Port) (new : List (Worker D Port)) : Type 0 where
@@ -136,10 +139,10 @@ module _ {S C Q P E K : Type 0} (rules : Rules S C Q P E K) (row : RowOf E) wher
       → ServesPort serves desk w.session (told port) (told w.port) w.failed
       → HasServedPort rules row users (record { number = number; stopped = (view w.session).known; before = told port; after = told w.port; failed = w.failed })
   one_shift serves view seen users told number desk port w is h =
-      let begun : ServesPort (ServesLink rules row) (at_desk users (newcomer number)) (view w.session) (told port) (told w.port) w.failed =
-      subst (λ (d : AtDesk E). ServesPort (ServesLink rules row) d (view w.session) (told port) (told w.port) w.failed) is (port_seen serves view seen desk w.session (told port) (told w.port) w.failed h) in
+      let begun : ServesPort (TellsLink rules row) (at_desk users (newcomer number)) (view w.session) (told port) (told w.port) w.failed =
+      subst (λ (d : AtDesk E). ServesPort (TellsLink rules row) d (view w.session) (told port) (told w.port) w.failed) is (port_seen serves view seen desk w.session (told port) (told w.port) w.failed h) in
       let same : (view w.session).users ≡ users = users_stay (at_desk users (newcomer number)) (view w.session) begun.links.visits begun.links.served in
-      subst (λ (d : AtDesk E). ServesPort (ServesLink rules row) (at_desk users (newcomer number)) d (told port) (told w.port) w.failed) (desk_is users (view w.session) same) begun
+      subst (λ (d : AtDesk E). ServesPort (TellsLink rules row) (at_desk users (newcomer number)) d (told port) (told w.port) w.failed) (desk_is users (view w.session) same) begun
 
   more_shifts : {D Port : Type 0} (serves : D → D → Told → Told → LinkEnd → Type 0) (view : D → AtDesk E) → ServesSeen serves view
       → (users : Users) (told : Port → PortTold) (number : ℕ) (numbers : List ℕ) (desk : D) (port : Port) (ports : List Port) (w : Worker D Port) (new : List (Worker D Port))
@@ -192,74 +195,52 @@ module _ {S C Q P E K : Type 0} (rules : Rules S C Q P E K) (row : RowOf E) wher
         some_failed = failed_is ∙ all.some;
       }
 
-  -- ---- sessions that served ports, and then ended
+  -- ---- sessions that served ports, of a hub that was closed then
 
-  pub has_worked : (users : Users) (one journal : List E) (shift : Shift E) (known : Known E) (ended : End) → LinksChain row → ServedStay row
-      → HasServedPort rules row users shift → EndsAs rules journal shift.stopped known ended
-      → IsPrefix journal one → IsPrefix shift.stopped.front one → IsKnown rules shift.stopped
-      → HasWorked rules row users one journal (record { shift = shift; known = known; ended = ended })
-  has_worked users one journal shift known ended chain stay served ends begins before held =
+  has_worked : (users : Users) (one : List E) (shift : Shift E) → LinksChain row → ServedStay row → HasServedPort rules row users shift
+      → HasAllOf rules one shift.stopped → HasWorked rules row users one shift
+  has_worked users one shift chain stay served has =
       let old : AtDesk E = at_desk users (newcomer shift.number) in
       let new : AtDesk E = at_desk users shift.stopped in
-      let all : Joins rules row old new served.links.visits 0 = joined rules row old new served.links.visits 0 chain (omega arith) served.links.served in record {
+      let visits = served.links.visits in
+      let all : Joins rules row old new visits 0 = joined rules row old new visits 0 chain (omega arith) (each_serves old new visits served.links.served) in record {
         links = served;
-        within = within_at_last rules one journal shift.stopped known ended ends begins before;
-        calls = calls_at_last rules shift.stopped known ends.seen ends.begins held;
+        within = has.begins;
+        calls = has.calls;
         exchanges = all.exchanges;
         each = all.each;
-        joined = seen_at_last row users (newcomer shift.number) shift.stopped known 0 (all_of all.exchanges) stay ends.seen ends.begins all.served;
-        ends = ends;
+        joined = seen_at_last row users (newcomer shift.number) shift.stopped (seeing shift.stopped one) 0 (all_of all.exchanges) stay refl has.begins all.served;
       }
 
-  -- all of them
-  pub record AllWorked (users : Users) (one journal : List E) (shifts : List (Shift E)) : Type 0 where
-    pub works : List (Work E)
-    pub worked : AllByRecursion (HasWorked rules row users one journal) works
-    pub shifts_are : map (λ work. work.shift) works ≡ shifts
-
-  all_worked : (users : Users) (one journal : List E) (shifts : List (Shift E)) (known : List (Known E)) (ends : List End) → LinksChain row → ServedStay row
-      → AllByRecursion (HasServedPort rules row users) shifts → EndEach rules journal (map (λ shift. shift.stopped) shifts) known ends → IsPrefix journal one
-      → AllByRecursion (λ session. IsPrefix session.front one) (map (λ shift. shift.stopped) shifts)
-      → AllByRecursion (IsKnown rules) (map (λ shift. shift.stopped) shifts) → AllWorked users one journal shifts
-  all_worked users one journal [] [] [] chain stay served each begins seen held = record { works = []; worked = tt; shifts_are = refl }
-  all_worked users one journal [] [] (e ∷ ends) chain stay served each begins seen held = absurd each
-  all_worked users one journal [] (k ∷ known) ends chain stay served each begins seen held = absurd each
-  all_worked users one journal (s ∷ shifts) [] ends chain stay served each begins seen held = absurd each
-  all_worked users one journal (s ∷ shifts) (k ∷ known) [] chain stay served each begins seen held = absurd each
-  all_worked users one journal (s ∷ shifts) (k ∷ known) (e ∷ ends) chain stay served each begins seen held =
-      let rest = all_worked users one journal shifts known ends chain stay served.1 each.1 begins seen.1 held.1 in record {
-        works = record { shift = s; known = k; ended = e } ∷ rest.works;
-        worked = (has_worked users one journal s k e chain stay served.0 each.0 begins seen.0 held.0, rest.worked);
-        shifts_are = ap (λ (l : List (Shift E)). s ∷ l) rest.shifts_are;
-      }
+  all_worked : (users : Users) (one : List E) (shifts : List (Shift E)) → LinksChain row → ServedStay row
+      → AllByRecursion (HasServedPort rules row users) shifts → AllByRecursion (HasAllOf rules one) (map (λ shift. shift.stopped) shifts)
+      → AllByRecursion (HasWorked rules row users one) shifts
+  all_worked users one [] chain stay served has = tt
+  all_worked users one (s ∷ shifts) chain stay served has =
+      (has_worked users one s chain stay served.0 has.0, all_worked users one shifts chain stay served.1 has.1)
 
   -- the clause on all workers
   pub serves_all : (users : Users) (count : ℕ) (before after : List PortTold) (stopped : List (Known E)) (failed : Bool)
       → LinksChain row → ServedStay row → PointsConsistent rules → length before ≡ count
-      → HaveServed rules row users (range_with_len 0 count) stopped before after failed → HasClosed rules count stopped → ServesAll rules row users before after failed
-  serves_all users count before after stopped failed chain stay consistent counted served closed =
-      let all = all_worked users closed.one closed.journal served.shifts closed.each.0 closed.each.1 chain stay served.served
-      (subst (λ (l : List (Known E)). EndEach rules closed.journal l closed.each.0 closed.each.1) (sym served.stopped_are) closed.each.2) closed.begins
-      (subst (λ (l : List (Known E)). AllByRecursion (λ session. IsPrefix session.front closed.one) l) (sym served.stopped_are) closed.seen)
-      (subst (λ (l : List (Known E)). AllByRecursion (IsKnown rules) l) (sym served.stopped_are) closed.known) in record {
-        one = closed.one;
-        list = subst (λ (n : ℕ). IsListOf rules n closed.one) (sym counted) (list_of rules consistent count closed.one closed.front);
-        journal = closed.journal;
-        begins = closed.begins;
-        works = all.works;
-        worked = all.worked;
-        numbers = ap (λ (l : List (Shift E)). map (λ shift. shift.number) l) all.shifts_are ∙ (served.numbers_are ∙ ap (range_with_len 0) (sym counted));
-        handed = ap (λ (l : List (Shift E)). map (λ shift. shift.before) l) all.shifts_are ∙ served.handed;
-        back = ap (λ (l : List (Shift E)). map (λ shift. shift.after) l) all.shifts_are ∙ served.back;
-        some_failed = served.some_failed ∙ ap (λ (l : List (Shift E)). list_any (λ shift. shift.failed) l) (sym all.shifts_are);
-      }
+      → HaveServed rules row users (range_with_len 0 count) stopped before after failed → HasClosed rules count stopped [] → ServesAll rules row users before after failed
+  serves_all users count before after stopped failed chain stay consistent counted served closed = record {
+    one = closed.one;
+    list = subst (λ (n : ℕ). IsListOf rules n closed.one) (sym counted) (list_of rules consistent count closed.one closed.front);
+    shifts = served.shifts;
+    worked = all_worked users closed.one served.shifts chain stay served.served
+        (subst (λ (l : List (Known E)). AllByRecursion (HasAllOf rules closed.one) l) (sym served.stopped_are) closed.each);
+    numbers = served.numbers_are ∙ ap (range_with_len 0) (sym counted);
+    handed = served.handed;
+    back = served.back;
+    some_failed = served.some_failed;
+  }
 
   -- what `serve_ports` says, where the workers' sessions came back
   pub ports_served : (users : Users) (count : ℕ) (before after : List PortTold) (items stopped : List (Known E)) (failed is : Bool)
       → LinksChain row → ServedStay row → PointsConsistent rules → length before ≡ count → length items ≡ count
       → ((number : ℕ) → IfSome (slice_get items number) (λ s. s ≡ newcomer number))
       → ((numbers : List ℕ) → items ≡ map newcomer numbers → HaveServed rules row users numbers stopped before after failed)
-      → failed ≡ is → HasClosed rules count stopped → ServesAll rules row users before after is
+      → failed ≡ is → HasClosed rules count stopped [] → ServesAll rules row users before after is
   ports_served users count before after items stopped failed is chain stay consistent counted seated fresh served told closed =
       let from : (number : ℕ) → IfSome (slice_get items number) (λ s. s ≡ newcomer (0 + number)) =
       λ number. subst (λ (n : ℕ). IfSome (slice_get items number) (λ s. s ≡ newcomer n)) (plain number) (fresh number) in

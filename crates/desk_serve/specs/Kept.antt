@@ -4,7 +4,7 @@ use Rattle.osm_outside.specs.Told.{Told}
 use Rattle.http_link.specs.declared.end.LinkEnd.{LinkEnd}
 use Rattle.machine_law.specs.Rules.{Rules}
 use Rattle.session_desk.specs.Answered.{RowOf}
-use Rattle.kept_desk.specs.Kept.{AtKept, sendings, HasKeptAndTold}
+use Rattle.kept_desk.specs.Kept.{AtKept, sendings, HasWithheld, HasKeptAndTold}
 use Rattle.desk_serve.specs.Link.{ServesLink}
 
 -- over the rules of a machine, and what one message may be answered
@@ -17,5 +17,8 @@ module _ {S C Q P E K : Type 0} (rules : Rules S C Q P E K) (row : RowOf E) wher
     pub known : start.desk.known ≡ serves.start
     pub users : start.desk.users ≡ old.desk.users
     pub receipts : start.receipts ≡ old.receipts
+    pub failed : start.failed ≡ old.failed
     -- wherever in the front of its start the session was last answered
     pub kept : (point : ℕ) → point ≤ length serves.start.front → HasKeptAndTold row old.desk.users start point (sendings end serves.exchanges) new
+    -- where the last reply was withheld, there was a cause
+    pub withheld : HasWithheld end new

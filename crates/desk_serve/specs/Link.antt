@@ -1,15 +1,13 @@
 -- What serving one link by a session of a hub does, for any machine; and what serving a link by a new hub does.
-use Rattle.std.specs.Prelude.{◌≡◌, ℕ, ◌+◌, ◌≤◌, ◌⊎◌, true, List, [], length, take}
-use mathlib.Core.List.{IsPrefix}
+use Rattle.std.specs.Prelude.{◌≡◌, ℕ, ◌≤◌, ◌⊎◌, true, List, [], length, take}
 use Rattle.osm_outside.specs.Told.{Told}
 use Rattle.http_link.specs.declared.end.LinkEnd.{LinkEnd}
 use Rattle.http_link.specs.declared.end.LinkEnd.TheVariants.{Memory}
 use Rattle.http_link.specs.Exchange.{Exchange}
+use Rattle.http_link.specs.Link.{TellsAll}
 use Rattle.machine_law.specs.Rules.{Rules, replay, is_legal}
 use Rattle.hub_core.specs.Journal.{calls_of, is_numbered}
-use Rattle.snapshot_hub.specs.Known.{Known, newcomer, owed}
-use Rattle.snapshot_hub.specs.Closed.{HasEnded}
-use Rattle.snapshot_hub.specs.declared.ends.End.{End}
+use Rattle.snapshot_hub.specs.Known.{Known, newcomer}
 use Rattle.server_frame.specs.OnLink.{OnLink}
 use Rattle.user_table.specs.Users.{Users}
 use Rattle.session_desk.specs.Answered.{AtDesk, RowOf, IsFresh, HasServed}
@@ -34,9 +32,9 @@ module _ {S C Q P E K : Type 0} (rules : Rules S C Q P E K) where
     pub numbered : is_numbered rules.tag_of [] entries ≡ true
     pub own : (session : ℕ) → sessions ≤ session → calls_of rules.tag_of session entries ≡ 0
 
-  -- the session has seen all its calls, but for one that it owes
-  abbrev pub HasItsCalls : Known E → Type 0
-  HasItsCalls it = it.calls ≤ calls_of rules.tag_of it.number it.front + owed it.owes
+  -- the entries have just the calls that the session made
+  abbrev pub HasItsCalls : List E → Known E → Type 0
+  HasItsCalls entries it = it.calls ≡ calls_of rules.tag_of it.number entries
 
 -- over the rules of a machine, and what one message may be answered
 module _ {S C Q P E K : Type 0} (rules : Rules S C Q P E K) (row : RowOf E) where
@@ -54,22 +52,24 @@ module _ {S C Q P E K : Type 0} (rules : Rules S C Q P E K) (row : RowOf E) wher
     pub served : (point : ℕ) → point ≤ length start.front → HasServed row old.users start point exchanges new.known
     pub front : IsSound rules new.known.front
 
+  -- The link was served so, and no reply was withheld.
+  pub record TellsLink (old new : AtDesk E) (before after : Told) (end : LinkEnd) : Type 0 where
+    pub serves : ServesLink old new before after end
+    pub tells : TellsAll end
+
   -- The link was served to that end by the one session of a new hub, which was then closed.
   pub record ServesPipe (users : Users) (before after : Told) (end : LinkEnd) : Type 0 where
     -- the messages that were answered, with their moments and replies
     pub exchanges : List Exchange
     pub link : OnLink before after exchanges end
-    -- one list, with no entry but those of the one session
+    -- no reply was withheld
+    pub tells : TellsAll end
+    -- one list, the journal of the closed hub, with no entry but those of the one session
     pub one : List E
     pub list : IsListOf rules 1 one
-    -- what the session knew at last: all that it has seen begins that list, and has its calls
+    -- what the session knew at last: it has seen that whole list, which has just its calls
     pub session : Known E
-    pub within : IsPrefix session.front one
-    pub calls : HasItsCalls rules session
-    -- each message has a row at a point of what it has seen; the points never go back
+    pub whole : session.front ≡ one
+    pub calls : HasItsCalls rules one session
+    -- each message has a row at a point of that list; the points never go back
     pub served : HasServed row users (newcomer 0) 0 exchanges session
-    -- the journal of the closed hub begins that list too, and how the session ended there
-    pub journal : List E
-    pub begins : IsPrefix journal one
-    pub ended : End
-    pub ends : HasEnded rules journal session ended

@@ -7,16 +7,14 @@ use Rattle.http_link.specs.Exchange.{Exchange}
 use Rattle.link_workers.specs.Port.{ServesPort}
 use Rattle.link_workers.specs.Joined.{all_of}
 use Rattle.machine_law.specs.Rules.{Rules}
-use Rattle.snapshot_hub.specs.Known.{Known, newcomer}
-use Rattle.snapshot_hub.specs.Closed.{EndsAs}
-use Rattle.snapshot_hub.specs.declared.ends.End.{End}
+use Rattle.snapshot_hub.specs.Known.{Known, newcomer, seeing}
 use Rattle.user_table.specs.Users.{Users}
 use Rattle.session_desk.specs.Answered.{RowOf, HasServed}
 use Rattle.desk_serve.specs.Desks.{at_desk}
 use Rattle.server_frame.specs.OnLink.{OnLink}
-use Rattle.desk_serve.specs.Link.{IsListOf, HasItsCalls, ServesLink}
+use Rattle.desk_serve.specs.Link.{IsListOf, HasItsCalls, TellsLink}
 use Rattle.link_workers.specs.declared.outcome.Outcome.{Outcome}
-use Rattle.link_workers.specs.declared.outcome.Outcome.TheVariants.{Served, Failed, Unkept, Unmatched, LacksMemory}
+use Rattle.link_workers.specs.declared.outcome.Outcome.TheVariants.{Served, Failed, Unkept, LacksMemory}
 
 -- What a worker was given, and what it gave back: the number of its new session and what that knew behind its last link, its port as
 -- it was handed out and as it came back, and whether accepting failed.
@@ -27,58 +25,42 @@ pub record Shift (E : Type 0) : Type 0 where
   pub after : PortTold
   pub failed : Bool
 
--- What a worker did, and how its session ended.
-pub record Work (E : Type 0) : Type 0 where
-  pub shift : Shift E
-  -- what its session knew once the hub was closed
-  pub known : Known E
-  pub ended : End
-
-abbrev pub shifts_of : {E : Type 0} → List (Work E) → List (Shift E)
-shifts_of works = map (λ work. work.shift) works
-
 -- over the rules of a machine, and what one message may be answered
 module _ {S C Q P E K : Type 0} (rules : Rules S C Q P E K) (row : RowOf E) where
   -- Each link that the port handed out was served once, to an end, and given back; where accepting didn't fail, no known link is to come.
   abbrev pub HasServedPort : Users → Shift E → Type 0
-  HasServedPort users shift = ServesPort (ServesLink rules row) (at_desk users (newcomer shift.number)) (at_desk users shift.stopped) shift.before shift.after shift.failed
+  HasServedPort users shift = ServesPort (TellsLink rules row) (at_desk users (newcomer shift.number)) (at_desk users shift.stopped) shift.before shift.after shift.failed
 
-  -- A worker served the links of its port by the session of that number, of a hub with that one list and that closing journal.
-  pub record HasWorked (users : Users) (one journal : List E) (work : Work E) : Type 0 where
-    pub links : HasServedPort users work.shift
-    -- all that its session has seen at last begins the one list, and has its calls
-    pub within : IsPrefix work.known.front one
-    pub calls : HasItsCalls rules work.known
-    -- The messages of all these links, one link after another: each has a row at a point of what the session has seen; the points never
-    -- go back, from one link to the next neither.
+  -- A worker served the links of its port by the session of that number, of a hub with that one list.
+  pub record HasWorked (users : Users) (one : List E) (shift : Shift E) : Type 0 where
+    pub links : HasServedPort users shift
+    -- all that its session saw begins the one list, which has just its calls
+    pub within : IsPrefix shift.stopped.front one
+    pub calls : HasItsCalls rules one shift.stopped
+    -- The messages of all these links, one link after another: each has a row at a point of the one list; the points never go back, not
+    -- even from one link to the next.
     pub exchanges : List (List Exchange)
     pub each : AllZip (λ visit exchanges. OnLink visit.came visit.went exchanges visit.end) links.links.visits exchanges
-    pub joined : HasServed row users (newcomer work.shift.number) 0 (all_of exchanges) work.known
-    -- how its session ended, on that journal
-    pub ends : EndsAs rules journal work.shift.stopped work.known work.ended
+    pub joined : HasServed row users (newcomer shift.number) 0 (all_of exchanges) (seeing shift.stopped one)
 
   -- The links of these ports were served by the sessions of a new hub, which was then closed.
   pub record ServesAll (users : Users) (before after : List PortTold) (failed : Bool) : Type 0 where
-    -- one list, with no entry but those of a session for each port
+    -- one list, the journal of the closed hub, with no entry but those of a session for each port
     pub one : List E
     pub list : IsListOf rules (length before) one
-    -- the journal of the closed hub begins it
-    pub journal : List E
-    pub begins : IsPrefix journal one
     -- one worker for each port, with a new session of its number
-    pub works : List (Work E)
-    pub worked : AllByRecursion (HasWorked users one journal) works
-    pub numbers : map (λ shift. shift.number) (shifts_of works) ≡ range_with_len 0 (length before)
-    pub handed : map (λ shift. shift.before) (shifts_of works) ≡ before
-    pub back : map (λ shift. shift.after) (shifts_of works) ≡ after
-    pub some_failed : failed ≡ list_any (λ shift. shift.failed) (shifts_of works)
+    pub shifts : List (Shift E)
+    pub worked : AllByRecursion (HasWorked users one) shifts
+    pub numbers : map (λ shift. shift.number) shifts ≡ range_with_len 0 (length before)
+    pub handed : map (λ shift. shift.before) shifts ≡ before
+    pub back : map (λ shift. shift.after) shifts ≡ after
+    pub some_failed : failed ≡ list_any (λ shift. shift.failed) shifts
 
-  -- what serving ports comes to: no reply is held back, and want of memory leaves them as they were
+  -- what serving ports comes to: keeping doesn't fail, since nothing is kept, and want of memory leaves them as they were
   abbrev pub ServesPorts : Users → List PortTold → List PortTold → Outcome → Type 0
   ServesPorts users before after Served = ServesAll users before after false
   ServesPorts users before after Failed = ServesAll users before after true
   ServesPorts users before after Unkept = ⊥
-  ServesPorts users before after Unmatched = ⊥
   ServesPorts users before after LacksMemory = after ≡ before
 
   -- ---- for private clauses

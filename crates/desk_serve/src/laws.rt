@@ -1,5 +1,5 @@
 //! Laws on what a machine keeps, and on a hub that had no memory.
-ghost use Rattle.std.specs.Prelude.{◌≡◌, ◌≤◌, ◌++◌, ◌∷◌, [], ℕ, Bool, true, List, length, map, take};
+ghost use Rattle.std.specs.Prelude.{◌≡◌, ◌<◌, ◌≤◌, ◌-◌, ◌∷◌, [], ℕ, Bool, true, List, length, map, take};
 ghost use Rattle.std.specs.List.{AllByRecursion, range_with_len};
 ghost use mathlib.Core.List.{IsPrefix};
 ghost use Rattle.machine_law.specs.Rules.{replay, is_legal};
@@ -8,7 +8,8 @@ ghost use Rattle.osm_outside.specs.Port.{PortTold};
 ghost use Rattle.http_link.specs.declared.end.LinkEnd.TheVariants.{Memory};
 ghost use Rattle.user_table.specs.Users.{Users};
 ghost use Rattle.link_workers.specs.Port.{Visit, ServesEach};
-ghost use Rattle.snapshot_hub.specs.Known.{Known};
+ghost use Rattle.hub_core.specs.Journal.{calls_of};
+ghost use Rattle.snapshot_hub.specs.Known.{Known, returner};
 ghost use Rattle.snapshot_hub.specs.Closed.{HasClosed};
 ghost use Rattle.kept_entries.specs.Receipts.{AreKept};
 ghost use Rattle.kept_entries.specs.declared.receipts.Receipt.{Receipt};
@@ -48,8 +49,8 @@ pub fn kept_links_join<N: HubName, M: Machine, S: Snapshot<N, M>, D: SessionDesk
 }
 
 /// A law: what it comes to that workers served ports by the first sessions of a hub that began with
-/// the journal J, once that hub is closed. It may have further sessions, which served none. Of the
-/// hub's one list all receipts must be kept, in which those of each session come first.
+/// the journal J, once that hub is closed. Its further sessions served none. Of the hub's one list all
+/// receipts must be kept, in which those of each session come first.
 pub fn kept_ports_served<
     N: HubName,
     M: Machine,
@@ -58,13 +59,15 @@ pub fn kept_ports_served<
     V: Device,
     D: SessionDesk<N, M, S>,
 >()
-    ensures { (users : Users) (seats : ℕ) (J : List M.Entry) (before after : List PortTold) (stopped : List (AtKept M.Entry)) (others : List (Known M.Entry))
-        (failed : Bool) (device : V) (receipts : List Receipt) → length before ≤ seats
-        → HaveKept M.rules D.answers users J (range_with_len 0 (length before)) stopped before after failed
-        → (closed : HasClosed M.rules seats (map (λ it. it.desk.known) stopped ++ others)) → IsPrefix J closed.one
+    ensures { (users : Users) (seats : ℕ) (J : List M.Entry) (before after : List PortTold) (stopped : List (AtKept M.Entry)) (spare : List (Known M.Entry))
+        (failed : Bool) (device : V) (first : Receipt) (receipts : List Receipt)
+        → HaveKept M.rules D.answers users J (first ∷ []) (range_with_len 0 (length before)) stopped before after failed
+        → spare ≡ map (λ n. returner n J (calls_of M.rules.tag_of n J)) (range_with_len (length before) (seats - length before))
+        → (closed : HasClosed M.rules seats (map (λ it. it.desk.known) stopped) spare) → IsPrefix J closed.one
         → AreKept T.text V.moment V.left_since device closed.one receipts → AllByRecursion (λ it. IsPrefix it.receipts receipts) stopped
-        → (r : Receipt) × IsPrefix (r ∷ []) receipts × (r.count ≡ length J)
-        → ServesKept M.rules D.answers T.text V.moment V.left_since users seats J before after failed device }
+        → AllByRecursion (λ it. it.failed ≡ true → 0 < V.faults device) stopped
+        → IsPrefix (first ∷ []) receipts → first.count ≡ length J
+        → ServesKept M.rules D.answers T.text V.moment V.left_since V.faults users J before after failed device }
 {
     kept_links_chain::<N, M, S, D>();
     kept_stay::<N, M, S, D>();

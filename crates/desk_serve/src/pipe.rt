@@ -1,5 +1,5 @@
 //! One link, served by the one session of a new hub.
-ghost use Rattle.std.specs.Prelude.{◌≡◌, ℕ, map, vec_len, IfOk, IfSome, OnErr, slice_get};
+ghost use Rattle.std.specs.Prelude.{[], ◌≡◌, ℕ, map, vec_len, IfOk, IfSome, OnErr, slice_get};
 ghost use Rattle.snapshot_hub.specs.Known.{newcomer};
 ghost use Rattle.snapshot_hub.specs.Closed.{HasClosed};
 ghost use Rattle.desk_serve.specs.Link.{ServesPipe};
@@ -7,7 +7,7 @@ ghost use Rattle.desk_serve.specs.Link.{ServesPipe};
 use crate::laws::points_are_consistent;
 use crate::link::serve_link;
 use crate::makers::DeskMaker;
-use http_link::LinkEnd;
+use http_link::{AlwaysTells, LinkEnd};
 use machine_law::Machine;
 use osm_base::Memory;
 use osm_outside::{Link, Outside};
@@ -22,7 +22,7 @@ pub fn serve_by_one<
     N: HubName,
     M: Machine,
     S: Snapshot<N, M>,
-    D: SessionDesk<N, M, S> + Drop,
+    D: SessionDesk<N, M, S> + AlwaysTells + Drop,
     K: DeskMaker<M::Entry, D>,
     L: Link,
 >(
@@ -34,7 +34,7 @@ pub fn serve_by_one<
     requires same { (desk : D) → K.keeps desk ≡ D.keeps desk }
     requires one { vec_len sessions ≡ 1 }
     requires fresh { (number : ℕ) → IfSome (slice_get sessions.items number) (λ s. K.knows s ≡ newcomer number) }
-    ensures served { IfOk result (λ r. HasClosed M.rules 1 (map K.knows r.0.items) → ServesPipe M.rules D.answers (K.users maker.now) (L.told link.old) (L.told link.new) r.1) }
+    ensures served { IfOk result (λ r. HasClosed M.rules 1 (map K.knows r.0.items) [] → ServesPipe M.rules D.answers (K.users maker.now) (L.told link.old) (L.told link.new) r.1) }
     ensures count { IfOk result (λ r. vec_len r.0 ≡ 1) }
     ensures err { OnErr result (L.told link.new ≡ L.told link.old) }
 {

@@ -1,15 +1,16 @@
 //! Many workers over one new hub.
-ghost use Rattle.std.specs.Prelude.{◌≡◌, ◌+◌, ◌++◌, ◌≤◌, ℕ, map, vec_len, vec_capacity, IfOk, IfSome, OnErr, slice_get};
+ghost use Rattle.std.specs.Prelude.{[], ◌≡◌, ◌+◌, ◌++◌, ◌≤◌, ℕ, map, vec_len, vec_capacity, IfOk, IfSome, OnErr, slice_get};
 ghost use Rattle.snapshot_hub.specs.Known.{newcomer};
 ghost use Rattle.snapshot_hub.specs.Closed.{HasClosed};
 ghost use Rattle.osm_outside.specs.Told.{Told};
 ghost use Rattle.http_link.specs.declared.end.LinkEnd.{LinkEnd};
 ghost use Rattle.desk_serve.specs.Desks.{at_desk};
-ghost use Rattle.desk_serve.specs.Link.{ServesLink};
+ghost use Rattle.desk_serve.specs.Link.{TellsLink};
 ghost use Rattle.desk_serve.specs.Ports.{ServesAll};
 
 use crate::laws::points_are_consistent;
 use crate::makers::DeskMaker;
+use http_link::AlwaysTells;
 use link_workers::{Service, any_failed, seat_all, serve_all, unseat_all};
 use machine_law::Machine;
 use osm_base::Memory;
@@ -60,7 +61,7 @@ pub fn serve_by<
     N: HubName,
     M: Machine,
     S: Snapshot<N, M>,
-    D: SessionDesk<N, M, S> + Drop + Send,
+    D: SessionDesk<N, M, S> + AlwaysTells + Drop + Send,
     K: DeskMaker<M::Entry, D> + Service<Session = D> + Sync,
     R: Threads + Wait + Sync,
     P: Port + Drop + Send,
@@ -74,10 +75,10 @@ pub fn serve_by<
 where
     K::HubSession: Send,
     requires serves { (old new : D) (before after : Told) (end : LinkEnd) → K.serves maker.now old new before after end
-        → ServesLink M.rules D.answers (K.keeps old) (K.keeps new) before after end }
+        → TellsLink M.rules D.answers (K.keeps old) (K.keeps new) before after end }
     requires count { vec_len sessions ≡ vec_len ports.old }
     requires fresh { (number : ℕ) → IfSome (slice_get sessions.items number) (λ s. K.knows s ≡ newcomer number) }
-    ensures served { IfOk result (λ r. HasClosed M.rules (vec_len ports.old) (map K.knows r.0.items)
+    ensures served { IfOk result (λ r. HasClosed M.rules (vec_len ports.old) (map K.knows r.0.items) []
         → ServesAll M.rules D.answers (K.users maker.now) (map P.told ports.old.items) (map P.told ports.new.items) r.1) }
     ensures left { IfOk result (λ r. vec_len r.0 ≡ vec_len sessions) }
     ensures count { IfOk result (λ r. vec_len ports.new ≡ vec_len ports.old) }

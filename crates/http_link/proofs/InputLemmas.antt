@@ -199,7 +199,7 @@ module _ (body_limit : ℕ) where
   nothing_left_at (ends.Refused why) = nothing_is_left why
   nothing_left_at ends.ReadFault = tt
   nothing_left_at ends.WriteFault = tt
-  nothing_left_at ends.Unkept = tt
+  nothing_left_at (ends.Unkept why) = tt
   nothing_left_at ends.Memory = tt
 
   HasMessages-more : (laws : WireLaws) (bytes more kept : List ℕ) (messages : List Message) → HasMessages body_limit bytes messages kept
@@ -267,7 +267,7 @@ module _ (body_limit : ℕ) where
     rest_at ends.WriteFault (inl facts, rose) =
         rw (unread left ending facts.nothing_else) (omega (arith, left_limit [] left turns read (omega arith)))
     rest_at ends.WriteFault (inr facts, rose) = omega (arith, facts.reads.limit, most facts.why)
-    rest_at ends.Unkept facts = rw (unread left ending facts.lacks.nothing_else) (left_limit [] left turns read (omega arith))
+    rest_at (ends.Unkept why) facts = rw (unread left ending facts.lacks.nothing_else) (left_limit [] left turns read (omega arith))
     rest_at ends.Memory (inl facts) =
         rw (unread left ending facts.nothing_else) (omega (arith, left_limit [] left turns read (omega arith)))
     rest_at ends.Memory (inr facts) = facts.reads.limit
@@ -309,7 +309,7 @@ module _ (body_limit : ℕ) where
           (known.1 ∙ all.0, all.1)
       by_reading ends.ReadFault at facts ok = absurd ok
       by_reading ends.WriteFault at facts ok = absurd ok
-      by_reading ends.Unkept at facts ok = absurd ok
+      by_reading (ends.Unkept why) at facts ok = absurd ok
       by_reading ends.Memory at facts ok = absurd ok
 
     -- the end, where that much more is left
@@ -327,7 +327,7 @@ module _ (body_limit : ℕ) where
     agrees_with_left (ends.Refused e) more same facts = none_left e ending.reads more (rw same at facts.1.reads.agrees)
     agrees_with_left ends.ReadFault more same facts = tt
     agrees_with_left ends.WriteFault more same facts = tt
-    agrees_with_left ends.Unkept more same facts = tt
+    agrees_with_left (ends.Unkept why) more same facts = tt
     agrees_with_left ends.Memory more same facts = tt
 
     told_by : (b a : Option (List ℕ)) → after.left ≡ a → Consumes b a bytes → (end : LinkEnd)

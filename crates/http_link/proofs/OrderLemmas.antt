@@ -222,7 +222,7 @@ module _ (body_limit : ℕ) where
   in_order before after turns left ending ends.WriteFault (inl f, rose) =
       lasting turns left ending f.front f.last f.turns_are f.nothing_else f.going_on f.replies
   in_order before after turns left ending ends.WriteFault (inr f, rose) = going turns left ending f.going_on f.replies f.reads.needed
-  in_order before after turns left ending ends.Unkept f =
+  in_order before after turns left ending (ends.Unkept why) f =
       lasting turns left ending f.lacks.front f.lacks.last f.lacks.turns_are f.lacks.nothing_else f.lacks.going_on f.lacks.replies
   in_order before after turns left ending ends.Memory (inl f) = record {
     follows = rw f.no_turn tt;

@@ -1,6 +1,5 @@
 -- How a link ends, by its last turn.
 use Rattle.std.proofs.Common.{◌≡◌, ℕ, ◌+◌, ◌<◌, ◌≤◌, Bool, true, false, List, [], ◌∷◌, ◌++◌, length, Option, Some, None, IfSome, Result, Ok, Err, IsTrue, IsFalse, if◌then◌else◌, refl, sym, ap, ◌∙◌, append-nil, arith, inl, inr}
-use Rattle.std.specs.Prelude.{⊤}
 use Rattle.std.specs.List.{AllByRecursion, concat}
 use Rattle.std.specs.Io.KnownBytes.{Consumes}
 use Rattle.std.proofs.KnownBytes.{Consumes-nil}
@@ -12,6 +11,7 @@ use Rattle.http_wire.specs.declared.end.WireEnd.{WireEnd}
 use Rattle.http_wire.specs.declared.end.WireEnd.TheVariants as wire
 use Rattle.http_wire.specs.Written.{WrittenWhole, WrittenInPart}
 use Rattle.http_link.specs.declared.desk.Reply.{Reply}
+use Rattle.http_link.specs.declared.desk.Withheld.{Withheld}
 use Rattle.osm_base.specs.declared.limits.TheConstants.{REQUEST_LIMIT}
 use Rattle.http_link.specs.declared.end.LinkEnd.{LinkEnd}
 use Rattle.http_link.specs.declared.end.LinkEnd.TheVariants as ends
@@ -20,7 +20,7 @@ use Rattle.http_link.specs.Exchange.{Exchange, Chain, Telling, text_of}
 use Rattle.http_link.specs.Refusal.{refusal, end_of}
 use Rattle.http_link.specs.Turns.{Turn, Ending, no_ending, exchanges_of, bytes_of, AreRead, AreWritten, ReadsEnd}
 use Rattle.http_link.specs.Turn.{Step, Held, Stop, TakesTurn, next_after}
-use Rattle.http_link.specs.Link.{Served, Serves, ServesTold, AreTold, LinkEnds, NoneCloses, GoesOn, ComesTo, AgreesWithBytes}
+use Rattle.http_link.specs.Link.{Served, Serves, ServesTold, AreTold, TellsAll, LinkEnds, NoneCloses, GoesOn, ComesTo, AgreesWithBytes}
 use Rattle.http_link.proofs.LinkLemmas.{Served-step, Served-stop, Served-allowed, exchanges_of-push, AreWritten-push, NoneCloses-push}
 
 -- `body_limit` is the most bytes that a body may have.
@@ -64,26 +64,21 @@ module _ (body_limit : ℕ) where
 
   -- ---- what the desk let be sent
 
-  -- the desk was asked of each reply that was sent
-  abbrev AllTold : LinkEnd → Type 0
-  AllTold ends.Unkept = ⊥
-  AllTold other = ⊤
+  told_all : {D : Type 0} (allows : D → Message → ℕ → Reply → D → Type 0) (tells : D → Type 0) (withholds : D → Withheld → Type 0) (start now : D) (exchanges : List Exchange)
+      (end : LinkEnd) → TellsAll end → Chain (Telling allows tells) start exchanges now → AreTold allows tells withholds start exchanges now end
+  told_all allows tells withholds start now exchanges ends.Ended all c = c
+  told_all allows tells withholds start now exchanges ends.Closed all c = c
+  told_all allows tells withholds start now exchanges ends.Budget all c = c
+  told_all allows tells withholds start now exchanges (ends.Refused why) all c = c
+  told_all allows tells withholds start now exchanges ends.ReadFault all c = c
+  told_all allows tells withholds start now exchanges ends.WriteFault all c = c
+  told_all allows tells withholds start now exchanges (ends.Unkept why) all c = absurd all
+  told_all allows tells withholds start now exchanges ends.Memory all c = c
 
-  told_all : {D : Type 0} (allows : D → Message → ℕ → Reply → D → Type 0) (tells : D → Type 0) (start now : D) (exchanges : List Exchange)
-      (end : LinkEnd) → AllTold end → Chain (Telling allows tells) start exchanges now → AreTold allows tells start exchanges now end
-  told_all allows tells start now exchanges ends.Ended all c = c
-  told_all allows tells start now exchanges ends.Closed all c = c
-  told_all allows tells start now exchanges ends.Budget all c = c
-  told_all allows tells start now exchanges (ends.Refused why) all c = c
-  told_all allows tells start now exchanges ends.ReadFault all c = c
-  told_all allows tells start now exchanges ends.WriteFault all c = c
-  told_all allows tells start now exchanges ends.Unkept all c = absurd all
-  told_all allows tells start now exchanges ends.Memory all c = c
-
-  ServesTold-of : {D : Type 0} (allows : D → Message → ℕ → Reply → D → Type 0) (tells : D → Type 0) (start now : D) (before after : Told)
-      (end : LinkEnd) → AllTold end → Serves body_limit (Telling allows tells) start now before after end
-      → ServesTold body_limit allows tells start now before after end
-  ServesTold-of allows tells start now before after end all s = record {
+  ServesTold-of : {D : Type 0} (allows : D → Message → ℕ → Reply → D → Type 0) (tells : D → Type 0) (withholds : D → Withheld → Type 0) (start now : D) (before after : Told)
+      (end : LinkEnd) → TellsAll end → Serves body_limit (Telling allows tells) start now before after end
+      → ServesTold body_limit allows tells withholds start now before after end
+  ServesTold-of allows tells withholds start now before after end all s = record {
     serves = record {
       turns = s.turns;
       few = s.few;
@@ -93,10 +88,10 @@ module _ (body_limit : ℕ) where
       ends = s.ends;
       agrees = s.agrees;
     };
-    told = told_all allows tells start now (exchanges_of s.turns) end all s.served.answered;
+    told = told_all allows tells withholds start now (exchanges_of s.turns) end all s.served.answered;
   }
 
-  all_told_at_stop : (why : WireEnd) → AllTold (end_of why)
+  all_told_at_stop : (why : WireEnd) → TellsAll (end_of why)
   all_told_at_stop wire.End = tt
   all_told_at_stop wire.Truncated = tt
   all_told_at_stop wire.BadHead = tt
@@ -221,19 +216,20 @@ module _ (body_limit : ℕ) where
     ended read wire.BodyLong s sent = stopped read wire.BodyLong s (ends.Refused wire.BodyLong) sent (tt, comes_to read wire.BodyLong s sent)
     ended read wire.Coded s sent = stopped read wire.Coded s (ends.Refused wire.Coded) sent (tt, comes_to read wire.Coded s sent)
 
-  module _ {D : Type 0} (laws : TellsEnd) (allows : D → Message → ℕ → Reply → D → Type 0) (tells : D → Type 0) (start old new : D) (a b c : Told)
+  module _ {D : Type 0} (laws : TellsEnd) (allows : D → Message → ℕ → Reply → D → Type 0) (tells : D → Type 0) (withholds : D → Withheld → Type 0) (start old new : D) (a b c : Told)
       (kept left : List ℕ) (turns : List Turn) (before : Served body_limit (Telling allows tells) start old a b kept turns no_ending)
       (replies : AreWritten 0 turns) (none : NoneCloses (exchanges_of turns)) (room : length turns < REQUEST_LIMIT) where
-    all_told : (end : LinkEnd) → AllTold end → Serves body_limit (Telling allows tells) start new a c end
-        → ServesTold body_limit allows tells start new a c end
-    all_told = ServesTold-of allows tells start new a c
+    all_told : (end : LinkEnd) → TellsAll end → Serves body_limit (Telling allows tells) start new a c end
+        → ServesTold body_limit allows tells withholds start new a c end
+    all_told = ServesTold-of allows tells withholds start new a c
 
     -- the last reply was held back
-    unkept : Held body_limit allows old new b c kept left (length turns) → ServesTold body_limit allows tells start new a c ends.Unkept
-    unkept h =
+    unkept : (why : Withheld) → Held body_limit allows old new b c kept left (length turns) → withholds new why
+        → ServesTold body_limit allows tells withholds start new a c (ends.Unkept why)
+    unkept why h cause =
         let s = h.step in record {
           serves =
-              Serves-of laws allows start new a c (turns ++ s.turn ∷ []) left no_ending ends.Unkept
+              Serves-of laws allows start new a c (turns ++ s.turn ∷ []) left no_ending (ends.Unkept why)
               (omega (arith, length-append turns (s.turn ∷ []), room))
               (Served-step body_limit allows start old new a b c kept left (length turns) (Err h.in_place) turns
               (Served-allowed body_limit allows tells start old a b kept turns no_ending before) s)
@@ -250,12 +246,12 @@ module _ (body_limit : ℕ) where
                 };
                 unsent = h.unsent;
               });
-          told = (exchanges_of turns, s.turn.exchange, old, exchanges_of-push turns s.turn, before.answered, s.allowed);
+          told = (exchanges_of turns, s.turn.exchange, old, exchanges_of-push turns s.turn, before.answered, s.allowed, cause);
         }
 
     -- the link ends with this turn
-    pub over : (end : LinkEnd) → TakesTurn body_limit allows tells old new b c kept left (length turns) (next.Over end)
-        → ServesTold body_limit allows tells start new a c end
+    pub over : (end : LinkEnd) → TakesTurn body_limit allows tells withholds old new b c kept left (length turns) (next.Over end)
+        → ServesTold body_limit allows tells withholds start new a c end
     over end (inl (Ok done, s, e, rose)) =
         let known = over_from_ok s.turn.exchange.message.close end e in
         rw known.0
@@ -276,12 +272,12 @@ module _ (body_limit : ℕ) where
         rw same
         (all_told ends.WriteFault tt
         (cut_refusal laws (Telling allows tells) start old new a b c kept left turns before replies none room read why s x.1 x.2))
-    over end (inr (inr (h, e))) =
-        let same : end ≡ ends.Unkept = cc in
-        rw same (unkept h)
+    over end (inr (inr (why, h, cause, e))) =
+        let same : end ≡ ends.Unkept why = cc in
+        rw same (unkept why h cause)
 
     -- the link goes on after this turn
-    pub answered : TakesTurn body_limit allows tells old new b c kept left (length turns) next.GoesOn
+    pub answered : TakesTurn body_limit allows tells withholds old new b c kept left (length turns) next.GoesOn
         → (all : List Turn) × Served body_limit (Telling allows tells) start new a c left all no_ending × AreWritten 0 all
         × (length all ≡ length turns + 1) × NoneCloses (exchanges_of all)
     answered (inl (Ok done, s, e, rose)) =
@@ -289,7 +285,7 @@ module _ (body_limit : ℕ) where
         (goes_on_from s.turn.exchange.message.close (Ok done) s.turn.exchange.message refl e).1
     answered (inl (Err fault, s, e, rose)) = absurd cc
     answered (inr (inl (read, why, other, s, x, e))) = absurd cc
-    answered (inr (inr (h, e))) = absurd cc
+    answered (inr (inr (why, h, cause, e))) = absurd cc
 
   all_fixed : (a : Option ℕ) → IfSome a (λ at. AllByRecursion (λ (e : Exchange). e.moment ≡ at) [])
   all_fixed None = tt
@@ -309,18 +305,18 @@ module _ (body_limit : ℕ) where
     write_faults = omega arith;
   }
 
-  pub unserved : {D : Type 0} (laws : TellsEnd) (allows : D → Message → ℕ → Reply → D → Type 0) (tells : D → Type 0) (start : D) (a : Told)
-      → ServesTold body_limit allows tells start start a a ends.Memory
-  unserved laws allows tells start a =
-      ServesTold-of allows tells start start a a ends.Memory tt
+  pub unserved : {D : Type 0} (laws : TellsEnd) (allows : D → Message → ℕ → Reply → D → Type 0) (tells : D → Type 0) (withholds : D → Withheld → Type 0) (start : D) (a : Told)
+      → ServesTold body_limit allows tells withholds start start a a ends.Memory
+  unserved laws allows tells withholds start a =
+      ServesTold-of allows tells withholds start start a a ends.Memory tt
       (Serves-of laws (Telling allows tells) start start a a [] [] no_ending ends.Memory (omega arith) (no_turn (Telling allows tells) start a)
       (inl (record { untouched = refl; no_turn = refl; nothing_else = refl })))
 
   -- as many requests were answered as may be
-  pub no_more : {D : Type 0} (laws : TellsEnd) (allows : D → Message → ℕ → Reply → D → Type 0) (tells : D → Type 0) (start now : D) (a b : Told)
+  pub no_more : {D : Type 0} (laws : TellsEnd) (allows : D → Message → ℕ → Reply → D → Type 0) (tells : D → Type 0) (withholds : D → Withheld → Type 0) (start now : D) (a b : Told)
       (left : List ℕ) (turns : List Turn) → Served body_limit (Telling allows tells) start now a b left turns no_ending → AreWritten 0 turns
-      → length turns ≡ REQUEST_LIMIT → NoneCloses (exchanges_of turns) → ServesTold body_limit allows tells start now a b ends.Budget
-  no_more laws allows tells start now a b left turns served replies full none =
-      ServesTold-of allows tells start now a b ends.Budget tt
+      → length turns ≡ REQUEST_LIMIT → NoneCloses (exchanges_of turns) → ServesTold body_limit allows tells withholds start now a b ends.Budget
+  no_more laws allows tells withholds start now a b left turns served replies full none =
+      ServesTold-of allows tells withholds start now a b ends.Budget tt
       (Serves-of laws (Telling allows tells) start now a b turns left no_ending ends.Budget (omega (arith, full)) served
       (record { none = none; full = full; replies = replies; nothing_else = refl }))

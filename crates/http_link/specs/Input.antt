@@ -25,7 +25,7 @@ end_from count (m ∷ messages) why =
 abbrev pub IsByInput : LinkEnd → Type 0
 IsByInput ReadFault = ⊥
 IsByInput WriteFault = ⊥
-IsByInput Unkept = ⊥
+IsByInput (Unkept why) = ⊥
 IsByInput Memory = ⊥
 IsByInput other = ⊤
 

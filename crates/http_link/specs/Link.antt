@@ -1,5 +1,5 @@
 -- What serving a link does.
-use Rattle.std.specs.Prelude.{◌≡◌, ℕ, ◌+◌, ◌<◌, ◌≤◌, ◌⊎◌, List, [], ◌∷◌, ◌++◌, length, IfSome, IsTrue, IsFalse}
+use Rattle.std.specs.Prelude.{◌≡◌, ℕ, ◌+◌, ◌<◌, ◌≤◌, ◌⊎◌, List, [], ◌∷◌, ◌++◌, length, IfSome, IsTrue, IsFalse, ⊤}
 use Rattle.std.specs.List.{AllByRecursion, concat}
 use Rattle.std.specs.Io.KnownBytes.{Consumes}
 use Rattle.osm_base.specs.declared.limits.TheConstants.{HEAD_LIMIT, REQUEST_LIMIT}
@@ -11,6 +11,7 @@ use Rattle.http_wire.specs.Message.{HasMessages}
 use Rattle.http_wire.specs.Received.{HaveBytes}
 use Rattle.http_wire.specs.Wire.{end_limit}
 use Rattle.http_link.specs.declared.desk.Reply.{Reply}
+use Rattle.http_link.specs.declared.desk.Withheld.{Withheld}
 use Rattle.http_link.specs.declared.end.LinkEnd.{LinkEnd}
 use Rattle.http_link.specs.declared.end.LinkEnd.TheVariants.{Ended, Closed, Budget, Refused, ReadFault, WriteFault, Unkept, Memory}
 use Rattle.http_link.specs.Exchange.{Exchange, Chain, Telling, messages_of, text_of}
@@ -43,12 +44,17 @@ pub record IsUnkept (turns : List Turn) (ending : Ending) : Type 0 where
   pub unsent : lacks.last.writes ≡ []
 
 -- From start the desk came to now by these exchanges, and before each reply was sent, the desk let it. Where the link ended as
--- unkept, the last one was allowed and not sent.
-abbrev pub AreTold : {D : Type 0} → (D → Message → ℕ → Reply → D → Type 0) → (D → Type 0) → D → List Exchange → D → LinkEnd → Type 0
-AreTold {D} allows tells start exchanges now Unkept =
+-- unkept, the last one was allowed and not sent, and the desk had that cause to withhold it.
+abbrev pub AreTold : {D : Type 0} → (D → Message → ℕ → Reply → D → Type 0) → (D → Type 0) → (D → Withheld → Type 0) → D → List Exchange → D → LinkEnd → Type 0
+AreTold {D} allows tells withholds start exchanges now (Unkept why) =
     (front : List Exchange) × (last : Exchange) × (mid : D) × (exchanges ≡ front ++ last ∷ [])
-    × Chain (Telling allows tells) start front mid × allows mid last.message last.moment last.answer now
-AreTold allows tells start exchanges now other = Chain (Telling allows tells) start exchanges now
+    × Chain (Telling allows tells) start front mid × allows mid last.message last.moment last.answer now × withholds now why
+AreTold allows tells withholds start exchanges now other = Chain (Telling allows tells) start exchanges now
+
+-- no reply was withheld
+abbrev pub TellsAll : LinkEnd → Type 0
+TellsAll (Unkept why) = ⊥
+TellsAll other = ⊤
 
 -- The last request said close, and nothing was read or written behind its reply.
 pub record IsClosed (turns : List Turn) (ending : Ending) : Type 0 where
@@ -117,7 +123,7 @@ module _ (body_limit : ℕ) where
       ComesTo after turns left ending wire.ReadFault × Rose before.read_faults after.read_faults
   LinkEnds before after turns left ending WriteFault =
       (LacksReply turns ending ⊎ LacksRefusal after turns left ending) × Rose before.write_faults after.write_faults
-  LinkEnds before after turns left ending Unkept = IsUnkept turns ending
+  LinkEnds before after turns left ending (Unkept why) = IsUnkept turns ending
   LinkEnds before after turns left ending Memory =
       IsUnserved before after turns ending ⊎ ComesTo after turns left ending wire.Memory
 
@@ -130,7 +136,7 @@ module _ (body_limit : ℕ) where
   rest_limit (Refused why) = end_limit body_limit why
   rest_limit ReadFault = end_limit body_limit wire.ReadFault
   rest_limit WriteFault = end_limit body_limit wire.Memory
-  rest_limit Unkept = HEAD_LIMIT
+  rest_limit (Unkept why) = HEAD_LIMIT
   rest_limit Memory = end_limit body_limit wire.Memory
 
   -- What the bytes that were read tell: the answered messages, the rest behind them, and that the link ended as they say.
@@ -154,8 +160,14 @@ module _ (body_limit : ℕ) where
     pub ends : LinkEnds before after turns left ending end
     pub agrees : AgreesWithBytes before (bytes_of turns ending) (left ++ concat ending.reads) (exchanges_of turns) end
 
-  -- The same, and the desk let each reply be sent before it was.
-  pub record ServesTold {D : Type 0} (allows : D → Message → ℕ → Reply → D → Type 0) (tells : D → Type 0)
+  -- The same, and no reply was withheld.
+  pub record ServesTelling {D : Type 0} (allows : D → Message → ℕ → Reply → D → Type 0)
       (start now : D) (before after : Told) (end : LinkEnd) : Type 0 where
     pub serves : Serves allows start now before after end
-    pub told : AreTold allows tells start (exchanges_of serves.turns) now end
+    pub tells : TellsAll end
+
+  -- The same, and the desk let each reply be sent before it was, or had a cause to withhold the last one.
+  pub record ServesTold {D : Type 0} (allows : D → Message → ℕ → Reply → D → Type 0) (tells : D → Type 0) (withholds : D → Withheld → Type 0)
+      (start now : D) (before after : Told) (end : LinkEnd) : Type 0 where
+    pub serves : Serves allows start now before after end
+    pub told : AreTold allows tells withholds start (exchanges_of serves.turns) now end

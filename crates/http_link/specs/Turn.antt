@@ -1,5 +1,5 @@
 -- What one turn of a link does: a message and its reply, or an end.
-use Rattle.std.specs.Prelude.{◌≡◌, ℕ, ◌≤◌, ◌⊎◌, List, ◌∷◌, ◌++◌, [], map, Option, Some, None, Result, Ok, Err, IsErr, IfSome, if◌then◌else◌}
+use Rattle.std.specs.Prelude.{◌≡◌, ℕ, ◌≤◌, ◌⊎◌, List, ◌∷◌, ◌++◌, [], map, Result, Ok, Err, IsErr, IfSome, if◌then◌else◌}
 use Rattle.std.specs.List.{concat}
 use Rattle.std.specs.Io.KnownBytes.{Consumes}
 use Rattle.osm_outside.specs.Event.{Answered, Took}
@@ -16,6 +16,7 @@ use Rattle.http_link.specs.declared.end.LinkEnd.TheVariants as ends
 use Rattle.http_link.specs.declared.turn.Next.{Next}
 use Rattle.http_link.specs.declared.turn.Next.TheVariants.{GoesOn, Over}
 use Rattle.http_link.specs.declared.desk.Reply.{Reply}
+use Rattle.http_link.specs.declared.desk.Withheld.{Withheld}
 use Rattle.http_link.specs.Exchange.{Telling, closes, text_of}
 use Rattle.http_link.specs.Refusal.{refusal, end_of}
 use Rattle.http_link.specs.Turns.{Turn, events_of_turn, ReadsTurn, ReadsEnd}
@@ -50,12 +51,12 @@ pub record Holds {D : Type 0} (allows : D → Message → ℕ → Reply → D �
   pub told : after ≡ record before { trace = before.trace ++ (Answered moment ∷ []) }
   pub fixed : IfSome before.fixed (λ at. moment ≡ at)
 
--- The desk let the reply be sent, which it was; or it didn't, and nothing was sent.
-abbrev pub RepliesOrHolds : {D : Type 0} → (D → Message → ℕ → Reply → D → Type 0) → (D → Type 0) → D → D → Told → Told → ℕ → Message
-    → Option (Result (Unit {0}) Failed) → Type 0
-RepliesOrHolds allows tells old new before after count message (Some result) =
+-- The desk let the reply be sent, which it was; or it had that cause to withhold it, and nothing was sent.
+abbrev pub RepliesOrHolds : {D : Type 0} → (D → Message → ℕ → Reply → D → Type 0) → (D → Type 0) → (D → Withheld → Type 0) → D → D → Told → Told → ℕ → Message
+    → Result (Result (Unit {0}) Failed) Withheld → Type 0
+RepliesOrHolds allows tells withholds old new before after count message (Ok result) =
     Replies (Telling allows tells) old new before after count message result
-RepliesOrHolds allows tells old new before after count message None = Holds allows old new before after message
+RepliesOrHolds allows tells withholds old new before after count message (Err why) = Holds allows old new before after message × withholds new why
 
 -- The reply to an end was written, or a fault came.
 abbrev pub Refuses : Told → Told → WireEnd → LinkEnd → Type 0
@@ -100,11 +101,11 @@ module _ (body_limit : ℕ) where
     pub fault : why ≡ ReadFault → Rose before.read_faults read.read_faults
     pub unasked : new ≡ old
 
-  -- What one turn does: a reply is sent only where the desk lets it.
-  abbrev pub TakesTurn : {D : Type 0} → (D → Message → ℕ → Reply → D → Type 0) → (D → Type 0) → D → D → Told → Told → List ℕ → List ℕ → ℕ → Next → Type 0
-  TakesTurn allows tells old new before after kept left count next =
+  -- What one turn does: a reply is sent where the desk lets it, and else the desk has a cause to withhold it.
+  abbrev pub TakesTurn : {D : Type 0} → (D → Message → ℕ → Reply → D → Type 0) → (D → Type 0) → (D → Withheld → Type 0) → D → D → Told → Told → List ℕ → List ℕ → ℕ → Next → Type 0
+  TakesTurn allows tells withholds old new before after kept left count next =
       ((result : Result (Unit {0}) Failed) × (s : Step (Telling allows tells) old new before after kept left count result)
       × (next ≡ next_after s.turn.exchange.message result) × (IsErr result → Rose before.write_faults after.write_faults))
       ⊎ ((read : Told) × (why : WireEnd) × (end : LinkEnd) × Stop old new before read kept why
       × Refuses read after why end × (next ≡ Over end))
-      ⊎ (Held allows old new before after kept left count × (next ≡ Over ends.Unkept))
+      ⊎ ((why : Withheld) × Held allows old new before after kept left count × withholds new why × (next ≡ Over (ends.Unkept why)))

@@ -1,5 +1,5 @@
 //! What answers messages.
-ghost use Rattle.std.specs.Prelude.{IfOk};
+ghost use Rattle.std.specs.Prelude.{IfOk, IfErr, OnOk};
 ghost use Rattle.osm_base.specs.Status.{IsStatus};
 
 use http_wire::Message;
@@ -13,10 +13,20 @@ pub struct Reply {
     pub body: Bytes,
 }
 
+/// Why a reply was withheld.
+#[derive(Clone, Copy, PartialEq, Eq)]
+pub enum Withheld {
+    /// What has to keep what it tells of has failed.
+    Failed,
+    /// There was no memory to keep what it tells of.
+    Memory,
+}
+
 /// What answers messages.
 pub trait Desk {
-    ghost use Rattle.std.specs.Prelude.{ℕ, IsTrue};
+    ghost use Rattle.std.specs.Prelude.{ℕ};
     ghost use Rattle.http_link.specs.declared.desk.Reply.{Reply};
+    ghost use Rattle.http_link.specs.declared.desk.Withheld.{Withheld};
     ghost use Rattle.http_wire.specs.declared.message.Message.{Message};
     ghost use Rattle.http_link.specs.Desk.{counted_reply};
 
@@ -26,16 +36,28 @@ pub trait Desk {
     // What a desk is that lets its last reply be sent.
     ghost tells: { Self → Type 0 };
 
+    // What a desk is that withholds its last reply, by why it does. A desk that never does holds nothing here.
+    ghost withholds: { Self → Withheld → Type 0 };
+
     /// Answers a message, which was whole at that moment, in seconds since 1970. Want of memory
     /// counts as the reply 503, and doesn't end the link.
     fn answer(&mut self, alloc: Global, message: Message, moment: u64) -> Result<Reply, Memory>
         ensures allowed { allows self.old message moment (counted_reply result) self.new }
         ensures status { IfOk result (λ reply. IsStatus reply.status) };
 
-    /// Whether the reply that it gave last may be sent. It is asked once behind each answer and before anything is sent; where
-    /// it says no, nothing is, and the link ends. Whatever reply was allowed is so still.
-    fn may_tell(&mut self) -> bool
+    /// Lets the reply that it gave last be sent, or says why not. It is asked once behind each answer and before anything is
+    /// sent; where it withholds the reply nothing is sent, and the link ends. Whatever reply was allowed is so still.
+    fn may_tell(&mut self) -> Result<(), Withheld>
         ensures allowed { (before : Self) (message : Message) (moment : ℕ) (reply : Reply)
             → allows before message moment reply self.old → allows before message moment reply self.new }
-        ensures tells { IsTrue result → tells self.new };
+        ensures tells { OnOk result (tells self.new) }
+        ensures withheld { IfErr result (λ why. withholds self.new why) };
+}
+
+/// A desk that never withholds a reply.
+pub trait AlwaysTells: Desk {
+    ghost use Rattle.http_link.specs.declared.desk.Withheld.{Withheld};
+
+    // Nothing is a cause for it to withhold one.
+    ghost never: { (it : Self) (why : Withheld) → Self.withholds it why → ⊥ };
 }

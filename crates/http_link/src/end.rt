@@ -1,4 +1,5 @@
 //! How a link ends.
+use crate::desk::Withheld;
 use http_wire::WireEnd;
 
 /// How a link ended.
@@ -15,8 +16,8 @@ pub enum LinkEnd {
     Refused(WireEnd),
     ReadFault,
     WriteFault,
-    /// The desk didn't let its last reply be sent, and nothing of it was.
-    Unkept,
+    /// The desk withheld its last reply, and nothing of it was sent.
+    Unkept(Withheld),
     /// There was no memory for the wire, or to read a message. The latter was answered.
     Memory,
 }

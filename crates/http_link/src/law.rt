@@ -6,9 +6,11 @@ ghost use Rattle.osm_outside.specs.Event.{Event, Gave, Answered};
 ghost use Rattle.osm_outside.specs.Told.{Told};
 ghost use Rattle.http_link.specs.declared.end.LinkEnd.{LinkEnd};
 ghost use Rattle.http_link.specs.Turns.{Turn, Ending, AreRead, events_of, exchanges_of, bytes_of};
-ghost use Rattle.http_link.specs.Link.{LinkEnds, AgreesWithBytes};
+ghost use Rattle.http_link.specs.Exchange.{Exchange};
+ghost use Rattle.http_link.specs.Link.{LinkEnds, AgreesWithBytes, AreTold, TellsAll};
 ghost use Rattle.http_link.specs.Order.{HasAnswered, HasNext};
 
+use crate::desk::AlwaysTells;
 use http_wire::{
     end_stays, message_stays, no_empty_message, no_end_at_a_message, one_message, one_reading,
     some_reading,
@@ -46,4 +48,10 @@ pub fn clock_is_read_between()
         (front behind : List Event) (moment : ℕ) → AreRead body_limit [] turns left
         → LinkEnds body_limit before after turns left ending end → events_of turns ending ≡ front ++ (Answered moment ∷ behind)
         → HasNext body_limit (exchanges_of turns) front moment }
+{}
+
+/// No link ends with a reply withheld whose desk never withholds one.
+pub fn always_tells<D: AlwaysTells>()
+    ensures { (start now : D) (exchanges : List Exchange) (end : LinkEnd)
+        → AreTold D.allows D.tells D.withholds start exchanges now end → TellsAll end }
 {}

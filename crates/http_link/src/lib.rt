@@ -15,7 +15,7 @@ mod law;
 mod link;
 mod turn;
 
-pub use desk::{Desk, Reply};
+pub use desk::{AlwaysTells, Desk, Reply, Withheld};
 pub use end::LinkEnd;
-pub use law::{bytes_tell_the_end, clock_is_read_between, replies_come_before_reads};
+pub use law::{always_tells, bytes_tell_the_end, clock_is_read_between, replies_come_before_reads};
 pub use link::serve_desk;

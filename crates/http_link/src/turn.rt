@@ -1,5 +1,5 @@
 //! One message and its reply.
-ghost use Rattle.std.specs.Prelude.{◌≡◌, ◌+◌, ◌<◌, IsErr, IsFalse, IfSome};
+ghost use Rattle.std.specs.Prelude.{◌≡◌, ◌+◌, ◌<◌, IsErr, IsFalse, IfOk};
 ghost use Rattle.osm_base.specs.declared.limits.TheConstants.{REQUEST_LIMIT};
 ghost use Rattle.osm_outside.specs.Told.{Rose};
 ghost use Rattle.http_wire.specs.Reply.{reply};
@@ -10,7 +10,7 @@ ghost use Rattle.http_link.specs.Exchange.{closes};
 ghost use Rattle.http_link.specs.Refusal.{refusal, end_of};
 ghost use Rattle.http_link.specs.Turn.{RepliesOrHolds, Refuses, TakesTurn};
 
-use crate::desk::{Desk, Reply};
+use crate::desk::{Desk, Reply, Withheld};
 use crate::end::LinkEnd;
 use http_wire::{Message, Wire, WireEnd, write_reply};
 use osm_base::{Memory, REQUEST_LIMIT};
@@ -60,25 +60,25 @@ fn closes(message: &Message, count: usize) -> bool
     message.close || count + 1 == REQUEST_LIMIT
 }
 
-/// Answers a message, before which so many were answered. The result is none where the desk doesn't let its reply be sent.
+/// Answers a message, before which so many were answered. The error is why the desk withholds its reply.
 pub fn answer_message<D: Desk, L: Link>(
     alloc: Global,
     desk: &mut D,
     link: &mut L,
     message: Message,
     count: usize,
-) -> Option<Result<(), Failed>>
+) -> Result<Result<(), Failed>, Withheld>
     requires { count < REQUEST_LIMIT }
-    ensures replies { RepliesOrHolds D.allows D.tells desk.old desk.new (L.told link.old) (L.told link.new) count message result }
-    ensures failed { IfSome result (λ sent. IsErr sent → Rose (L.told link.old).write_faults (L.told link.new).write_faults) }
+    ensures replies { RepliesOrHolds D.allows D.tells D.withholds desk.old desk.new (L.told link.old) (L.told link.new) count message result }
+    ensures failed { IfOk result (λ sent. IsErr sent → Rose (L.told link.old).write_faults (L.told link.new).write_faults) }
 {
     let close = closes(&message, count);
     let moment = link.now();
     let answer = desk.answer(alloc, message, moment);
-    if !desk.may_tell() {
-        return None;
+    match desk.may_tell() {
+        Ok(()) => Ok(send(alloc, link, &answer, close)),
+        Err(why) => Err(why),
     }
-    Some(send(alloc, link, &answer, close))
 }
 
 /// Writes the reply to an end, where it has one.
@@ -134,7 +134,7 @@ pub fn take_turn<D: Desk, L: Link>(
 ) -> Next
     requires few { count < REQUEST_LIMIT }
     requires going_on { IsFalse wire.old.ended }
-    ensures turn { TakesTurn wire.old.body_limit D.allows D.tells desk.old desk.new (L.told link.old) (L.told link.new)
+    ensures turn { TakesTurn wire.old.body_limit D.allows D.tells D.withholds desk.old desk.new (L.told link.old) (L.told link.new)
         wire.old.kept wire.new.kept count result }
     ensures going_on { result ≡ Next.GoesOn → IsFalse wire.new.ended }
     ensures body_limit { wire.new.body_limit ≡ wire.old.body_limit }
@@ -143,9 +143,9 @@ pub fn take_turn<D: Desk, L: Link>(
         Ok(message) => {
             let close = message.close;
             match answer_message(alloc, desk, link, message, count) {
-                None => Next::Over(LinkEnd::Unkept),
-                Some(Err(_)) => Next::Over(LinkEnd::WriteFault),
-                Some(Ok(())) => {
+                Err(why) => Next::Over(LinkEnd::Unkept(why)),
+                Ok(Err(_)) => Next::Over(LinkEnd::WriteFault),
+                Ok(Ok(())) => {
                     if close {
                         Next::Over(LinkEnd::Closed)
                     } else {

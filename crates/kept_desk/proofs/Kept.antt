@@ -1,5 +1,5 @@
 -- What was answered is so of a session that was freshened then.
-use Rattle.std.proofs.Common.{◌≡◌, ℕ, ◌⊎◌, inl, inr, List, length, sym, ap, ◌∙◌, subst, arith}
+use Rattle.std.proofs.Common.{◌≡◌, ℕ, true, ◌⊎◌, inl, inr, List, length, sym, ap, ◌∙◌, subst, arith}
 use mathlib.Core.List.{IsPrefix}
 use Rattle.http_wire.specs.declared.message.Message.{Message}
 use Rattle.http_link.specs.declared.desk.Reply.{Reply}
@@ -39,9 +39,9 @@ module _ {S C Q P E K : Type 0} (rules : Rules S C Q P E K) where
 
   -- what was allowed is allowed of the desk then
   pub allowed_still : (row : RowOf E) → RowsStay row → (old mid new : AtKept E) (message : Message) (moment : ℕ) (reply : Reply)
-      → StaysOrFreshens rules mid.desk new.desk → new.tells_of ≡ mid.tells_of → IsPrefix mid.receipts new.receipts
+      → StaysOrFreshens rules mid.desk new.desk → new.tells_of ≡ mid.tells_of → IsPrefix mid.receipts new.receipts → (mid.failed ≡ true → new.failed ≡ true)
       → AllowsKept row old message moment reply mid → AllowsKept row old message moment reply new
-  allowed_still row stay old mid new message moment reply fresh same receipts h =
+  allowed_still row stay old mid new message moment reply fresh same receipts failed h =
       let s = still mid.desk.known new.desk.known fresh.known in record {
         users = fresh.users ∙ h.users;
         number = s.number ∙ h.number;
@@ -57,13 +57,14 @@ module _ {S C Q P E K : Type 0} (rules : Rules S C Q P E K) where
                   (place_at mid.desk.known step.0) message moment reply s.begins (omega (arith, step.1, h.within)) step.2),
             );
         receipts = prefix_trans old.receipts mid.receipts new.receipts h.receipts receipts;
+        failed = λ was. failed (h.failed was);
       }
 
 module _ {E : Type 0} (row : RowOf E) where
   -- the reply may tell of the whole front that the session was answered on
   pub answered_so : (old new : AtKept E) (message : Message) (moment : ℕ) (reply : Reply) → Allows row old.desk message moment reply new.desk
-      → new.tells_of ≡ length new.desk.known.front → new.receipts ≡ old.receipts → AllowsKept row old message moment reply new
-  answered_so old new message moment reply h all same = record {
+      → new.tells_of ≡ length new.desk.known.front → new.receipts ≡ old.receipts → new.failed ≡ old.failed → AllowsKept row old message moment reply new
+  answered_so old new message moment reply h all same unfailed = record {
     users = h.users;
     number = h.replies.number;
     begins = h.replies.begins;
@@ -72,4 +73,5 @@ module _ {E : Type 0} (row : RowOf E) where
         let step = h.replies.answers point le in
         (step.0, omega (arith, step.1, all), step.2);
     receipts = subst (λ (l : List Receipt). IsPrefix old.receipts l) (sym same) (prefix_self old.receipts);
+    failed = λ was. unfailed ∙ was;
   }

@@ -15,7 +15,7 @@ in_sent_but_last (e ∷ []) = refl
 in_sent_but_last (e ∷ f ∷ exchanges) = ap (λ (l : List Exchange). e ∷ l) (in_sent_but_last (f ∷ exchanges))
 
 pub in_sendings : (end : LinkEnd) (exchanges : List Exchange) → exchanges_in (sendings end exchanges) ≡ exchanges
-in_sendings Unkept exchanges = in_sent_but_last exchanges
+in_sendings (Unkept why) exchanges = in_sent_but_last exchanges
 in_sendings other exchanges = in_sent_ones exchanges
 
 -- the last one is unsent, whatever is before it

@@ -5,6 +5,7 @@ use Rattle.std.proofs.Math.Seq.{take-length}
 use mathlib.Core.List.{IsPrefix}
 use Rattle.http_link.specs.Exchange.{Exchange, Chain, Telling}
 use Rattle.http_link.specs.Link.{AreTold}
+use Rattle.http_link.specs.declared.desk.Withheld.{Withheld}
 use Rattle.http_link.specs.declared.end.LinkEnd.{LinkEnd}
 use Rattle.http_link.specs.declared.end.LinkEnd.TheVariants.{Unkept}
 use Rattle.kept_entries.specs.Receipts.{last_count}
@@ -14,7 +15,7 @@ use Rattle.session_desk.specs.Steps.{place_at}
 use Rattle.session_desk.specs.Answered.{RowOf, RowsStay, AreAnswered, HasServed}
 use Rattle.session_desk.proofs.Lists.{prefix_self, prefix_trans, prefix_length, prefix_take}
 use Rattle.user_table.specs.Users.{Users}
-use Rattle.kept_desk.specs.Kept.{AtKept, Tells, AllowsKept, Sending, exchanges_in, sent_ones, sent_but_last, sendings, AreKeptAndTold, HasKeptAndTold}
+use Rattle.kept_desk.specs.Kept.{AtKept, Tells, Withholds, HasWithheld, AllowsKept, Sending, exchanges_in, sent_ones, sent_but_last, sendings, AreKeptAndTold, HasKeptAndTold}
 use Rattle.kept_desk.proofs.Sendings.{sent_but_last-next}
 
 module _ {E : Type 0} (row : RowOf E) where
@@ -52,6 +53,7 @@ module _ {E : Type 0} (row : RowOf E) where
         number = allowed.number;
         begins = allowed.begins;
         receipts = allowed.receipts;
+        failed = allowed.failed;
         last = step.0;
         within = inside;
         told = (
@@ -71,6 +73,7 @@ module _ {E : Type 0} (row : RowOf E) where
     number = refl;
     begins = prefix_self it.desk.known.front;
     receipts = prefix_self it.receipts;
+    failed = λ h. h;
     last = point;
     within = le;
     told = (refl, le);
@@ -141,6 +144,7 @@ module _ {E : Type 0} (row : RowOf E) (stay : RowsStay row) where
         number = more.number ∙ served.number;
         begins = prefix_trans old.desk.known.front mid.desk.known.front F served.begins more.begins;
         receipts = prefix_trans old.receipts mid.receipts new.receipts served.receipts more.receipts;
+        failed = λ was. more.failed (served.failed was);
         last = more.last;
         within = more.within;
         told = told-append users old.desk.known.number mid.desk.known.front F mid.receipts new.receipts (place_at old.desk.known point)
@@ -172,18 +176,24 @@ module _ {E : Type 0} (row : RowOf E) (stay : RowsStay row) where
       (all_told mid new exchanges first.last first.within more)
 
   -- the last reply was held back
-  held_told : (old new : AtKept E) (exchanges : List Exchange) (point : ℕ) → point ≤ length old.desk.known.front
-      → AreTold (AllowsKept row) Tells old exchanges new Unkept
+  held_told : (old new : AtKept E) (exchanges : List Exchange) (why : Withheld) (point : ℕ) → point ≤ length old.desk.known.front
+      → AreTold (AllowsKept row) Tells Withholds old exchanges new (Unkept why)
       → (new.desk.users ≡ old.desk.users) × HasKeptAndTold row old.desk.users old point (sent_but_last exchanges) new
-  held_told old new exchanges point le (front, last, mid, is, chain, allowed) =
+  held_told old new exchanges why point le (front, last, mid, is, chain, allowed, cause) =
       let sent = all_told old mid front point le chain in
       let held = one_told row mid new last false sent.1.last sent.1.within allowed (λ never. absurd (cc never)) in
       subst (λ (l : List Sending). (new.desk.users ≡ old.desk.users) × HasKeptAndTold row old.desk.users old point l new)
       (sym (ap sent_but_last is ∙ sent_but_last-next front last))
       (then_told old mid new point (sent_ones front) (record { exchange = last; sent = false } ∷ []) sent.0 sent.1 (allowed.users, held))
 
+  all_withheld : (old new : AtKept E) (exchanges : List Exchange) (point : ℕ) → point ≤ length old.desk.known.front
+      → Chain (Telling (AllowsKept row) Tells) old exchanges new
+      → (new.desk.users ≡ old.desk.users) × HasKeptAndTold row old.desk.users old point (sent_ones exchanges) new × Unit {0}
+  all_withheld old new exchanges point le h = let all = all_told old new exchanges point le h in (all.0, all.1, tt)
+
   pub told_chain : (old new : AtKept E) (exchanges : List Exchange) (end : LinkEnd) (point : ℕ) → point ≤ length old.desk.known.front
-      → AreTold (AllowsKept row) Tells old exchanges new end
-      → (new.desk.users ≡ old.desk.users) × HasKeptAndTold row old.desk.users old point (sendings end exchanges) new
-  told_chain old new exchanges Unkept point le h = held_told old new exchanges point le h
-  told_chain old new exchanges other point le h = all_told old new exchanges point le h
+      → AreTold (AllowsKept row) Tells Withholds old exchanges new end
+      → (new.desk.users ≡ old.desk.users) × HasKeptAndTold row old.desk.users old point (sendings end exchanges) new × HasWithheld end new
+  told_chain old new exchanges (Unkept why) point le (front, last, mid, is, chain, allowed, cause) =
+      let held = held_told old new exchanges why point le (front, last, mid, is, chain, allowed, cause) in (held.0, held.1, cause)
+  told_chain old new exchanges other point le h = all_withheld old new exchanges point le h

@@ -1,9 +1,11 @@
 -- What a desk is answered that keeps before it tells, and what its replies come to.
-use Rattle.std.specs.Prelude.{◌≡◌, ℕ, ◌≤◌, Bool, true, false, IsTrue, List, [], ◌∷◌, length, map, take}
+use Rattle.std.specs.Prelude.{◌≡◌, ℕ, ◌≤◌, Bool, true, false, IsTrue, ⊤, List, [], ◌∷◌, length, map, take}
 use Rattle.std.proofs.Common.{inl, refl, arith}
 use mathlib.Core.List.{IsPrefix}
 use Rattle.http_wire.specs.declared.message.Message.{Message}
 use Rattle.http_link.specs.declared.desk.Reply.{Reply}
+use Rattle.http_link.specs.declared.desk.Withheld.{Withheld}
+use Rattle.http_link.specs.declared.desk.Withheld.TheVariants.{Failed, Memory}
 use Rattle.http_link.specs.Exchange.{Exchange}
 use Rattle.http_link.specs.declared.end.LinkEnd.{LinkEnd}
 use Rattle.http_link.specs.declared.end.LinkEnd.TheVariants.{Unkept}
@@ -15,27 +17,40 @@ use Rattle.machine_law.specs.Rules.{Rules}
 use Rattle.session_desk.specs.Answered.{AtDesk, RowOf, Allows, StaysOrFreshens}
 use Rattle.user_table.specs.Users.{Users}
 
--- what its inner desk keeps, how many entries its last reply may tell of, and the receipts that it has in hand
+-- what its inner desk keeps, how many entries its last reply may tell of, the receipts that it has in hand, and whether it has withheld a
+-- reply because keeping failed
 pub record AtKept (E : Type 0) : Type 0 where
   pub desk : AtDesk E
   pub tells_of : ℕ
   pub receipts : List Receipt
+  pub failed : Bool
 
-abbrev pub at_kept : {E : Type 0} → AtDesk E → ℕ → List Receipt → AtKept E
-at_kept desk tells_of receipts = record { desk = desk; tells_of = tells_of; receipts = receipts }
+abbrev pub at_kept : {E : Type 0} → AtDesk E → ℕ → List Receipt → Bool → AtKept E
+at_kept desk tells_of receipts failed = record { desk = desk; tells_of = tells_of; receipts = receipts; failed = failed }
 
--- a keeper: how many entries the last reply of its desk may tell of, and the receipts that it has in hand
+-- a keeper: how many entries the last reply of its desk may tell of, the receipts that it has in hand, and whether keeping failed
 pub record InHand : Type 0 where
   pub tells_of : ℕ
   pub receipts : List Receipt
+  pub failed : Bool
 
 -- a desk and its keeper
 abbrev pub kept_by : {E : Type 0} → AtDesk E → InHand → AtKept E
-kept_by desk keeper = at_kept desk keeper.tells_of keeper.receipts
+kept_by desk keeper = at_kept desk keeper.tells_of keeper.receipts keeper.failed
 
 -- Its last receipt in hand is for all that its last reply may tell of.
 abbrev pub Tells : {E : Type 0} → AtKept E → Type 0
 Tells it = it.tells_of ≤ last_count it.receipts
+
+-- why it may withhold its last reply: keeping failed, which it notes; or there was no memory, of which nothing is said
+abbrev pub Withholds : {E : Type 0} → AtKept E → Withheld → Type 0
+Withholds it Failed = it.failed ≡ true
+Withholds it Memory = ⊤
+
+-- it had that cause, where a link ended with a reply withheld
+abbrev pub HasWithheld : {E : Type 0} → LinkEnd → AtKept E → Type 0
+HasWithheld (Unkept why) it = Withholds it why
+HasWithheld other it = ⊤
 
 -- an exchange, and whether its reply was sent, if only in part
 pub record Sending : Type 0 where
@@ -57,7 +72,7 @@ sent_but_last (e ∷ f ∷ exchanges) = record { exchange = e; sent = true } ∷
 
 -- The exchanges of a link that ended so: all replies were sent, but for the last one where that was held back.
 abbrev pub sendings : LinkEnd → List Exchange → List Sending
-sendings Unkept exchanges = sent_but_last exchanges
+sendings (Unkept why) exchanges = sent_but_last exchanges
 sendings other exchanges = sent_ones exchanges
 
 -- a desk that is left alone
@@ -77,6 +92,7 @@ module _ {E : Type 0} (row : RowOf E) where
         → (next : ℕ) × (next ≤ new.tells_of)
         × row old.desk.users old.desk.known.number new.desk.known.front (place_at old.desk.known point) message moment reply (place_at new.desk.known next)
     pub receipts : IsPrefix old.receipts new.receipts
+    pub failed : old.failed ≡ true → new.failed ≡ true
 
   -- what is allowed so is a row at the inner desk
   pub allowed_at_desk : (old new : AtKept E) (message : Message) (moment : ℕ) (reply : Reply) → AllowsKept old message moment reply new
@@ -108,6 +124,7 @@ module _ {E : Type 0} (row : RowOf E) where
     pub number : new.desk.known.number ≡ old.desk.known.number
     pub begins : IsPrefix old.desk.known.front new.desk.known.front
     pub receipts : IsPrefix old.receipts new.receipts
+    pub failed : old.failed ≡ true → new.failed ≡ true
     pub last : ℕ
     pub within : last ≤ length new.desk.known.front
     pub told : AreKeptAndTold users old.desk.known.number new.desk.known.front new.receipts (place_at old.desk.known point) (length old.receipts)

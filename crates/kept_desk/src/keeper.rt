@@ -1,12 +1,14 @@
 //! What has replies wait until the file holds what they tell of.
-ghost use Rattle.std.specs.Prelude.{◌≡◌, ◌≤◌, IsTrue};
+ghost use Rattle.std.specs.Prelude.{◌≡◌, ◌≤◌, true, false, OnOk, IsErrOf};
+ghost use Rattle.http_link.specs.declared.desk.Withheld.{Withheld};
 ghost use mathlib.Core.List.{IsPrefix};
 ghost use Rattle.kept_entries.specs.Receipts.{last_count};
 ghost use Rattle.session_desk.specs.Answered.{StaysOrFreshens};
 
 use crate::inner::Inner;
+use http_link::Withheld;
 use journal_file::Device;
-use kept_entries::{Behind, Board, Lines, Receipt, Shelf, receipts_for};
+use kept_entries::{Behind, Board, KeepFault, Lines, Receipt, Shelf, receipts_for};
 use machine_law::Machine;
 use session_desk::SessionDesk;
 use shared_front::{Front, HubName};
@@ -16,8 +18,8 @@ use std::marker::{Model, PhantomData};
 use std::sync::{Mutex, Wait};
 
 /// What a desk keeps by that answers for a session: where the file's shelf is and the board where
-/// its receipts are told, how many entries the desk's last reply may tell of, and the receipts in hand.
-/// Contracts see the last two.
+/// its receipts are told, how many entries the desk's last reply may tell of, the receipts in hand, and
+/// whether keeping failed. Contracts see the last three.
 #[derive(Drop)]
 pub struct Keeper<'a, N: HubName, K: HubName, E, T: Lines<E>, V: Device, W: Wait> {
     rt: &'a W,
@@ -28,6 +30,7 @@ pub struct Keeper<'a, N: HubName, K: HubName, E, T: Lines<E>, V: Device, W: Wait
     receipts: Front<K, Receipt>,
     /// So many entries, at least, the last receipt in hand is for: what tells of no more needs no lock.
     held: u64,
+    failed: bool,
 }
 
 impl<'a, N: HubName, K: HubName, E, T: Lines<E>, V: Device, W: Wait> Model
@@ -38,7 +41,7 @@ impl<'a, N: HubName, K: HubName, E, T: Lines<E>, V: Device, W: Wait> Model
 
     ghost Value = { InHand };
 
-    ghost view = { λ k. record { tells_of = k.tells_of; receipts = k.receipts } };
+    ghost view = { λ k. record { tells_of = k.tells_of; receipts = k.receipts; failed = k.failed } };
 
     ghost invariant = { λ k. k.held ≤ last_count k.receipts };
 }
@@ -52,7 +55,7 @@ impl<'a, N: HubName, K: HubName, E, T: Lines<E>, V: Device, W: Wait> Keeper<'a, 
         board: &'a Board<K>,
         receipts: Front<K, Receipt>,
     ) -> Keeper<'a, N, K, E, T, V, W>
-        ensures { result ≡ record { tells_of = 0; receipts = receipts } }
+        ensures { result ≡ record { tells_of = 0; receipts = receipts; failed = false } }
     {
         Keeper {
             rt,
@@ -62,12 +65,13 @@ impl<'a, N: HubName, K: HubName, E, T: Lines<E>, V: Device, W: Wait> Keeper<'a, 
             tells_of: 0,
             receipts,
             held: 0,
+            failed: false,
         }
     }
 
     /// Notes how many entries the desk's last reply may tell of.
     pub fn note(&mut self, tells_of: u64)
-        ensures { self.new ≡ record { tells_of = tells_of; receipts = self.old.receipts } }
+        ensures { self.new ≡ record { tells_of = tells_of; receipts = self.old.receipts; failed = self.old.failed } }
     {
         self.tells_of = tells_of;
     }
@@ -77,6 +81,13 @@ impl<'a, N: HubName, K: HubName, E, T: Lines<E>, V: Device, W: Wait> Keeper<'a, 
         ensures { result ≡ self.now.receipts }
     {
         self.receipts.again()
+    }
+
+    /// Whether a reply was withheld because keeping failed.
+    pub fn has_failed(&self) -> bool
+        ensures { result ≡ self.now.failed }
+    {
+        self.failed
     }
 
     /// The receipts in hand, when the desk is done.
@@ -91,39 +102,47 @@ impl<'a, N: HubName, K: HubName, E, T: Lines<E>, V: Device, W: Wait> Keeper<'a, 
             tells_of: _tells_of,
             receipts,
             held: _held,
+            failed: _failed,
         } = self;
         receipts
     }
 }
 
 /// Has the file hold what the desk's last reply may tell of, by the entries that this source has, and
-/// takes the receipt for it, unless one in hand is for as much; and says whether one is. Receipts that
-/// are older than those in hand are no receipts for it; no run has shown them.
+/// takes the receipt for it, unless one in hand is for as much. Where a call of the device has failed
+/// it notes that. Receipts that are older than those in hand are none for it, and count as want of
+/// memory; no run has shown them.
 pub fn keep_from<N: HubName, K: HubName, E: Drop, T: Lines<E>, V: Device, B: Behind<N, E>, W: Wait>(
     keeper: &mut Keeper<'_, N, K, E, T, V, W>,
     source: &mut B,
-) -> bool
+) -> Result<(), Withheld>
     ensures source { B.becomes source.old source.new }
     ensures stays { keeper.new.tells_of ≡ keeper.old.tells_of }
     ensures receipts { IsPrefix keeper.old.receipts keeper.new.receipts }
-    ensures tells { IsTrue result → keeper.new.tells_of ≤ last_count keeper.new.receipts }
+    ensures tells { OnOk result (keeper.new.tells_of ≤ last_count keeper.new.receipts) }
+    ensures noted { IsErrOf result Withheld.Failed → keeper.new.failed ≡ true }
+    ensures failed { keeper.old.failed ≡ true → keeper.new.failed ≡ true }
 {
     let count = keeper.tells_of;
     if count <= keeper.held {
-        return true;
+        return Ok(());
     }
     let (rt, alloc) = (keeper.rt, keeper.alloc);
     let (shelf, board) = (keeper.shelf, keeper.board);
     match receipts_for(rt, alloc, shelf, board, source, count) {
         Ok(receipts) => {
             if !keeper.receipts.begins(&receipts) {
-                return false;
+                return Err(Withheld::Memory);
             }
             keeper.receipts = receipts;
             keeper.held = count;
-            true
+            Ok(())
         }
-        Err(_) => false,
+        Err(KeepFault::File) => {
+            keeper.failed = true;
+            Err(Withheld::Failed)
+        }
+        Err(KeepFault::Memory | KeepFault::Full) => Err(Withheld::Memory),
     }
 }
 
@@ -137,11 +156,13 @@ pub fn keep<
     V: Device,
     D: SessionDesk<N, M, S>,
     W: Wait,
->(keeper: &mut Keeper<'_, N, K, M::Entry, T, V, W>, desk: &mut D) -> bool
+>(keeper: &mut Keeper<'_, N, K, M::Entry, T, V, W>, desk: &mut D) -> Result<(), Withheld>
     ensures session { StaysOrFreshens M.rules (D.keeps desk.old) (D.keeps desk.new) }
     ensures stays { keeper.new.tells_of ≡ keeper.old.tells_of }
     ensures receipts { IsPrefix keeper.old.receipts keeper.new.receipts }
-    ensures tells { IsTrue result → keeper.new.tells_of ≤ last_count keeper.new.receipts }
+    ensures tells { OnOk result (keeper.new.tells_of ≤ last_count keeper.new.receipts) }
+    ensures noted { IsErrOf result Withheld.Failed → keeper.new.failed ≡ true }
+    ensures failed { keeper.old.failed ≡ true → keeper.new.failed ≡ true }
 {
     let mut source = Inner {
         desk,

@@ -17,10 +17,11 @@ use snapshot_hub::Snapshot;
 pub trait KeptSession<N: HubName, M: Machine, S: Snapshot<N, M>>: SessionDesk<N, M, S> {
     ghost use Rattle.std.specs.Prelude.{◌≡◌, ℕ};
     ghost use Rattle.http_link.specs.declared.desk.Reply.{Reply};
+    ghost use Rattle.http_link.specs.declared.desk.Withheld.{Withheld};
     ghost use Rattle.http_wire.specs.declared.message.Message.{Message};
-    ghost use Rattle.kept_desk.specs.Kept.{AtKept, Tells, AllowsKept};
+    ghost use Rattle.kept_desk.specs.Kept.{AtKept, Tells, Withholds, AllowsKept};
 
-    // What its session has, how many entries its last reply may tell of, and the receipts in hand.
+    // What its session has, how many entries its last reply may tell of, the receipts in hand, and whether keeping failed.
     ghost kept: { Self → AtKept M.Entry };
 
     /// Publishes the journal that is found under the lock, and lets the session see it. The receipts
@@ -29,7 +30,8 @@ pub trait KeptSession<N: HubName, M: Machine, S: Snapshot<N, M>>: SessionDesk<N,
         ensures users { (kept self.new).desk.users ≡ (kept self.old).desk.users }
         ensures ok { OnOk result (IsFresh M.rules (kept self.old).desk.known (kept self.new).desk.known) }
         ensures err { OnErr result (kept self.new ≡ kept self.old) }
-        ensures receipts { (kept self.new).receipts ≡ (kept self.old).receipts };
+        ensures receipts { (kept self.new).receipts ≡ (kept self.old).receipts }
+        ensures failed { (kept self.new).failed ≡ (kept self.old).failed };
 
     // Its session is the one that it keeps as any desk does.
     ghost same_session: { (it : Self) → Self.keeps it ≡ (kept it).desk };
@@ -40,4 +42,7 @@ pub trait KeptSession<N: HubName, M: Machine, S: Snapshot<N, M>>: SessionDesk<N,
 
     // Where it lets its last reply be sent, the last receipt in hand is for all that the reply may tell of.
     ghost tells_kept: { (it : Self) → Self.tells it → Tells (kept it) };
+
+    // Where it withholds its last reply, it has a cause.
+    ghost withholds_kept: { (it : Self) (why : Withheld) → Self.withholds it why → Withholds (kept it) why };
 }

@@ -105,7 +105,7 @@ fn keep_all<N: HubName, K: HubName, E: Drop, T: Lines<E>, D: Device, B: Behind<N
     let all = longer.len();
     if all < count {
         // The source lacks them, so no file can be made to hold them.
-        return Err(KeepFault::File);
+        return Err(KeepFault::Full);
     }
     shelf.keep(alloc, &entries, longer)?;
     Ok(Told::of(shelf.receipts(), all))

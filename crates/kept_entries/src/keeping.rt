@@ -4,7 +4,7 @@ ghost use Rattle.kept_entries.specs.Held.{HoldsFrom};
 ghost use Rattle.kept_entries.specs.declared.keeping.KeepFault.{KeepFault};
 
 use crate::writing::Lines;
-use journal_file::{Device, JournalFile};
+use journal_file::{AppendFault, Device, JournalFile};
 use osm_base::Memory;
 use std::alloc::Global;
 
@@ -13,7 +13,10 @@ use std::alloc::Global;
 pub enum KeepFault {
     /// There was no memory for their lines. The file is as it was, and goes on.
     Memory,
-    /// The file takes no more until it is opened again.
+    /// There is no room for them: in the file, which takes 2^62 bytes, or in the list of receipts. Or they
+    /// were asked for and aren't there. No run has shown it.
+    Full,
+    /// A call of the device has failed: the file takes no more until it is opened again.
     File,
 }
 
@@ -44,7 +47,8 @@ pub fn keep<E, T: Lines<E>, D: Device>(
     ensures time { D.moment file.old.device ≤ D.moment file.new.device }
     ensures going { OnOk result ((file.old.broken ≡ false) × (file.new.broken ≡ false)) }
     ensures memory { IsErrOf result KeepFault.Memory → file.new ≡ file.old }
-    ensures failed { IsErrOf result KeepFault.File → file.new.broken ≡ false → file.new ≡ file.old }
+    ensures full { IsErrOf result KeepFault.Full → file.new ≡ file.old }
+    ensures failed { IsErrOf result KeepFault.File → file.new.broken ≡ true }
 {
     let lines = T::lines_behind(Vec::new(alloc), entries)?;
     match file.append(&lines) {
@@ -52,6 +56,7 @@ pub fn keep<E, T: Lines<E>, D: Device>(
             file.law();
             Ok(())
         }
-        Err(_) => Err(KeepFault::File),
+        Err(AppendFault::Full) => Err(KeepFault::Full),
+        Err(AppendFault::Failed) => Err(KeepFault::File),
     }
 }

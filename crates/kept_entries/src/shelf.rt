@@ -142,9 +142,13 @@ impl<N: HubName, K: HubName, E, T: Lines<E>, D: Device> Shelf<N, K, E, T, D> {
         ensures receipts { IsPrefix self.old.receipts self.new.receipts }
         ensures entries { IsPrefix self.old.entries self.new.entries }
         ensures memory { IsErrOf result KeepFault.Memory → self.new ≡ self.old }
+        ensures failed { IsErrOf result KeepFault.File → self.new.broken ≡ true }
     {
-        if self.file.is_broken() || self.receipts.len() >= MOST {
+        if self.file.is_broken() {
             return Err(KeepFault::File);
+        }
+        if self.receipts.len() >= MOST {
+            return Err(KeepFault::Full);
         }
         match keep::<E, T, D>(alloc, &mut self.file, entries) {
             Ok(()) => {
@@ -153,14 +157,13 @@ impl<N: HubName, K: HubName, E, T: Lines<E>, D: Device> Shelf<N, K, E, T, D> {
                 if give(&self.file, count, &self.tail, &mut self.receipts) {
                     Ok(())
                 } else {
-                    Err(KeepFault::File)
+                    Err(KeepFault::Full)
                 }
             }
             Err(KeepFault::Memory) => Err(KeepFault::Memory),
+            Err(KeepFault::Full) => Err(KeepFault::Full),
             Err(KeepFault::File) => {
-                if self.file.is_broken() {
-                    self.front = longer;
-                }
+                self.front = longer;
                 Err(KeepFault::File)
             }
         }

@@ -1,5 +1,5 @@
 -- A hub that began with a journal, and what its workers did once it is closed.
-use Rattle.std.proofs.Common.{◌≡◌, ℕ, ◌+◌, ◌<◌, ◌≤◌, zero, suc, Bool, true, false, List, [], ◌∷◌, length, map, take, get_or, sym, ap, ◌∙◌, subst, arith}
+use Rattle.std.proofs.Common.{◌≡◌, ℕ, ◌+◌, ◌-◌, ◌<◌, ◌≤◌, zero, suc, Bool, true, false, List, [], ◌∷◌, length, map, take, drop, get_or, length-drop, sym, ap, ◌∙◌, subst, arith}
 use Rattle.std.specs.Prelude.{IfSome, slice_get}
 use Rattle.std.specs.List.{AllByRecursion, range_with_len}
 use Rattle.std.proofs.lemmas.List.{length-take-le}
@@ -23,7 +23,7 @@ use Rattle.desk_serve.proofs.KeptJoined.{KeptChain, KeptStay}
 use Rattle.desk_serve.proofs.Sound.{PointsConsistent}
 use Rattle.kept_desk.specs.Kept.{AtKept}
 use Rattle.kept_serve.specs.Ports.{ServesKeptPorts, AreMatched, EndsSo}
-use Rattle.kept_serve.proofs.Serving.{ReceiptsStay, first_one, first_ones, ports_kept}
+use Rattle.kept_serve.proofs.Serving.{ReceiptsStay, first_one, first_ones, other_ones, ports_kept}
 
 module _ {E : Type 0} (tag_of : E → Tag) where
   too_many : (limit : ℕ) (journal : List E) (last : ℕ) → (suc last ≤ limit → ⊥) → AreSeated tag_of limit journal
@@ -58,19 +58,26 @@ module _ {S C Q P E K : Type 0} (rules : Rules S C Q P E K) where
   module _ {V : Type 0} (row : RowOf E) (text : List E → List ℕ) (moment : V → ℕ) (left_since : V → ℕ → List ℕ → Type 0) (faults : V → ℕ) where
     -- what ports were served to come to, by the sessions of the hub and by what came back from its workers
     pub kept_ports : KeptChain row → KeptStay row → PointsConsistent rules → ReceiptsStay rules row text moment left_since
-        → (users : Users) (seats named : ℕ) (J : List E) (before after : List PortTold) (begun seated sessions : List (Known E)) (stopped : List (AtKept E))
-        (in_hand : List (List Receipt)) (had given : List Receipt) (held : List E) (device : V) (failed broken : Bool) (outcome : Outcome)
+        → (users : Users) (seats named : ℕ) (J : List E) (before after : List PortTold) (begun seated sessions spare : List (Known E)) (stopped : List (AtKept E))
+        (in_hand : List (List Receipt)) (had given : List Receipt) (held : List E) (device : V) (withheld failed broken : Bool) (outcome : Outcome)
         → 0 < length before → length before ≤ seats → seats ≡ named → length begun ≡ seats
-        → ((number : ℕ) → IfSome (slice_get begun number) (λ s. s ≡ begun_at J number)) → seated ≡ take (length before) begun
+        → ((number : ℕ) → IfSome (slice_get begun number) (λ s. s ≡ begun_at J number)) → seated ≡ take (length before) begun → spare ≡ drop (length before) begun
         → map (λ s. s.desk.known) stopped ≡ sessions → map (λ s. s.receipts) stopped ≡ in_hand
-        → ((numbers : List ℕ) (K : List E) → seated ≡ map (begun_at K) numbers → HaveKept rules row users K numbers stopped before after failed)
+        → (withheld ≡ false → AllByRecursion (λ it. it.failed ≡ false) stopped)
+        → ((numbers : List ℕ) (K : List E) → seated ≡ map (begun_at K) numbers → HaveKept rules row users K had numbers stopped before after failed)
         → AllByRecursion (λ receipts. IsPrefix had receipts) in_hand → (r : Receipt) × (had ≡ r ∷ []) × (r.count ≡ length J)
-        → HasClosed rules named sessions → AreKept text moment left_since device held given
-        → (broken ≡ false → faults device ≡ 0) → (broken ≡ true → 0 < faults device) → EndsSo (AreMatched in_hand sessions held given) failed broken outcome
-        → ServesKeptPorts rules row text moment left_since faults users seats J device before after outcome
-    kept_ports chain stay consistent longer users seats named J before after begun seated sessions stopped in_hand had given held device failed broken outcome some enough same count each is known_are hands_are served begin first closed kept fine broke ends =
-        let long : length (take (length before) begun) ≡ length before = length-take-le (length before) begun (omega (arith, enough, count)) in
-        ports_kept rules row text moment left_since faults chain stay consistent longer users seats J before after stopped sessions in_hand had given held device failed broken outcome
-        some enough known_are hands_are
-        (served (range_with_len 0 (length before)) J (is ∙ first_ones (begun_at J) (length before) begun each long)) begin first
-        (subst (λ (n : ℕ). HasClosed rules n sessions) (sym same) closed) kept fine broke ends
+        → HasClosed rules named sessions spare → AreKept text moment left_since device held given
+        → (broken ≡ false → faults device ≡ 0) → (broken ≡ true → 0 < faults device)
+        → AreMatched in_hand withheld sessions held given broken → EndsSo failed broken outcome
+        → ServesKeptPorts rules row text moment left_since faults users J device before after outcome
+    kept_ports chain stay consistent longer users seats named J before after begun seated sessions spare stopped in_hand had given held device withheld failed broken outcome some enough same count each is others known_are hands_are none served begin (r, had_is, for_all) closed kept fine broke matched ends =
+        let n = length before in
+        let long : length (take n begun) ≡ n = length-take-le n begun (omega (arith, enough, count)) in
+        let rest : length (drop n begun) ≡ seats - n = length-drop n begun ∙ ap (λ (k : ℕ). k - n) count in
+        ports_kept rules row text moment left_since faults chain stay consistent longer users seats J before after stopped sessions spare in_hand r given held device withheld failed broken outcome
+        some known_are hands_are none
+        (subst (λ (l : List Receipt). HaveKept rules row users J l (range_with_len 0 n) stopped before after failed) had_is
+        (served (range_with_len 0 n) J (is ∙ first_ones (begun_at J) n begun each long)))
+        (others ∙ (other_ones (begun_at J) n begun each ∙ ap (λ (k : ℕ). map (begun_at J) (range_with_len n k)) rest))
+        (subst (λ (l : List Receipt). AllByRecursion (λ receipts. IsPrefix l receipts) in_hand) had_is begin) for_all
+        (subst (λ (k : ℕ). HasClosed rules k sessions spare) (sym same) closed) kept fine broke matched ends

@@ -26,6 +26,11 @@ seen_back view part left before desks back taken empty same =
     sym (taken
     ∙ (ap (λ l. l ++ map (λ desk. part (view desk)) desks) empty ∙ (ap (λ l. map (λ desk. part (view desk)) l) same ∙ seen_through view part back)))
 
+-- what holds of what is seen of each desk holds of all that is seen
+pub all_seen : {D A : Type 0} (view : D → A) (Q : A → Type 0) (desks : List D) → AllByRecursion (λ desk. Q (view desk)) desks → AllByRecursion Q (map view desks)
+all_seen view Q [] h = tt
+all_seen view Q (d ∷ desks) h = (h.0, all_seen view Q desks h.1)
+
 -- what is made of what sessions know, where that is told by their numbers
 pub starts_are : {A X Y : Type 0} (knows : A → X) (f : X → Y) (start : ℕ → X) (sessions : List A) (numbers : List ℕ)
     → map knows sessions ≡ map start numbers → map (λ s. f (knows s)) sessions ≡ map (λ n. f (start n)) numbers

@@ -9,7 +9,7 @@ mod shelving;
 mod workers;
 
 pub use makers::KeptMaker;
-pub use matching::{are_given, outcome_of};
+pub use matching::{are_given, ended, outcome_of};
 pub use seats::{has_seats, seats_for};
 pub use shelving::shelve;
 pub use workers::{KeptBack, serve_kept_by};

@@ -13,7 +13,7 @@ use std::alloc::Global;
 /// what is a parameter of it, and an impl for one machine can't meet a trait whose methods name the
 /// sessions or the hub of any machine.
 pub trait KeptMaker<E, K: HubName, Q> {
-    ghost use Rattle.std.specs.Prelude.{List};
+    ghost use Rattle.std.specs.Prelude.{List, false};
     ghost use Rattle.user_table.specs.Users.{Users};
     ghost use Rattle.snapshot_hub.specs.Known.{Known};
     ghost use Rattle.session_desk.specs.Answered.{RowOf};
@@ -41,7 +41,11 @@ pub trait KeptMaker<E, K: HubName, Q> {
 
     /// A desk of that session, which has answered nothing.
     fn desk_of(&self, alloc: Global, session: Self::HubSession) -> Result<Q, Memory>
-        ensures { IfOk result (λ desk. keeps desk ≡ at_kept (at_desk (users self.now) (knows session)) 0 (had self.now)) };
+        ensures { IfOk result (λ desk. keeps desk ≡ at_kept (at_desk (users self.now) (knows session)) 0 (had self.now) false) };
+
+    /// Whether a desk withheld a reply because keeping failed.
+    fn has_failed(&self, desk: &Q) -> bool
+        ensures { result ≡ (keeps desk.now).failed };
 
     /// The session of a desk that is done, and the receipts that it has in hand. It takes no memory.
     fn parts_of(&self, desk: Q) -> (Self::HubSession, Front<K, Receipt>)

@@ -11,6 +11,7 @@ use link_workers::Outcome;
 use machine_law::Machine;
 use shared_front::{Front, HubName};
 use snapshot_hub::{Session, Snapshot};
+use std::sync::Wait;
 
 /// Whether all these receipts are the first ones of those that were given. A session holds no others,
 /// which no run has shown otherwise.
@@ -36,7 +37,35 @@ fn is_seen<N: HubName, M: Machine, S: Snapshot<N, M>>(
     sessions.iter().any(|session| front.begins(session.front()))
 }
 
-/// How serving ended, by what came back from the workers and by what the shelf gave.
+/// Whether what came back from the workers is what the shelf gave, which no run has shown otherwise.
+fn is_matched<N: HubName, K: HubName, M: Machine, S: Snapshot<N, M>, T: Lines<M::Entry>, V: Device>(
+    back: &KeptBack<Session<N, M, S>, K>,
+    shelf: &Shelf<N, K, M::Entry, T, V>,
+) -> bool
+    ensures { IsTrue result → AreMatched back.now.receipts.items back.now.withheld back.now.sessions.items shelf.now.entries shelf.now.receipts shelf.now.broken }
+{
+    let given = shelf.receipts();
+    if !are_given(&back.receipts, &given) || !is_seen(&back.sessions, shelf.front()) {
+        return false;
+    }
+    !back.withheld || shelf.is_broken()
+}
+
+/// How serving ended, by whether a call of the device failed, and accepting did.
+pub fn ended(broken: bool, failed: bool) -> Outcome
+    ensures { EndsSo failed broken result }
+{
+    if broken {
+        Outcome::Unkept
+    } else if failed {
+        Outcome::Failed
+    } else {
+        Outcome::Served
+    }
+}
+
+/// How serving ended, by what came back from the workers, once that is what the shelf gave. It is so at
+/// once: no run has shown otherwise, and where it isn't this waits for ever.
 pub fn outcome_of<
     N: HubName,
     K: HubName,
@@ -44,18 +73,15 @@ pub fn outcome_of<
     S: Snapshot<N, M>,
     T: Lines<M::Entry>,
     V: Device,
->(back: &KeptBack<Session<N, M, S>, K>, shelf: &Shelf<N, K, M::Entry, T, V>) -> Outcome
-    ensures { EndsSo (AreMatched back.now.receipts.items back.now.sessions.items shelf.now.entries shelf.now.receipts) back.now.failed shelf.now.broken result }
+    W: Wait,
+>(rt: &W, back: &KeptBack<Session<N, M, S>, K>, shelf: &Shelf<N, K, M::Entry, T, V>) -> Outcome
+    ensures matched { AreMatched back.now.receipts.items back.now.withheld back.now.sessions.items shelf.now.entries shelf.now.receipts shelf.now.broken }
+    ensures ends { EndsSo back.now.failed shelf.now.broken result }
 {
-    let given = shelf.receipts();
-    if !are_given(&back.receipts, &given) || !is_seen(&back.sessions, shelf.front()) {
-        return Outcome::Unmatched;
+    for _ in rt.forever() {
+        if is_matched(back, shelf) {
+            return ended(shelf.is_broken(), back.failed);
+        }
     }
-    if shelf.is_broken() {
-        Outcome::Unkept
-    } else if back.failed {
-        Outcome::Failed
-    } else {
-        Outcome::Served
-    }
+    unreachable!()
 }

@@ -1,5 +1,5 @@
 //! Many workers over a hub whose journal is kept in a file.
-ghost use Rattle.std.specs.Prelude.{◌≡◌, ◌+◌, ◌++◌, ◌≤◌, ℕ, List, map, vec_len, vec_capacity, IfOk, OnErr};
+ghost use Rattle.std.specs.Prelude.{◌≡◌, false, ◌+◌, ◌++◌, ◌≤◌, ℕ, List, map, vec_len, vec_capacity, IfOk, OnErr};
 ghost use Rattle.std.specs.List.{AllByRecursion};
 ghost use mathlib.Core.List.{IsPrefix};
 ghost use Rattle.osm_outside.specs.Told.{Told};
@@ -23,11 +23,13 @@ use std::sync::Wait;
 use std::thread::Threads;
 
 /// What comes back from workers: their sessions and the receipts that they have in hand, in the order
-/// of the workers, and whether accepting failed at one.
+/// of the workers, whether one withheld a reply because keeping failed, and whether accepting failed at
+/// one.
 #[derive(Drop)]
 pub struct KeptBack<Y: Drop, K: HubName> {
     pub sessions: Vec<Y>,
     pub receipts: Vec<Front<K, Receipt>>,
+    pub withheld: bool,
     pub failed: bool,
 }
 
@@ -37,7 +39,7 @@ fn desks_of<E, K: HubName, Q: Drop, X: KeptMaker<E, K, Q>>(
     maker: &X,
     mut sessions: Vec<X::HubSession>,
 ) -> Result<Vec<Q>, Memory>
-    ensures { IfOk result (λ desks. map X.keeps desks.items ≡ map (λ s. at_kept (at_desk (X.users maker.now) (X.knows s)) 0 (X.had maker.now)) sessions.items) }
+    ensures { IfOk result (λ desks. map X.keeps desks.items ≡ map (λ s. at_kept (at_desk (X.users maker.now) (X.knows s)) 0 (X.had maker.now) false) sessions.items) }
 {
     let mut desks = Vec::with_capacity(alloc, sessions.len())?;
     sessions.reverse();
@@ -45,6 +47,18 @@ fn desks_of<E, K: HubName, Q: Drop, X: KeptMaker<E, K, Q>>(
         desks.push(maker.desk_of(alloc, session)?)?;
     }
     Ok(desks)
+}
+
+/// Whether one of the desks withheld a reply because keeping failed.
+fn any_withheld<E, K: HubName, Q: Drop, X: KeptMaker<E, K, Q>>(maker: &X, desks: &[Q]) -> bool
+    ensures { result ≡ false → AllByRecursion (λ desk. (X.keeps desk).failed ≡ false) desks.now }
+{
+    for desk in desks {
+        if maker.has_failed(desk) {
+            return true;
+        }
+    }
+    false
 }
 
 /// Takes the desks apart into lists that have room for them, in their order.
@@ -91,8 +105,9 @@ pub fn serve_kept_by<
     requires count { vec_len sessions ≡ vec_len ports.old }
     ensures served { IfOk result (λ r. (stopped : List (AtKept M.Entry))
         × (map (λ s. s.desk.known) stopped ≡ map X.knows r.sessions.items) × (map (λ s. s.receipts) stopped ≡ r.receipts.items)
+        × (r.withheld ≡ false → AllByRecursion (λ s. s.failed ≡ false) stopped)
         × ((numbers : List ℕ) (J : List M.Entry) → map X.knows sessions.items ≡ map (λ n. returner n J (calls_of M.rules.tag_of n J)) numbers
-        → HaveKept M.rules X.answers (X.users maker.now) J numbers stopped (map P.told ports.old.items) (map P.told ports.new.items) r.failed)) }
+        → HaveKept M.rules X.answers (X.users maker.now) J (X.had maker.now) numbers stopped (map P.told ports.old.items) (map P.told ports.new.items) r.failed)) }
     ensures had { IfOk result (λ r. AllByRecursion (λ receipts. IsPrefix (X.had maker.now) receipts) r.receipts.items) }
     ensures left { IfOk result (λ r. vec_len r.sessions ≡ vec_len sessions) }
     ensures count { IfOk result (λ r. vec_len ports.new ≡ vec_len ports.old) }
@@ -105,10 +120,12 @@ pub fn serve_kept_by<
     serve_all(rt, alloc, maker, workers.as_mut_slice());
     let failed = any_failed(workers.as_slice());
     unseat_all(workers, &mut desks, ports);
+    let withheld = any_withheld::<M::Entry, K, Q, X>(maker, desks.as_slice());
     leave_desks::<M::Entry, K, Q, X>(maker, desks, &mut left, &mut receipts);
     Ok(KeptBack {
         sessions: left,
         receipts,
+        withheld,
         failed,
     })
 }

@@ -1,11 +1,12 @@
 //! A desk of one worker that keeps before it tells.
-ghost use Rattle.std.specs.Prelude.{◌≡◌, ◌≤◌, IsTrue};
+ghost use Rattle.std.specs.Prelude.{◌≡◌, ◌≤◌, true, OnOk, IsErrOf};
+ghost use Rattle.http_link.specs.declared.desk.Withheld.{Withheld};
 ghost use mathlib.Core.List.{IsPrefix};
 ghost use Rattle.kept_entries.specs.Receipts.{last_count};
 ghost use Rattle.kept_steps.specs.Kept.{kept_front};
 
 use crate::source::Source;
-use http_link::{Desk, Reply};
+use http_link::{Desk, Reply, Withheld};
 use http_wire::Message;
 use journal_file::Device;
 use kept_desk::{Keeper, keep_from};
@@ -15,7 +16,7 @@ use shared_front::{Front, HubName};
 use std::alloc::Global;
 use std::marker::Model;
 use std::sync::Wait;
-use step_hub::{StepDesk, Stepped};
+use step_hub::{FrontDesk, StepDesk, Stepped};
 
 /// A desk over a list, whose replies are sent only once the file holds what they tell of.
 #[derive(Drop)]
@@ -66,19 +67,38 @@ impl<
         }
     }
 
-    /// What it has seen of the list.
-    pub fn front(&self) -> &Front<N, S::Entry>
-        ensures front { result.now ≡ self.now.desk.front }
-        ensures legal { S.legal self.now.desk.front }
-    {
-        self.desk.front()
-    }
-
     /// The receipts in hand.
     pub fn receipts(&self) -> Front<K, Receipt>
         ensures { result ≡ self.now.keeper.receipts }
     {
         self.keeper.receipts()
+    }
+
+    /// Whether it withheld a reply because keeping failed.
+    pub fn has_failed(&self) -> bool
+        ensures { result ≡ self.now.keeper.failed }
+    {
+        self.keeper.has_failed()
+    }
+}
+
+impl<
+    'a,
+    N: HubName,
+    K: HubName,
+    S: Stepped + Drop,
+    T: Lines<S::Entry>,
+    V: Device,
+    R: Wait,
+> FrontDesk<N, S> for KeptStepDesk<'a, N, K, S, T, V, R> {
+    ghost at = { λ it. it.desk };
+
+    fn front(&self) -> &Front<N, S::Entry> {
+        self.desk.front()
+    }
+
+    fn grown(&self) -> u64 {
+        self.desk.grown()
     }
 }
 
@@ -87,10 +107,12 @@ fn keep_list<N: HubName, K: HubName, S: Stepped + Drop, T: Lines<S::Entry>, V: D
     alloc: Global,
     keeper: &mut Keeper<'_, N, K, S::Entry, T, V, R>,
     desk: &StepDesk<'_, N, S, R>,
-) -> bool
+) -> Result<(), Withheld>
     ensures stays { keeper.new.tells_of ≡ keeper.old.tells_of }
     ensures receipts { IsPrefix keeper.old.receipts keeper.new.receipts }
-    ensures tells { IsTrue result → keeper.new.tells_of ≤ last_count keeper.new.receipts }
+    ensures tells { OnOk result (keeper.new.tells_of ≤ last_count keeper.new.receipts) }
+    ensures noted { IsErrOf result Withheld.Failed → keeper.new.failed ≡ true }
+    ensures failed { keeper.old.failed ≡ true → keeper.new.failed ≡ true }
 {
     let mut source = Source { alloc, desk };
     keep_from(keeper, &mut source)
@@ -98,11 +120,13 @@ fn keep_list<N: HubName, K: HubName, S: Stepped + Drop, T: Lines<S::Entry>, V: D
 
 impl<'a, N: HubName, K: HubName, S: Stepped + Drop, T: Lines<S::Entry>, V: Device, R: Wait> Desk
     for KeptStepDesk<'a, N, K, S, T, V, R> {
-    ghost use Rattle.kept_steps.specs.Kept.{AllowsKept, Tells};
+    ghost use Rattle.kept_steps.specs.Kept.{AllowsKept, Tells, Withholds};
 
     ghost allows = { λ old message moment reply new. AllowsKept S.steps old message moment reply new };
 
     ghost tells = { λ desk. Tells desk };
+
+    ghost withholds = { λ desk why. Withholds desk why };
 
     fn answer(&mut self, alloc: Global, message: Message, moment: u64) -> Result<Reply, Memory> {
         let reply = self.desk.answer(alloc, message, moment);
@@ -111,7 +135,7 @@ impl<'a, N: HubName, K: HubName, S: Stepped + Drop, T: Lines<S::Entry>, V: Devic
         reply
     }
 
-    fn may_tell(&mut self) -> bool {
+    fn may_tell(&mut self) -> Result<(), Withheld> {
         keep_list(self.alloc, &mut self.keeper, &self.desk)
     }
 }

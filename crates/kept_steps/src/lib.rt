@@ -8,7 +8,6 @@
 mod desk;
 mod ports;
 mod serve;
-mod service;
 mod source;
 
 pub use desk::KeptStepDesk;

@@ -1,6 +1,6 @@
 //! Many workers, each with a desk that keeps before it tells.
-ghost use Rattle.std.specs.Prelude.{◌≡◌, ◌+◌, ◌++◌, ◌≤◌, List, length, map, vec_len, vec_capacity, replicate, IfOk, OnErr};
-ghost use Rattle.std.specs.List.{AllByRecursion};
+ghost use Rattle.std.specs.Prelude.{◌≡◌, ◌+◌, ◌++◌, ◌≤◌, false, List, length, map, vec_len, vec_capacity, replicate, IfOk, OnErr};
+ghost use Rattle.std.specs.List.{AllByRecursion, sum_by};
 ghost use mathlib.Core.List.{IsPrefix};
 ghost use Rattle.osm_base.specs.declared.limits.TheConstants.{PIECE_LIMIT};
 ghost use Rattle.http_link.specs.Link.{ServesTold};
@@ -9,19 +9,18 @@ ghost use Rattle.kept_steps.specs.Kept.{AtKeptFront, at_kept_front};
 ghost use Rattle.kept_steps.specs.KeptPorts.{HaveKept};
 
 use crate::desk::KeptStepDesk;
-use crate::service::ToldService;
 use http_link::Desk;
 use journal_file::Device;
 use kept_desk::Keeper;
 use kept_entries::{Board, Lines, Receipt, Shelf};
-use link_workers::{Worker, any_failed, seat_all, serve_all, unseat_all};
+use link_workers::{DeskService, Worker, any_failed, seat_all, serve_all, unseat_all};
 use osm_base::{Memory, PIECE_LIMIT};
 use osm_outside::{Port, PortOutside};
 use shared_front::{Front, HubName};
 use std::alloc::Global;
 use std::sync::{Mutex, Wait};
 use std::thread::Threads;
-use step_hub::{StepDesk, StepHub, Stepped};
+use step_hub::{StepDesk, StepHub, Stepped, await_growth, longest};
 
 /// What desks are made of: their hub and what it was begun with, and the file's shelf and the receipts
 /// that it gave then.
@@ -45,11 +44,12 @@ pub struct KeptDesks<
 }
 
 /// What comes back from workers: what they have seen of the list, the receipts that each has in hand, in
-/// their order, and whether accepting failed at one.
+/// their order, whether one withheld a reply because keeping failed, and whether accepting failed at one.
 #[derive(Drop)]
 pub struct KeptBack<N: HubName, K: HubName, E> {
     pub list: Front<N, E>,
     pub receipts: Vec<Front<K, Receipt>>,
+    pub withheld: bool,
     pub failed: bool,
 }
 
@@ -65,7 +65,7 @@ impl<
     /// A desk that has answered nothing. It takes no memory.
     fn desk(&self, alloc: Global) -> KeptStepDesk<'a, N, K, S, T, V, R>
         requires { S.legal self.now.first.now }
-        ensures { result ≡ at_kept_front self.now.setting.now self.now.first.now 0 self.now.had.now }
+        ensures { result ≡ at_kept_front self.now.setting.now self.now.first.now self.now.had.now }
     {
         let desk = StepDesk::new(self.rt, self.hub, self.setting, self.first.again());
         let keeper = Keeper::new(self.rt, alloc, self.shelf, self.board, self.had.again());
@@ -80,7 +80,7 @@ fn desks_of<'a, N: HubName, K: HubName, S: Stepped + Drop, T: Lines<S::Entry>, V
     count: usize,
 ) -> Result<Vec<KeptStepDesk<'a, N, K, S, T, V, R>>, Memory>
     requires { S.legal maker.now.first.now }
-    ensures { IfOk result (λ desks. desks.items ≡ replicate count (at_kept_front maker.now.setting.now maker.now.first.now 0 maker.now.had.now)) }
+    ensures { IfOk result (λ desks. desks.items ≡ replicate count (at_kept_front maker.now.setting.now maker.now.first.now maker.now.had.now)) }
 {
     let mut desks = Vec::with_capacity(alloc, count)?;
     for _ in 0..count {
@@ -89,21 +89,18 @@ fn desks_of<'a, N: HubName, K: HubName, S: Stepped + Drop, T: Lines<S::Entry>, V
     Ok(desks)
 }
 
-/// The longest front of the desks and of this one, which all of them begin.
-fn longest<N: HubName, K: HubName, S: Stepped + Drop, T: Lines<S::Entry>, V: Device, R: Wait>(
-    first: &Front<N, S::Entry>,
+/// Whether one of the desks withheld a reply because keeping failed.
+fn any_withheld<N: HubName, K: HubName, S: Stepped + Drop, T: Lines<S::Entry>, V: Device, R: Wait>(
     desks: &[KeptStepDesk<'_, N, K, S, T, V, R>],
-) -> Front<N, S::Entry>
-    requires { S.legal first.now }
-    ensures legal { S.legal result }
-    ensures goes_on { IsPrefix first.now result }
-    ensures begin { AllByRecursion (λ it. IsPrefix it.desk.front result) desks.now }
+) -> bool
+    ensures { result ≡ false → AllByRecursion (λ it. it.keeper.failed ≡ false) desks.now }
 {
-    let mut front = first.again();
     for desk in desks {
-        front = front.longer(desk.front());
+        if desk.has_failed() {
+            return true;
+        }
     }
-    front
+    false
 }
 
 /// Puts the receipts in hand of the desks into a list that has room for them, in their order.
@@ -125,9 +122,9 @@ fn serve_desks<D: Desk + Send + Sync, R: Threads + Wait + Sync, P: Port + Send>(
     alloc: Global,
     workers: &mut [Worker<D, P>],
 )
-    ensures { AllWork (ServesTold PIECE_LIMIT D.allows D.tells) P.told workers.old workers.new }
+    ensures { AllWork (ServesTold PIECE_LIMIT D.allows D.tells D.withholds) P.told workers.old workers.new }
 {
-    serve_all(rt, alloc, &ToldService::<D>::new(PIECE_LIMIT), workers);
+    serve_all(rt, alloc, &DeskService::<D>::new(PIECE_LIMIT), workers);
 }
 
 /// Serves the links of each port by a desk of its own, one worker a port, each in a thread of its own.
@@ -153,6 +150,8 @@ where
     requires { S.legal maker.now.first.now }
     ensures served { IfOk result (λ r. (stopped : List (AtKeptFront S.Setting S.Entry))
         × (map (λ it. it.keeper.receipts) stopped ≡ r.receipts.items) × AllByRecursion (λ it. IsPrefix it.desk.front r.list) stopped
+        × (r.withheld ≡ false → AllByRecursion (λ it. it.keeper.failed ≡ false) stopped)
+        × (length r.list ≡ length maker.now.first.now + sum_by (λ it. it.desk.grown) stopped)
         × HaveKept S.steps maker.now.setting.now maker.now.first.now maker.now.had.now stopped (map P.told ports.old.items) (map P.told ports.new.items) r.failed) }
     ensures legal { IfOk result (λ r. S.legal r.list) }
     ensures goes_on { IfOk result (λ r. IsPrefix maker.now.first.now r.list) }
@@ -166,12 +165,20 @@ where
     serve_desks(rt, alloc, workers.as_mut_slice());
     let failed = any_failed(workers.as_slice());
     unseat_all(workers, &mut desks, ports);
+    let withheld = any_withheld(desks.as_slice());
     leave_desks(desks.as_slice(), &mut receipts);
     // All desks have seen beginnings of one list.
-    let list = longest(maker.first, desks.as_slice());
+    let list = longest::<N, S, KeptStepDesk<'_, N, K, S, T, V, R>>(maker.first, desks.as_slice());
+    await_growth::<N, S, KeptStepDesk<'_, N, K, S, T, V, R>, R>(
+        rt,
+        maker.first,
+        &list,
+        desks.as_slice(),
+    );
     Ok(KeptBack {
         list,
         receipts,
+        withheld,
         failed,
     })
 }

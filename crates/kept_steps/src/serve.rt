@@ -1,5 +1,5 @@
 //! Serving ports over one list that is kept in a file.
-ghost use Rattle.std.specs.Prelude.{◌≡◌, map, vec_len, IsTrue};
+ghost use Rattle.std.specs.Prelude.{◌≡◌, true, map, vec_len, IsTrue};
 ghost use Rattle.kept_serve.specs.Ports.{EndsSo};
 ghost use Rattle.kept_entries.specs.declared.receipts.Receipt.{Receipt};
 ghost use Rattle.kept_steps.specs.KeptPorts.{AreMatched, ServesKeptPorts};
@@ -7,7 +7,7 @@ ghost use Rattle.kept_steps.specs.KeptPorts.{AreMatched, ServesKeptPorts};
 use crate::ports::{KeptBack, KeptDesks, serve_by};
 use journal_file::{Device, JournalFile};
 use kept_entries::{Board, Lines, Receipt, Shelf, Told, receipts_stay};
-use kept_serve::{are_given, shelve};
+use kept_serve::{are_given, ended, shelve};
 use link_workers::Outcome;
 use osm_outside::{Port, PortOutside};
 use shared_front::{Front, HubName, Opened};
@@ -23,14 +23,22 @@ pub struct KeptList<S: Stepped + Drop, V: Device> {
     pub file: JournalFile<V>,
 }
 
+/// Whether a reply was withheld because keeping failed only where a call of the device has failed.
+fn has_cause(withheld: bool, broken: bool) -> bool
+    ensures { IsTrue result → withheld ≡ true → broken ≡ true }
+{
+    !withheld || broken
+}
+
 /// Whether what the workers have in hand, and these receipts that they had at first, are the first
-/// receipts that the shelf gave, and they have seen what its file may hold. No run has shown otherwise.
+/// receipts that the shelf gave, they have seen what its file may hold, and none withheld a reply because
+/// keeping failed where the shelf is whole. No run has shown otherwise.
 fn is_matched<N: HubName, K: HubName, E, T: Lines<E>, V: Device>(
     had: &Front<K, Receipt>,
     back: &KeptBack<N, K, E>,
     shelf: &Shelf<N, K, E, T, V>,
 ) -> bool
-    ensures { IsTrue result → AreMatched had.now back.now.receipts.items back.now.list shelf.now.entries shelf.now.receipts }
+    ensures { IsTrue result → AreMatched had.now back.now.receipts.items back.now.withheld back.now.list shelf.now.entries shelf.now.receipts shelf.now.broken }
 {
     let given = shelf.receipts();
     if !had.begins(&given) {
@@ -39,27 +47,29 @@ fn is_matched<N: HubName, K: HubName, E, T: Lines<E>, V: Device>(
     if !are_given(&back.receipts, &given) {
         return false;
     }
+    if !has_cause(back.withheld, shelf.is_broken()) {
+        return false;
+    }
     shelf.front().begins(&back.list)
 }
 
-/// How serving ended, by what came back from the workers and by what the shelf gave: these receipts
-/// first.
-fn outcome_of<N: HubName, K: HubName, E, T: Lines<E>, V: Device>(
+/// How serving ended, by what came back from the workers, once that is what the shelf gave: these receipts
+/// first. It is so at once: no run has shown otherwise, and where it isn't this waits for ever.
+fn outcome_of<N: HubName, K: HubName, E, T: Lines<E>, V: Device, W: Wait>(
+    rt: &W,
     had: &Front<K, Receipt>,
     back: &KeptBack<N, K, E>,
     shelf: &Shelf<N, K, E, T, V>,
 ) -> Outcome
-    ensures { EndsSo (AreMatched had.now back.now.receipts.items back.now.list shelf.now.entries shelf.now.receipts) back.now.failed shelf.now.broken result }
+    ensures matched { AreMatched had.now back.now.receipts.items back.now.withheld back.now.list shelf.now.entries shelf.now.receipts shelf.now.broken }
+    ensures ends { EndsSo back.now.failed shelf.now.broken result }
 {
-    if !is_matched(had, back, shelf) {
-        Outcome::Unmatched
-    } else if shelf.is_broken() {
-        Outcome::Unkept
-    } else if back.failed {
-        Outcome::Failed
-    } else {
-        Outcome::Served
+    for _ in rt.forever() {
+        if is_matched(had, back, shelf) {
+            return ended(shelf.is_broken(), back.failed);
+        }
     }
+    unreachable!()
 }
 
 /// Serves the links of the ports by a new hub of this value, on from the list that it has, under the
@@ -121,6 +131,6 @@ where
         return (Outcome::LacksMemory, shelf.into_device());
     };
     shelf.law();
-    let outcome = outcome_of(&had, &back, &shelf);
+    let outcome = outcome_of(rt, &had, &back, &shelf);
     (outcome, shelf.into_device())
 }

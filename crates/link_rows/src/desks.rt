@@ -2,7 +2,7 @@
 ghost use Rattle.std.specs.Prelude.{IfOk};
 ghost use Rattle.osm_base.specs.Status.{IsStatus};
 
-use http_link::{Desk, Reply};
+use http_link::{Desk, Reply, Withheld};
 use http_wire::Message;
 use osm_base::{Bytes, Memory};
 use std::alloc::Global;
@@ -29,12 +29,14 @@ impl Desk for LengthDesk {
 
     ghost tells = { λ _. ⊤ };
 
+    ghost withholds = { λ _ _. ⊥ };
+
     fn answer(&mut self, alloc: Global, message: Message, _moment: u64) -> Result<Reply, Memory> {
         digit(alloc, message.body.as_slice().len() as u64)
     }
 
-    fn may_tell(&mut self) -> bool {
-        true
+    fn may_tell(&mut self) -> Result<(), Withheld> {
+        Ok(())
     }
 }
 
@@ -49,11 +51,13 @@ impl Desk for MomentDesk {
 
     ghost tells = { λ _. ⊤ };
 
+    ghost withholds = { λ _ _. ⊥ };
+
     fn answer(&mut self, alloc: Global, _message: Message, moment: u64) -> Result<Reply, Memory> {
         digit(alloc, moment)
     }
 
-    fn may_tell(&mut self) -> bool {
-        true
+    fn may_tell(&mut self) -> Result<(), Withheld> {
+        Ok(())
     }
 }

@@ -11,5 +11,5 @@ mod worker;
 pub use back::give_back;
 pub use outcome::Outcome;
 pub use seat::{seat_all, unseat_all};
-pub use service::{DeskService, Service};
+pub use service::{DeskService, Service, TellingService};
 pub use worker::{Worker, any_failed, serve_all};

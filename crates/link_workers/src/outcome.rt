@@ -7,10 +7,8 @@ pub enum Outcome {
     Served,
     /// Accepting failed at a port.
     Failed,
-    /// A reply was held back, since what it tells of could not be kept.
+    /// Keeping failed, so a reply may have been withheld.
     Unkept,
-    /// What the sessions held at last was not what the file's shelf gave, which no run has shown.
-    Unmatched,
     /// There was no memory before the first link.
     LacksMemory,
 }

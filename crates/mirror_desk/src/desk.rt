@@ -5,7 +5,7 @@
 ghost use Rattle.std.specs.Prelude.{◌≡◌, IfOk};
 
 use crate::answers::answer_mirrored;
-use http_link::{Desk, Reply};
+use http_link::{AlwaysTells, Desk, Reply, Withheld};
 use http_wire::Message;
 use journal_follower::Follower;
 use osm_base::Memory;
@@ -57,6 +57,8 @@ impl<'a> Desk for MirrorDesk<'a> {
 
     ghost tells = { λ _. ⊤ };
 
+    ghost withholds = { λ _ _. ⊥ };
+
     fn answer(&mut self, alloc: Global, message: Message, moment: u64) -> Result<Reply, Memory> {
         answer_mirrored(
             alloc,
@@ -68,7 +70,11 @@ impl<'a> Desk for MirrorDesk<'a> {
         )
     }
 
-    fn may_tell(&mut self) -> bool {
-        true
+    fn may_tell(&mut self) -> Result<(), Withheld> {
+        Ok(())
     }
+}
+
+impl<'a> AlwaysTells for MirrorDesk<'a> {
+    ghost never = { λ _ _ h. h };
 }

@@ -7,6 +7,7 @@ use Rattle.osm_model.specs.Journal.{IsLegal}
 use Rattle.http_link.specs.declared.end.LinkEnd.{LinkEnd}
 use Rattle.http_link.specs.declared.end.LinkEnd.TheVariants.{Memory}
 use Rattle.http_link.specs.Exchange.{Exchange, Chain}
+use Rattle.http_link.specs.Link.{TellsAll}
 use Rattle.user_table.specs.Users.{Users}
 use Rattle.mirror_desk.specs.Desk.{AtMirror, Allows, MirrorHasServed}
 use Rattle.server_frame.specs.OnLink.{AnswersLinkWithin, OnLinkWithin}
@@ -25,12 +26,13 @@ abbrev begun : Users → AtMirror
 begun users = record { users = users; entries = [] }
 
 from_begun : (users : Users) (new : AtMirror) (before after : Told) (end : LinkEnd) → Chains
-    → AnswersLinkWithin PIECE_LIMIT Allows (begun users) new before after end → ServesMirror users before after end
-from_begun users new before after end chains answers =
+    → AnswersLinkWithin PIECE_LIMIT Allows (begun users) new before after end → TellsAll end → ServesMirror users before after end
+from_begun users new before after end chains answers tells =
     let served = (chains (begun users) answers.exchanges new answers.answered).1 in
     record {
       exchanges = answers.exchanges;
       link = answers.link;
+      tells = tells;
       entries = new.entries;
       legal = served.legal nothing_legal;
       served = served;
@@ -38,17 +40,18 @@ from_begun users new before after end chains answers =
 
 pub mirror_served : (users : Users) (entries : List Entry) (desk new : AtMirror) (before after : Told) (end : LinkEnd) → Chains
     → entries ≡ [] → desk ≡ record { users = users; entries = entries } → AnswersLinkWithin PIECE_LIMIT Allows desk new before after end
-    → ServesMirror users before after end
-mirror_served users entries desk new before after end chains empty is answers =
+    → TellsAll end → ServesMirror users before after end
+mirror_served users entries desk new before after end chains empty is answers tells =
     let at : desk ≡ begun users = is ∙ (λ i. record { users = users; entries = empty i }) in
     from_begun users new before after end chains
-    (subst (λ (d : AtMirror). AnswersLinkWithin PIECE_LIMIT Allows d new before after end) at answers)
+    (subst (λ (d : AtMirror). AnswersLinkWithin PIECE_LIMIT Allows d new before after end) at answers) tells
 
 -- there was no memory for the desk
 pub mirror_unserved : (users : Users) (told : Told) → ((t : Told) → OnLinkWithin PIECE_LIMIT t t [] Memory) → ServesMirror users told told Memory
 mirror_unserved users told alone = record {
   exchanges = [];
   link = alone told;
+  tells = tt;
   entries = [];
   legal = nothing_legal;
   served = record { answered = refl; more = []; grown = refl; legal = λ legal. legal };

@@ -6,6 +6,7 @@ use Rattle.osm_model.specs.declared.commands.Entry.{Entry}
 use Rattle.osm_model.specs.Journal.{IsLegal}
 use Rattle.http_link.specs.declared.end.LinkEnd.{LinkEnd}
 use Rattle.http_link.specs.Exchange.{Exchange}
+use Rattle.http_link.specs.Link.{TellsAll}
 use Rattle.user_table.specs.Users.{Users}
 use Rattle.mirror_desk.specs.Desk.{MirrorHasServed}
 use Rattle.server_frame.specs.OnLink.{OnLinkWithin}
@@ -15,6 +16,8 @@ pub record ServesMirror (users : Users) (before after : Told) (end : LinkEnd) : 
   -- the messages that were answered, with their moments and replies
   pub exchanges : List Exchange
   pub link : OnLinkWithin PIECE_LIMIT before after exchanges end
+  -- no reply was withheld
+  pub tells : TellsAll end
   -- the entries that the mirror has at last: they replay as one thread's
   pub entries : List Entry
   pub legal : IsLegal entries

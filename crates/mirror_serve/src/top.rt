@@ -53,8 +53,8 @@ fn run_words<H: Host, J: Journals, R: Threads + Wait + Sync, L: Link>(
 /// status: 1 where the words have no reading, 2 where the users text is refused, 3 for a fault of the
 /// host in giving it or a journal's file or in reading, 4 for a fault in writing, 5 for want of memory
 /// outside an answer, 6 for a fault in listening or in accepting, 7 where what came on the link was
-/// refused, 8 where a journal's file was, 9 where a reply was held back since that file failed, 10 where
-/// what it keeps can't be told, and 0 otherwise.
+/// refused, 8 where a journal's file was, 9 where a call of that file failed, so that a reply may have
+/// been withheld, and 0 otherwise.
 pub fn mirror<H: Host, J: Journals, R: Threads + Wait + Sync, L: Link>(
     rt: &R,
     alloc: Global,

@@ -14,7 +14,7 @@ ghost use Rattle.notes_desk.specs.Request.{notes_request_of, shown_request, Give
 
 use crate::requests::{NoteRequest, notes_request_of};
 use desk_parts::{RequestFault, refusal_reply, reply_from};
-use http_link::{Desk, Reply};
+use http_link::{AlwaysTells, Desk, Reply, Withheld};
 use http_wire::Message;
 use notes_core::{NoteEntry, NotesMachine};
 use osm_base::{Bytes, Memory, Steps};
@@ -163,13 +163,20 @@ impl<'a, N: HubName, G: Gate + Drop, R: Wait + Drop, W: Wait> Desk for NotesDesk
 
     ghost tells = { λ _. ⊤ };
 
+    ghost withholds = { λ _ _. ⊥ };
+
     fn answer(&mut self, alloc: Global, message: Message, moment: u64) -> Result<Reply, Memory> {
         self.answer_on::<Brand>(alloc, &message, moment, Blank::new(1))
     }
 
-    fn may_tell(&mut self) -> bool {
-        true
+    fn may_tell(&mut self) -> Result<(), Withheld> {
+        Ok(())
     }
+}
+
+impl<'a, N: HubName, G: Gate + Drop, R: Wait + Drop, W: Wait> AlwaysTells
+    for NotesDesk<'a, N, G, R, W> {
+    ghost never = { λ _ _ h. h };
 }
 
 impl<'a, N: HubName, G: Gate + Drop, R: Wait + Drop, W: Wait> SessionDesk<

@@ -19,7 +19,7 @@ module _ {F : Type 0} (moment : F → ℕ) (left_since : F → ℕ → List ℕ 
   -- The ports were served by a hub of notes that began with this journal, kept in this file as it was at last.
   abbrev pub ServesFrom : Serving NoteEntry F
   ServesFrom journal file users before after outcome =
-      (seats : ℕ) × ServesKeptPorts note_rules note_row text_of moment left_since faults users seats journal file before after outcome
+      ServesKeptPorts note_rules note_row text_of moment left_since faults users journal file before after outcome
 
   -- what `serve-notes` with a journal comes to
   abbrev pub RunsServeNotesKept : List ℕ → List ℕ → ℕ → List ℕ → JournalsTold F → JournalsTold F → HostTold → HostTold → Told → Told → ℕ → Type 0

@@ -2,7 +2,7 @@
 ghost use Rattle.std.specs.Prelude.{◌≡◌};
 ghost use Rattle.kept_desk.specs.Kept.{kept_by};
 
-use http_link::{Desk, Reply};
+use http_link::{Desk, Reply, Withheld};
 use http_wire::Message;
 use journal_file::Device;
 use kept_desk::{Keeper, KeptSession, keep};
@@ -63,6 +63,13 @@ impl<
         NotesKeptDesk { desk, keeper }
     }
 
+    /// Whether it withheld a reply because keeping failed.
+    pub fn has_failed(&self) -> bool
+        ensures { result ≡ self.now.failed }
+    {
+        self.keeper.has_failed()
+    }
+
     /// The session and the receipts in hand, when the desk is done. It takes no memory.
     pub fn into_parts(self) -> (NotesSession<N>, Front<K, Receipt>)
         ensures session { result.0 ≡ self.entry.desk.known }
@@ -76,11 +83,13 @@ impl<
 impl<'a, N: HubName, K: HubName, T: Lines<NoteEntry>, V: Device, R: Wait + Drop, W: Wait> Desk
     for NotesKeptDesk<'a, N, K, T, V, R, W> {
     ghost use Rattle.notes_desk.specs.Desk.{note_row};
-    ghost use Rattle.kept_desk.specs.Kept.{AllowsKept, Tells};
+    ghost use Rattle.kept_desk.specs.Kept.{AllowsKept, Tells, Withholds};
 
     ghost allows = { λ old message moment reply new. AllowsKept note_row old message moment reply new };
 
     ghost tells = { λ desk. Tells desk };
+
+    ghost withholds = { λ desk why. Withholds desk why };
 
     fn answer(&mut self, alloc: Global, message: Message, moment: u64) -> Result<Reply, Memory> {
         let reply = self.desk.answer(alloc, message, moment);
@@ -89,7 +98,7 @@ impl<'a, N: HubName, K: HubName, T: Lines<NoteEntry>, V: Device, R: Wait + Drop,
         reply
     }
 
-    fn may_tell(&mut self) -> bool {
+    fn may_tell(&mut self) -> Result<(), Withheld> {
         keep::<N, K, NotesMachine, Shown<N, NotesMachine>, T, V, NotesDesk<'a, N, NoGate, R, W>, W>(
             &mut self.keeper,
             &mut self.desk,
@@ -152,6 +161,8 @@ impl<
     ghost allowed_kept = { λ old new message moment reply h. h };
 
     ghost tells_kept = { λ it h. h };
+
+    ghost withholds_kept = { λ it why h. h };
 
     fn freshen_session(&mut self) -> Result<(), Memory> {
         self.desk.freshen()

@@ -1,5 +1,5 @@
 //! The desks of notes that keep before they tell.
-ghost use Rattle.std.specs.Prelude.{◌≡◌, IfOk};
+ghost use Rattle.std.specs.Prelude.{◌≡◌, false, IfOk};
 ghost use Rattle.desk_serve.specs.Desks.{at_desk};
 ghost use Rattle.kept_desk.specs.Kept.{at_kept};
 
@@ -64,11 +64,15 @@ impl<'a, N: HubName, K: HubName, T: Lines<NoteEntry>, V: Device, R: Wait + Drop,
         alloc: Global,
         session: NotesSession<N>,
     ) -> Result<NotesKeptDesk<'a, N, K, T, V, R, W>, Memory>
-        ensures { IfOk result (λ desk. desk ≡ at_kept (at_desk self.now.users.now session) 0 self.now.had.now) }
+        ensures { IfOk result (λ desk. desk ≡ at_kept (at_desk self.now.users.now session) 0 self.now.had.now false) }
     {
         let desk = NotesDesk::new(self.rt, self.hub, session, self.users);
         let keeper = Keeper::new(self.rt, alloc, self.shelf, self.board, self.had.again());
         Ok(NotesKeptDesk::new(desk, keeper))
+    }
+
+    fn has_failed(&self, desk: &NotesKeptDesk<'a, N, K, T, V, R, W>) -> bool {
+        desk.has_failed()
     }
 
     fn parts_of(

@@ -1,5 +1,5 @@
 //! Many workers over a hub of notes whose journal is kept in a file.
-ghost use Rattle.std.specs.Prelude.{◌≡◌, ◌<◌, ◌≤◌, ℕ, List, map, vec_len, IfOk, OnErr};
+ghost use Rattle.std.specs.Prelude.{◌≡◌, false, ◌<◌, ◌≤◌, ℕ, List, map, vec_len, IfOk, OnErr};
 ghost use Rattle.std.specs.List.{AllByRecursion};
 ghost use mathlib.Core.List.{IsPrefix};
 ghost use Rattle.hub_core.specs.Journal.{calls_of};
@@ -52,8 +52,9 @@ fn serve_by_sessions<
     requires { vec_len sessions ≡ vec_len ports.old }
     ensures served { IfOk result (λ r. (stopped : List (AtKept NoteEntry))
         × (map (λ s. s.desk.known) stopped ≡ r.sessions.items) × (map (λ s. s.receipts) stopped ≡ r.receipts.items)
+        × (r.withheld ≡ false → AllByRecursion (λ s. s.failed ≡ false) stopped)
         × ((numbers : List ℕ) (J : List NoteEntry) → sessions.items ≡ map (λ n. returner n J (calls_of note_rules.tag_of n J)) numbers
-        → HaveKept note_rules note_row maker.now.users.now J numbers stopped (map P.told ports.old.items) (map P.told ports.new.items) r.failed)) }
+        → HaveKept note_rules note_row maker.now.users.now J maker.now.had.now numbers stopped (map P.told ports.old.items) (map P.told ports.new.items) r.failed)) }
     ensures had { IfOk result (λ r. AllByRecursion (λ receipts. IsPrefix maker.now.had.now receipts) r.receipts.items) }
     ensures left { IfOk result (λ r. vec_len r.sessions ≡ vec_len sessions) }
     ensures count { IfOk result (λ r. vec_len ports.new ≡ vec_len ports.old) }
@@ -97,7 +98,7 @@ pub fn serve_kept_ports<
     requires count { vec_len ports.old ≤ seats.sessions }
     requires own { AreSeated note_rules.tag_of N.sessions twins }
     requires text { file.text ≡ T.text twins }
-    ensures serves { ServesKeptPorts note_rules note_row T.text V.moment V.left_since V.faults users.now seats.sessions twins result.1
+    ensures serves { ServesKeptPorts note_rules note_row T.text V.moment V.left_since V.faults users.now twins result.1
         (map P.told ports.old.items) (map P.told ports.new.items) result.0 }
     ensures count { vec_len ports.new ≡ vec_len ports.old }
 {
@@ -109,7 +110,9 @@ pub fn serve_kept_ports<
         return (Outcome::LacksMemory, file.into_device());
     };
     let front = sessions[0].front().again();
-    sessions.truncate(ports.len());
+    let Ok(spare) = sessions.split_off(ports.len()) else {
+        return (Outcome::LacksMemory, file.into_device());
+    };
     let (shelf, had) = match shelve::<N, K, NoteEntry, T, V>(alloc, file, front, receipts) {
         Ok(shelved) => shelved,
         Err(device) => return (Outcome::LacksMemory, device),
@@ -130,7 +133,7 @@ pub fn serve_kept_ports<
         return (Outcome::LacksMemory, shelf.into_device());
     };
     shelf.law();
-    let outcome = outcome_of(&back, &shelf);
-    hub.close_with(back.sessions);
+    let outcome = outcome_of(rt, &back, &shelf);
+    hub.close_with_spare(rt, &back.sessions, &spare);
     (outcome, shelf.into_device())
 }

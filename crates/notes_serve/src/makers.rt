@@ -54,11 +54,11 @@ impl<'a, N: HubName + Send + Sync, R: Wait + Drop + Send + Sync, W: Wait + Sync>
     for NotesDesks<'a, N, R, W> {
     ghost use Rattle.notes_core.specs.Machine.{note_rules};
     ghost use Rattle.notes_desk.specs.Desk.{note_row};
-    ghost use Rattle.desk_serve.specs.Link.{ServesLink};
+    ghost use Rattle.desk_serve.specs.Link.{TellsLink};
 
     type Session = NotesDesk<'a, N, NoGate, R, W>;
 
-    ghost serves = { λ _ old new before after end. ServesLink note_rules note_row old new before after end };
+    ghost serves = { λ _ old new before after end. TellsLink note_rules note_row old new before after end };
 
     fn serve<V: Wait, L: Link>(
         &self,

@@ -1,5 +1,5 @@
 //! The standard link, served by the one session of a new hub of notes.
-ghost use Rattle.std.specs.Prelude.{◌≡◌, ℕ, vec_len, IfOk, IfSome, OnErr, slice_get};
+ghost use Rattle.std.specs.Prelude.{◌≡◌, [], ℕ, vec_len, IfOk, IfSome, OnErr, slice_get};
 ghost use Rattle.notes_core.specs.Machine.{note_rules};
 ghost use Rattle.notes_desk.specs.Desk.{note_row};
 ghost use Rattle.snapshot_hub.specs.Known.{newcomer};
@@ -31,7 +31,7 @@ fn serve_by_session<N: HubName, R: Wait, L: Link>(
 ) -> Result<(Vec<NotesSession<N>>, LinkEnd), Memory>
     requires one { vec_len sessions ≡ 1 }
     requires fresh { (number : ℕ) → IfSome (slice_get sessions.items number) (λ s. s ≡ newcomer number) }
-    ensures served { IfOk result (λ r. HasClosed note_rules 1 r.0.items → ServesPipe note_rules note_row users.now (L.told link.old) (L.told link.new) r.1) }
+    ensures served { IfOk result (λ r. HasClosed note_rules 1 r.0.items [] → ServesPipe note_rules note_row users.now (L.told link.old) (L.told link.new) r.1) }
     ensures count { IfOk result (λ r. vec_len r.0 ≡ 1) }
     ensures err { OnErr result (L.told link.new ≡ L.told link.old) }
 {
@@ -67,7 +67,7 @@ pub fn serve_notes<N: HubName, R: Wait, L: Link>(
     };
     match serve_by_session(alloc, rt, &hub, users, sessions, link) {
         Ok((sessions, end)) => {
-            hub.close_with(sessions);
+            hub.close_with(rt, &sessions);
             end
         }
         Err(Memory) => LinkEnd::Memory,

@@ -1,5 +1,5 @@
 //! Many workers over one new hub of notes.
-ghost use Rattle.std.specs.Prelude.{◌≡◌, ℕ, map, vec_len, IfOk, IfSome, OnErr, slice_get};
+ghost use Rattle.std.specs.Prelude.{◌≡◌, [], ℕ, map, vec_len, IfOk, IfSome, OnErr, slice_get};
 ghost use Rattle.notes_core.specs.Machine.{note_rules};
 ghost use Rattle.notes_desk.specs.Desk.{note_row};
 ghost use Rattle.snapshot_hub.specs.Known.{newcomer};
@@ -32,7 +32,7 @@ fn serve_by_sessions<N: HubName + Send + Sync, R: Threads + Wait + Sync, P: Port
 ) -> Result<(Vec<NotesSession<N>>, bool), Memory>
     requires count { vec_len sessions ≡ vec_len ports.old }
     requires fresh { (number : ℕ) → IfSome (slice_get sessions.items number) (λ s. s ≡ newcomer number) }
-    ensures served { IfOk result (λ r. HasClosed note_rules (vec_len ports.old) r.0.items
+    ensures served { IfOk result (λ r. HasClosed note_rules (vec_len ports.old) r.0.items []
         → ServesAll note_rules note_row users.now (map P.told ports.old.items) (map P.told ports.new.items) r.1) }
     ensures left { IfOk result (λ r. vec_len r.0 ≡ vec_len sessions) }
     ensures count { IfOk result (λ r. vec_len ports.new ≡ vec_len ports.old) }
@@ -71,7 +71,7 @@ pub fn notes_all<N: HubName + Send + Sync, R: Threads + Wait + Sync, P: Port + D
     };
     match serve_by_sessions(rt, alloc, &hub, users, sessions, ports) {
         Ok((sessions, failed)) => {
-            hub.close_with(sessions);
+            hub.close_with(rt, &sessions);
             if failed {
                 Outcome::Failed
             } else {

@@ -20,7 +20,7 @@ module _ {F : Type 0} (moment : F → ℕ) (left_since : F → ℕ → List ℕ 
   -- The ports were served by a hub that began with this journal, kept in this file as it was at last.
   abbrev pub ServesFrom : Serving Entry F
   ServesFrom journal file users before after outcome =
-      (seats : ℕ) × ServesKeptPorts map_rules map_row text_of moment left_since faults users seats journal file before after outcome
+      ServesKeptPorts map_rules map_row text_of moment left_since faults users journal file before after outcome
 
   -- what `serve` with a journal comes to
   abbrev pub RunsServeKept : List ℕ → List ℕ → ℕ → List ℕ → JournalsTold F → JournalsTold F → HostTold → HostTold → Told → Told → ℕ → Type 0

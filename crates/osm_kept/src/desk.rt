@@ -4,7 +4,7 @@ ghost use Rattle.kept_desk.specs.Kept.{kept_by};
 
 use api_desk::{HubDesk, MapSession};
 use entry_file::EntryLines;
-use http_link::{Desk, Reply};
+use http_link::{Desk, Reply, Withheld};
 use http_wire::Message;
 use journal_file::Device;
 use kept_desk::{Keeper, KeptSession, keep};
@@ -56,6 +56,13 @@ impl<'a, N: HubName, K: HubName, V: Device, R: Wait + Drop, W: Wait> MapKeptDesk
         MapKeptDesk { desk, keeper }
     }
 
+    /// Whether it withheld a reply because keeping failed.
+    pub fn has_failed(&self) -> bool
+        ensures { result ≡ self.now.failed }
+    {
+        self.keeper.has_failed()
+    }
+
     /// The session and the receipts in hand, when the desk is done. It takes no memory.
     pub fn into_parts(self) -> (MapSession<N>, Front<K, Receipt>)
         ensures session { result.0 ≡ self.entry.desk.known }
@@ -69,11 +76,13 @@ impl<'a, N: HubName, K: HubName, V: Device, R: Wait + Drop, W: Wait> MapKeptDesk
 impl<'a, N: HubName, K: HubName, V: Device, R: Wait + Drop, W: Wait> Desk
     for MapKeptDesk<'a, N, K, V, R, W> {
     ghost use Rattle.api_desk.specs.HubDesk.{map_row};
-    ghost use Rattle.kept_desk.specs.Kept.{AllowsKept, Tells};
+    ghost use Rattle.kept_desk.specs.Kept.{AllowsKept, Tells, Withholds};
 
     ghost allows = { λ old message moment reply new. AllowsKept map_row old message moment reply new };
 
     ghost tells = { λ desk. Tells desk };
+
+    ghost withholds = { λ desk why. Withholds desk why };
 
     fn answer(&mut self, alloc: Global, message: Message, moment: u64) -> Result<Reply, Memory> {
         let reply = self.desk.answer(alloc, message, moment);
@@ -82,7 +91,7 @@ impl<'a, N: HubName, K: HubName, V: Device, R: Wait + Drop, W: Wait> Desk
         reply
     }
 
-    fn may_tell(&mut self) -> bool {
+    fn may_tell(&mut self) -> Result<(), Withheld> {
         keep::<
             N,
             K,
@@ -143,6 +152,8 @@ impl<'a, N: HubName, K: HubName, V: Device, R: Wait + Drop, W: Wait> KeptSession
     ghost allowed_kept = { λ old new message moment reply h. h };
 
     ghost tells_kept = { λ it h. h };
+
+    ghost withholds_kept = { λ it why h. h };
 
     fn freshen_session(&mut self) -> Result<(), Memory> {
         self.desk.freshen()

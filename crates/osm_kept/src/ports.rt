@@ -2,7 +2,7 @@
 //!
 //! As in the file on many workers over a new hub, whoever makes the hub is generic in its name, and
 //! so is whoever makes the list of receipts.
-ghost use Rattle.std.specs.Prelude.{◌≡◌, ◌+◌, ◌++◌, ◌<◌, ◌≤◌, ℕ, List, map, vec_len, vec_capacity, IfOk, OnErr};
+ghost use Rattle.std.specs.Prelude.{◌≡◌, false, ◌+◌, ◌++◌, ◌<◌, ◌≤◌, ℕ, List, map, vec_len, vec_capacity, IfOk, OnErr};
 ghost use Rattle.std.specs.List.{AllByRecursion};
 ghost use mathlib.Core.List.{IsPrefix};
 ghost use Rattle.hub_core.specs.Journal.{calls_of};
@@ -94,7 +94,7 @@ pub struct KeptDesks<'a, N: HubName, K: HubName, V: Device, R: Wait + Drop, W: W
 impl<'a, N: HubName, K: HubName, V: Device, R: Wait + Drop, W: Wait> KeptDesks<'a, N, K, V, R, W> {
     /// A desk of that session, which has answered nothing. It takes no memory.
     fn desk_of(&self, alloc: Global, session: MapSession<N>) -> MapKeptDesk<'a, N, K, V, R, W>
-        ensures { result ≡ at_kept (at_desk self.now.users.now session) 0 self.now.had.now }
+        ensures { result ≡ at_kept (at_desk self.now.users.now session) 0 self.now.had.now false }
     {
         let desk = HubDesk::new(self.rt, self.hub, session, self.users, self.routes);
         let had = self.had.again();
@@ -109,7 +109,7 @@ fn desks_of<'a, N: HubName, K: HubName, V: Device, R: Wait + Drop, W: Wait>(
     maker: &KeptDesks<'a, N, K, V, R, W>,
     mut sessions: Vec<MapSession<N>>,
 ) -> Result<Vec<MapKeptDesk<'a, N, K, V, R, W>>, Memory>
-    ensures { IfOk result (λ desks. desks.items ≡ map (λ s. at_kept (at_desk maker.now.users.now s) 0 maker.now.had.now) sessions.items) }
+    ensures { IfOk result (λ desks. desks.items ≡ map (λ s. at_kept (at_desk maker.now.users.now s) 0 maker.now.had.now false) sessions.items) }
 {
     let mut desks = Vec::with_capacity(alloc, sessions.len())?;
     sessions.reverse();
@@ -117,6 +117,20 @@ fn desks_of<'a, N: HubName, K: HubName, V: Device, R: Wait + Drop, W: Wait>(
         desks.push(maker.desk_of(alloc, session))?;
     }
     Ok(desks)
+}
+
+/// Whether one of the desks withheld a reply because keeping failed.
+fn any_withheld<N: HubName, K: HubName, V: Device, R: Wait + Drop, W: Wait>(
+    desks: &[MapKeptDesk<'_, N, K, V, R, W>],
+) -> bool
+    ensures { result ≡ false → AllByRecursion (λ desk. desk.failed ≡ false) desks.now }
+{
+    for desk in desks {
+        if desk.has_failed() {
+            return true;
+        }
+    }
+    false
 }
 
 /// Takes the desks apart into lists that have room for them, in their order.
@@ -180,8 +194,9 @@ fn serve_by_sessions<
     requires { vec_len sessions ≡ vec_len ports.old }
     ensures served { IfOk result (λ r. (stopped : List (AtKept Entry))
         × (map (λ s. s.desk.known) stopped ≡ r.sessions.items) × (map (λ s. s.receipts) stopped ≡ r.receipts.items)
+        × (r.withheld ≡ false → AllByRecursion (λ s. s.failed ≡ false) stopped)
         × ((numbers : List ℕ) (J : List Entry) → sessions.items ≡ map (λ n. returner n J (calls_of map_rules.tag_of n J)) numbers
-        → HaveKept map_rules map_row maker.now.users.now J numbers stopped (map P.told ports.old.items) (map P.told ports.new.items) r.failed)) }
+        → HaveKept map_rules map_row maker.now.users.now J maker.now.had.now numbers stopped (map P.told ports.old.items) (map P.told ports.new.items) r.failed)) }
     ensures had { IfOk result (λ r. AllByRecursion (λ receipts. IsPrefix maker.now.had.now receipts) r.receipts.items) }
     ensures left { IfOk result (λ r. vec_len r.sessions ≡ vec_len sessions) }
     ensures count { IfOk result (λ r. vec_len ports.new ≡ vec_len ports.old) }
@@ -199,10 +214,12 @@ fn serve_by_sessions<
     serve_desks(rt, alloc, &service, workers.as_mut_slice());
     let failed = any_failed(workers.as_slice());
     unseat_all(workers, &mut desks, ports);
+    let withheld = any_withheld(desks.as_slice());
     leave_desks(desks, &mut left, &mut receipts);
     Ok(KeptBack {
         sessions: left,
         receipts,
+        withheld,
         failed,
     })
 }
@@ -234,7 +251,7 @@ pub fn serve_kept_ports<
     requires count { vec_len ports.old ≤ seats.sessions }
     requires own { AreSeated map_rules.tag_of N.sessions twins }
     requires text { file.text ≡ text_of twins }
-    ensures serves { ServesKeptPorts map_rules map_row text_of V.moment V.left_since V.faults users.now seats.sessions twins result.1
+    ensures serves { ServesKeptPorts map_rules map_row text_of V.moment V.left_since V.faults users.now twins result.1
         (map P.told ports.old.items) (map P.told ports.new.items) result.0 }
     ensures count { vec_len ports.new ≡ vec_len ports.old }
 {
@@ -249,7 +266,9 @@ pub fn serve_kept_ports<
         return (Outcome::LacksMemory, file.into_device());
     };
     let front = sessions[0].front().again();
-    sessions.truncate(ports.len());
+    let Ok(spare) = sessions.split_off(ports.len()) else {
+        return (Outcome::LacksMemory, file.into_device());
+    };
     let (shelf, had) = match shelve::<N, K, Entry, EntryLines, V>(alloc, file, front, receipts) {
         Ok(shelved) => shelved,
         Err(device) => return (Outcome::LacksMemory, device),
@@ -271,7 +290,7 @@ pub fn serve_kept_ports<
         return (Outcome::LacksMemory, shelf.into_device());
     };
     shelf.law();
-    let outcome = outcome_of(&back, &shelf);
-    hub.close_with(back.sessions);
+    let outcome = outcome_of(rt, &back, &shelf);
+    hub.close_with_spare(rt, &back.sessions, &spare);
     (outcome, shelf.into_device())
 }

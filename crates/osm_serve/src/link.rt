@@ -1,7 +1,7 @@
 //! Serving one link by one session of a hub of the map.
 ghost use Rattle.map_machine.specs.Machine.{map_rules};
 ghost use Rattle.api_desk.specs.HubDesk.{map_row};
-ghost use Rattle.desk_serve.specs.Link.{ServesLink};
+ghost use Rattle.desk_serve.specs.Link.{TellsLink};
 
 use api_desk::HubDesk;
 use http_link::LinkEnd;
@@ -20,7 +20,7 @@ pub fn serve_link<N: HubName, G: Gate + Drop, R: Wait + Drop, W: Wait, L: Link>(
     desk: &mut HubDesk<'_, N, G, R, W>,
     link: &mut L,
 ) -> LinkEnd
-    ensures { ServesLink map_rules map_row desk.old desk.new (L.told link.old) (L.told link.new) result }
+    ensures { TellsLink map_rules map_row desk.old desk.new (L.told link.old) (L.told link.new) result }
 {
     desk_serve::serve_link::<N, MapMachine, Shown<N, MapMachine>, HubDesk<'_, N, G, R, W>, L>(
         alloc, desk, link,

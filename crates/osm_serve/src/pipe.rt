@@ -8,7 +8,7 @@ ghost use Rattle.map_machine.specs.Machine.{map_rules};
 ghost use Rattle.api_desk.specs.HubDesk.{map_row};
 ghost use Rattle.snapshot_hub.specs.Known.{Known};
 ghost use Rattle.desk_serve.specs.Desks.{at_desk};
-ghost use Rattle.desk_serve.specs.Link.{ServesLink, ServesPipe};
+ghost use Rattle.desk_serve.specs.Link.{TellsLink, ServesPipe};
 
 use crate::link::serve_link;
 use api_desk::{HubDesk, MapHub, MapSession};
@@ -39,7 +39,7 @@ fn serve_by_one<N: HubName, R: Wait, L: Link>(
 ) -> Result<(Vec<MapSession<N>>, LinkEnd), Memory>
     requires { vec_len sessions ≡ 1 }
     ensures served { IfOk result (λ r. (old new : Known Entry) × (sessions.items ≡ old ∷ []) × (r.0.items ≡ new ∷ [])
-        × ServesLink map_rules map_row (at_desk users.now old) (at_desk users.now new) (L.told link.old) (L.told link.new) r.1) }
+        × TellsLink map_rules map_row (at_desk users.now old) (at_desk users.now new) (L.told link.old) (L.told link.new) r.1) }
     ensures err { OnErr result (L.told link.new ≡ L.told link.old) }
 {
     let routes = Routes::new(alloc)?;
@@ -75,7 +75,7 @@ pub fn serve_pipe<N: HubName, R: Wait, L: Link>(
     };
     match serve_by_one(alloc, rt, &hub, users, sessions, link) {
         Ok((sessions, end)) => {
-            hub.close_with(sessions);
+            hub.close_with(rt, &sessions);
             end
         }
         Err(Memory) => LinkEnd::Memory,

@@ -99,8 +99,7 @@ fn run_words<H: Host, J: Journals, R: Threads + Wait + Sync, L: Link>(
 /// where the words have no reading, 2 where the users text is refused, 3 for a fault of the host in
 /// giving it or in reading, 4 for a fault in writing, 5 for want of memory outside an answer, 6 for a
 /// fault in listening or in accepting, 7 where what came on the link was refused, 8 where a journal's
-/// text was, 9 where a reply was held back since the journal's file failed, 10 where what it keeps
-/// can't be told, and 0 otherwise.
+/// text was, 9 where keeping failed since a call of the journal's file did, and 0 otherwise.
 pub fn run<H: Host, J: Journals, R: Threads + Wait + Sync, L: Link>(
     rt: &R,
     alloc: Global,

@@ -13,7 +13,7 @@ ghost use Rattle.api_desk.specs.HubDesk.{map_row};
 ghost use Rattle.snapshot_hub.specs.Known.{newcomer};
 ghost use Rattle.link_workers.specs.Workers.{AllWork};
 ghost use Rattle.desk_serve.specs.Desks.{at_desk};
-ghost use Rattle.desk_serve.specs.Link.{ServesLink};
+ghost use Rattle.desk_serve.specs.Link.{TellsLink};
 ghost use Rattle.desk_serve.specs.Ports.{HaveServed, ServesPorts};
 
 use crate::link::serve_link;
@@ -50,11 +50,11 @@ impl<
 > Service for MapService<'a, N, G, R, W> {
     ghost use Rattle.map_machine.specs.Machine.{map_rules};
     ghost use Rattle.api_desk.specs.HubDesk.{map_row};
-    ghost use Rattle.desk_serve.specs.Link.{ServesLink};
+    ghost use Rattle.desk_serve.specs.Link.{TellsLink};
 
     type Session = HubDesk<'a, N, G, R, W>;
 
-    ghost serves = { λ _ old new before after end. ServesLink map_rules map_row old new before after end };
+    ghost serves = { λ _ old new before after end. TellsLink map_rules map_row old new before after end };
 
     fn serve<V: Wait, L: Link>(
         &self,
@@ -114,7 +114,7 @@ fn serve_desks<
     hub: &'a MapHub<N, NoGate, Q>,
     workers: &mut [Worker<HubDesk<'a, N, NoGate, Q, R>, P>],
 )
-    ensures { AllWork (ServesLink map_rules map_row) P.told workers.old workers.new }
+    ensures { AllWork (TellsLink map_rules map_row) P.told workers.old workers.new }
 {
     serve_all(rt, alloc, &MapService { rt, hub }, workers);
 }
@@ -170,7 +170,7 @@ pub fn serve_ports<N: HubName + Send + Sync, R: Threads + Wait + Sync, P: Port +
     };
     match serve_by(rt, alloc, &hub, users, sessions, ports) {
         Ok((sessions, failed)) => {
-            hub.close_with(sessions);
+            hub.close_with(rt, &sessions);
             if failed {
                 Outcome::Failed
             } else {

@@ -11,6 +11,7 @@ use Rattle.http_wire.specs.declared.end.WireEnd.{WireEnd}
 use Rattle.http_wire.specs.End.{IsTold}
 use Rattle.http_wire.specs.Message.{AreMessages}
 use Rattle.http_link.specs.declared.desk.Reply.{Reply}
+use Rattle.http_link.specs.declared.desk.Withheld.{Withheld}
 use Rattle.http_link.specs.declared.end.LinkEnd.{LinkEnd}
 use Rattle.http_link.specs.declared.end.LinkEnd.TheVariants.{Memory}
 use Rattle.http_link.specs.Input.{IsByInput, EndsByInput}
@@ -119,9 +120,9 @@ module _ (body_limit : ℕ) where
     answered = s.served.answered;
   }
 
-  pub answers_told : {D : Type 0} (allows : D → Message → ℕ → Reply → D → Type 0) (tells : D → Type 0) (old new : D) (before after : Told) (end : LinkEnd)
-      → ServesTold body_limit allows tells old new before after end → AnswersLinkToldWithin body_limit allows tells old new before after end
-  answers_told allows tells old new before after end s = record {
+  pub answers_told : {D : Type 0} (allows : D → Message → ℕ → Reply → D → Type 0) (tells : D → Type 0) (withholds : D → Withheld → Type 0) (old new : D) (before after : Told) (end : LinkEnd)
+      → ServesTold body_limit allows tells withholds old new before after end → AnswersLinkToldWithin body_limit allows tells withholds old new before after end
+  answers_told allows tells withholds old new before after end s = record {
     answers = record {
       exchanges = exchanges_of s.serves.turns;
       link = on_link allows old new before after end s.serves;

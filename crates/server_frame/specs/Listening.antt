@@ -7,7 +7,7 @@ use Rattle.osm_outside.specs.Port.{PortTold}
 use Rattle.link_workers.specs.Back.{take_all}
 use Rattle.user_table.specs.Users.{Users, table_of}
 use Rattle.link_workers.specs.declared.outcome.Outcome.{Outcome}
-use Rattle.link_workers.specs.declared.outcome.Outcome.TheVariants.{Served, Failed, Unkept, Unmatched, LacksMemory}
+use Rattle.link_workers.specs.declared.outcome.Outcome.TheVariants.{Served, Failed, Unkept, LacksMemory}
 use Rattle.server_frame.specs.Users.{IsTextOf}
 use Rattle.server_frame.specs.Standard.{RefusesUsers, LacksUsers, LacksRoom}
 
@@ -62,7 +62,6 @@ outcome_status Served = 0
 outcome_status Failed = 6
 outcome_status LacksMemory = 5
 outcome_status Unkept = 9
-outcome_status Unmatched = 10
 
 -- So many ports that the host handed out were served so by the users of the text, as ended so, and taken back: 6 only where accepting
 -- failed at one, which its count shows; where there was no memory they came back as they were.

@@ -8,6 +8,7 @@ use Rattle.osm_outside.specs.Told.{Told}
 use Rattle.http_wire.specs.declared.message.Message.{Message}
 use Rattle.http_wire.specs.Message.{HasMessages}
 use Rattle.http_link.specs.declared.desk.Reply.{Reply}
+use Rattle.http_link.specs.declared.desk.Withheld.{Withheld}
 use Rattle.http_link.specs.declared.end.LinkEnd.{LinkEnd}
 use Rattle.http_link.specs.Exchange.{Exchange, Chain, messages_of, moments_of}
 use Rattle.http_link.specs.Input.{EndsByInput}
@@ -60,11 +61,11 @@ module _ (body_limit : ℕ) where
     pub link : OnLinkWithin before after exchanges end
     pub answered : Chain allows old exchanges new
 
-  -- The same, and the desk let each reply be sent before it was.
-  pub record AnswersLinkToldWithin {D : Type 0} (allows : D → Message → ℕ → Reply → D → Type 0) (tells : D → Type 0)
+  -- The same, and the desk let each reply be sent before it was, or had a cause to withhold the last one.
+  pub record AnswersLinkToldWithin {D : Type 0} (allows : D → Message → ℕ → Reply → D → Type 0) (tells : D → Type 0) (withholds : D → Withheld → Type 0)
       (old new : D) (before after : Told) (end : LinkEnd) : Type 0 where
     pub answers : AnswersLinkWithin allows old new before after end
-    pub told : AreTold allows tells old answers.exchanges new end
+    pub told : AreTold allows tells withholds old answers.exchanges new end
 
 -- The same, where a body has no more bytes than a server reads.
 abbrev pub OnLink : Told → Told → List Exchange → LinkEnd → Type 0
@@ -73,5 +74,5 @@ OnLink = OnLinkWithin BODY_LIMIT
 abbrev pub AnswersLink : {D : Type 0} → (D → Message → ℕ → Reply → D → Type 0) → D → D → Told → Told → LinkEnd → Type 0
 AnswersLink = AnswersLinkWithin BODY_LIMIT
 
-abbrev pub AnswersLinkTold : {D : Type 0} → (D → Message → ℕ → Reply → D → Type 0) → (D → Type 0) → D → D → Told → Told → LinkEnd → Type 0
+abbrev pub AnswersLinkTold : {D : Type 0} → (D → Message → ℕ → Reply → D → Type 0) → (D → Type 0) → (D → Withheld → Type 0) → D → D → Told → Told → LinkEnd → Type 0
 AnswersLinkTold = AnswersLinkToldWithin BODY_LIMIT

@@ -2,6 +2,7 @@
 use Rattle.std.specs.Prelude.{◌≡◌, ℕ, ◌⊎◌, List, Option, Some, None, Ok}
 use Rattle.osm_outside.specs.Told.{Told, Rose}
 use Rattle.osm_outside.specs.Host.{HostTold, OnlyAsked}
+use Rattle.http_link.specs.declared.desk.Withheld.TheVariants as withheld
 use Rattle.http_link.specs.declared.end.LinkEnd.{LinkEnd}
 use Rattle.http_link.specs.declared.end.LinkEnd.TheVariants.{Ended, Closed, Budget, Refused, ReadFault, WriteFault, Unkept, Memory}
 use Rattle.user_table.specs.Users.{Users, table_of}
@@ -15,7 +16,8 @@ status_of Budget = 0
 status_of ReadFault = 3
 status_of WriteFault = 4
 status_of Memory = 5
-status_of Unkept = 9
+status_of (Unkept withheld.Memory) = 5
+status_of (Unkept withheld.Failed) = 9
 status_of (Refused why) = 7
 
 -- The clock is fixed where a moment is given, and nothing else is changed.

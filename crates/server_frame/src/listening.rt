@@ -18,8 +18,7 @@ pub struct Listening<'a> {
 }
 
 /// The status that an outcome is: 0 where every port was served to its end, 6 where accepting failed,
-/// 5 for want of memory, 9 where a reply was held back, 10 where what
-/// was kept can't be told.
+/// 5 for want of memory, 9 where keeping failed.
 fn status_of(outcome: Outcome) -> u8
     ensures { result ≡ outcome_status outcome }
 {
@@ -28,7 +27,6 @@ fn status_of(outcome: Outcome) -> u8
         Outcome::Failed => 6,
         Outcome::LacksMemory => 5,
         Outcome::Unkept => 9,
-        Outcome::Unmatched => 10,
     }
 }
 

@@ -3,7 +3,7 @@ ghost use Rattle.std.specs.Prelude.{◌≡◌};
 ghost use Rattle.server_frame.specs.Standard.{IsStarted, RunsStandard, ServesFrom, status_of};
 
 use crate::users::{NoUsers, read_users};
-use http_link::LinkEnd;
+use http_link::{LinkEnd, Withheld};
 use osm_outside::{Clock, Host, Link, Outside};
 use std::alloc::Global;
 use std::sync::Wait;
@@ -26,7 +26,7 @@ pub trait LinkServer {
 
 /// The status that an end of the standard link is: 0 where it was served to its end, 3 for a read
 /// fault, 4 for a write fault, 5 for want of memory, 7 where what came was refused, 9
-/// where a reply was held back.
+/// where a reply was withheld since what it tells of couldn't be kept.
 fn status_of(end: LinkEnd) -> u8
     ensures { result ≡ status_of end }
 {
@@ -34,8 +34,8 @@ fn status_of(end: LinkEnd) -> u8
         LinkEnd::Ended | LinkEnd::Closed | LinkEnd::Budget => 0,
         LinkEnd::ReadFault => 3,
         LinkEnd::WriteFault => 4,
-        LinkEnd::Memory => 5,
-        LinkEnd::Unkept => 9,
+        LinkEnd::Memory | LinkEnd::Unkept(Withheld::Memory) => 5,
+        LinkEnd::Unkept(Withheld::Failed) => 9,
         LinkEnd::Refused(_) => 7,
     }
 }

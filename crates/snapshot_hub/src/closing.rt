@@ -2,13 +2,13 @@
 //!
 //! An end is never want of memory. The closer has the whole journal and takes no look at a copy,
 //! so `Unmatched` tells the length of the journal.
-ghost use Rattle.std.specs.Prelude.{◌≡◌, ◌+◌, ◌≤◌, ◌<◌, ◌++◌, ◌∷◌, [], length, vec_len};
+ghost use Rattle.std.specs.Prelude.{◌≡◌, ◌+◌, ◌≤◌, ◌<◌, length};
 ghost use Rattle.std.specs.List.{AllByRecursion};
 ghost use mathlib.Core.List.{IsPrefix};
 ghost use Rattle.hub_core.specs.Journal.{calls_of, IsJournal};
-ghost use Rattle.snapshot_hub.specs.Known.{seeing, owed, IsKnown};
+ghost use Rattle.snapshot_hub.specs.Known.{seeing, owed};
 ghost use Rattle.snapshot_hub.specs.Closings.{close, AreSeated, EachOnce, IsFront};
-ghost use Rattle.snapshot_hub.specs.Closed.{HasClosed, HaveEnded};
+ghost use Rattle.snapshot_hub.specs.Closed.{HasAllOf};
 ghost use Rattle.snapshot_hub.specs.Ends.{noting, MatchEnd};
 
 use crate::ends::{End, EndList};
@@ -108,47 +108,32 @@ fn match_journal<N: HubName, M: Machine, S: Snapshot<N, M>, R: Wait + Drop>(
     End::Matched
 }
 
-// The longest front of the sessions and of this one, which all of them begin.
-fn longest<N: HubName, M: Machine, S: Snapshot<N, M>>(
-    first: &Front<N, M::Entry>,
+// Waits until the journal has all that the session saw, and just as many calls as it made. It has at
+// once: no run has shown otherwise.
+fn await_session<N: HubName, M: Machine, S: Snapshot<N, M>, R: Wait + Drop, W: Wait>(
+    rt: &W,
+    held: &Held<N, M, S, R>,
+    session: &Session<N, M, S>,
+)
+    ensures { HasAllOf M.rules held.now.journal session.now }
+{
+    for _ in rt.forever() {
+        if held.serves(session) && session.front().begins(held.front()) {
+            return;
+        }
+    }
+    unreachable!()
+}
+
+// The same of each of these sessions.
+pub(crate) fn await_all<N: HubName, M: Machine, S: Snapshot<N, M>, R: Wait + Drop, W: Wait>(
+    rt: &W,
+    held: &Held<N, M, S, R>,
     sessions: &[Session<N, M, S>],
-) -> Front<N, M::Entry>
-    requires { IsFront M.rules N.sessions first.now }
-    ensures front { IsFront M.rules N.sessions result }
-    ensures first { IsPrefix first.now result }
-    ensures each { AllByRecursion (λ session. IsPrefix session.front result) sessions.now }
-    ensures known { AllByRecursion (IsKnown M.rules) sessions.now }
+)
+    ensures { AllByRecursion (HasAllOf M.rules held.now.journal) sessions.now }
 {
-    let mut whole = first.again();
     for session in sessions {
-        session.law();
-        whole = whole.longer(session.front());
+        await_session(rt, held, session);
     }
-    whole
-}
-
-// Ends each session, in their order.
-fn end_each<N: HubName, M: Machine, S: Snapshot<N, M>, R: Wait + Drop>(
-    closer: &mut Closer<'_, N, M, S, R>,
-    mut sessions: Vec<Session<N, M, S>>,
-)
-    requires { length closer.old.ends.told + vec_len sessions ≤ closer.old.ends.sessions }
-    ensures { HaveEnded M.rules closer.old.journal sessions.items }
-{
-    sessions.reverse();
-    'sessions: while let Some(mut session) = sessions.pop() {
-        closer.end(&mut session);
-    }
-}
-
-// Ends each session, and finds the one list that the journal and all that they had seen begin.
-pub(crate) fn end_all<N: HubName, M: Machine, S: Snapshot<N, M>, R: Wait + Drop>(
-    closer: &mut Closer<'_, N, M, S, R>,
-    sessions: Vec<Session<N, M, S>>,
-)
-    requires { length closer.old.ends.told + vec_len sessions ≤ closer.old.ends.sessions }
-    ensures { HasClosed M.rules N.sessions sessions.items }
-{
-    let _one = longest(closer.front(), sessions.as_slice());
-    end_each(closer, sessions);
 }

@@ -15,7 +15,7 @@ ghost use Rattle.snapshot_hub.specs.Closings.{AreSeated};
 ghost use Rattle.snapshot_hub.specs.Closed.{HasClosed};
 ghost use Rattle.snapshot_hub.specs.Commits.{count_of, IsCommitted, IsOwing};
 
-use crate::closing::{Closer, end_all};
+use crate::closing::{Closer, await_all};
 use crate::ends::EndList;
 use crate::held;
 use crate::held::Held;
@@ -226,25 +226,49 @@ impl<N: HubName, M: Machine, S: Snapshot<N, M>, G: Gate + Drop, R: Wait + Drop> 
         }
     }
 
-    /// Ends the commits of the hub, once no thread shares it, and ends these sessions of it, in their
-    /// order: each sees the whole journal, unless it has seen more. It takes no memory.
-    pub fn close_with(&mut self, sessions: Vec<Session<N, M, S>>)
-        requires { (ends : Ends) × (self.old ≡ Some ends) × (ends.told ≡ []) × (vec_len sessions ≤ ends.sessions) }
+    /// Ends the commits of the hub, once no thread shares it. Its journal has all that these sessions of
+    /// it saw, and just their calls. Where it hasn't, this waits for ever, which no run has shown. It
+    /// takes no memory.
+    pub fn close_with<W: Wait>(&mut self, rt: &W, sessions: &[Session<N, M, S>])
+        requires { (ends : Ends) × (self.old ≡ Some ends) }
         ensures closed { self.new ≡ None }
-        ensures ended { HasClosed M.rules N.sessions sessions.items }
+        ensures ended { HasClosed M.rules N.sessions sessions.now [] }
     {
         let Hub {
             held,
             gate: _,
             ends,
         } = self;
-        let Some(left) = ends.take() else {
+        let Some(_left) = ends.take() else {
             unreachable!()
         };
-        let mut closer = Closer {
-            held: held.get_mut(),
-            ends: left,
+        let held = held.get_mut();
+        let _one = held.front();
+        await_all(rt, held, sessions);
+    }
+
+    /// The same, of the sessions that were used and of spare ones.
+    pub fn close_with_spare<W: Wait>(
+        &mut self,
+        rt: &W,
+        sessions: &[Session<N, M, S>],
+        spare: &[Session<N, M, S>],
+    )
+        requires { (ends : Ends) × (self.old ≡ Some ends) }
+        ensures closed { self.new ≡ None }
+        ensures ended { HasClosed M.rules N.sessions sessions.now spare.now }
+    {
+        let Hub {
+            held,
+            gate: _,
+            ends,
+        } = self;
+        let Some(_left) = ends.take() else {
+            unreachable!()
         };
-        end_all(&mut closer, sessions);
+        let held = held.get_mut();
+        let _one = held.front();
+        await_all(rt, held, sessions);
+        await_all(rt, held, spare);
     }
 }

@@ -30,21 +30,21 @@ pub fn add<N: HubName, R: Wait + Drop, W: Wait, L: Ledger>(
     Ok(given_of(&hub.commit(rt, session, plan, 0, steps)?))
 }
 
-/// Plans a number by a session, has another session add one, and commits the plan then.
+/// Plans a wish by a session, has another session add its own, and commits the plan then.
 pub fn cross<N: HubName, R: Wait + Drop, W: Wait, L: Ledger>(
     rt: &W,
     hub: &ListHub<N, R>,
     session: &mut ListSession<N>,
     other: &mut ListSession<N>,
-    numbers: [u64; 2],
+    wish: Wish,
+    others: Wish,
     steps: &mut Steps<L>,
 ) -> Result<(Given, Given), Memory> {
     if session.owes() {
         return Err(Memory);
     }
-    let [number, others] = numbers;
-    let plan = session.plan(hub.gate(), plain(number), steps)?;
-    let first = add(rt, hub, other, plain(others), steps)?;
+    let plan = session.plan(hub.gate(), wish, steps)?;
+    let first = add(rt, hub, other, others, steps)?;
     let second = given_of(&hub.commit(rt, session, plan, 0, steps)?);
     Ok((first, second))
 }

@@ -59,11 +59,11 @@ fn play_all<R: Threads + Wait + Sync + Print, L: Ledger>(
     tally
 }
 
-/// The same, with steps that nobody counts.
+/// The same, with steps that nobody counts. A `&str` in its signature would let no caller pick the ledger.
 fn play<R: Threads + Wait + Sync + Print, L: Ledger>(
     rt: &R,
     alloc: Global,
-    text: &str,
+    text: &String,
     blank: Blank,
 ) -> Tally
     requires name { blank.name ≡ L.name }
@@ -72,12 +72,17 @@ fn play<R: Threads + Wait + Sync + Print, L: Ledger>(
 {
     let (ledger, share) = blank.open::<L>();
     let mut steps = Steps::of(ledger, share);
-    play_all(rt, alloc, text, &mut steps)
+    play_all(rt, alloc, text.as_str(), &mut steps)
+}
+
+/// The same, with the ledger picked.
+fn play_uncounted<R: Threads + Wait + Sync + Print>(rt: &R, alloc: Global, text: &String) -> Tally {
+    play::<R, Brand>(rt, alloc, text, Blank::new(1))
 }
 
 fn main(rt: HostRuntime) -> io::Result<ExitCode> {
     let text = io::read_to_string(rt.alloc(), rt.stdin())?;
-    let tally = play::<_, Brand>(&rt, rt.alloc(), text.as_str(), Blank::new(1));
+    let tally = play_uncounted(&rt, rt.alloc(), &text);
     tally.tell(&rt)?;
     if tally.is_right() {
         Ok(ExitCode::SUCCESS)

@@ -1,5 +1,5 @@
 //! The lines of a row that are played while its hub is open.
-use crate::hubs::{ListHub, ListSession, add, add_many, at, cross};
+use crate::hubs::{ListHub, ListSession, add, add_many, at, cross, plain};
 use crate::listing::Noted;
 use crate::tells::{
     tell_added, tell_crossed, tell_done, tell_entries, tell_lack, tell_number, tell_whether,
@@ -136,9 +136,11 @@ fn play_cross<N: HubName, R: Wait + Drop, W: Wait, L: Ledger>(
     told: &mut String,
 ) -> Result<(), RowFault> {
     let (planned, added) = word_of(rest);
-    let numbers = [number(planned)?, number(added)?];
+    let (planned, added) = (plain(number(planned)?), plain(number(added)?));
     match sessions {
-        [first, second, ..] => tell_crossed(told, cross(rt, hub, second, first, numbers, steps)),
+        [first, second, ..] => {
+            tell_crossed(told, cross(rt, hub, second, first, planned, added, steps))
+        }
         _ => Err(RowFault::Unread),
     }
 }

@@ -34,13 +34,26 @@ module _ {A : Type 0} where
       ⊎_elim (λ same. omega (arith, ap length same)) (λ more. omega (arith, ap length more.1 ∙ length-append old (more.0 ∷ []))) grown
 
   -- a step that leaves the list that was seen
-  pub nothing_done : (steps : List A → Message → ℕ → Reply → List A → Type 0) (list : List A) (message : Message) (moment : ℕ) (reply : Reply)
-      → steps list message moment reply list → StepsOn steps list message moment reply list
-  nothing_done steps list message moment reply step = record {
+  pub nothing_done : (steps : List A → Message → ℕ → Reply → List A → Type 0) (list : List A) (grown : ℕ) (message : Message) (moment : ℕ) (reply : Reply)
+      → steps list message moment reply list → StepsOn steps list grown message moment reply list grown
+  nothing_done steps list grown message moment reply step = record {
     found = list;
     begins = prefix_self list;
     step = step;
     grows = inl refl;
+    counts = refl;
+  }
+
+  -- a step of a list that is found, which goes on from what was seen
+  pub one_done : (steps : List A → Message → ℕ → Reply → List A → Type 0) (old found new : List A) (grown added : ℕ) (message : Message) (moment : ℕ) (reply : Reply)
+      → IsPrefix old found → steps found message moment reply new → GrowsByOne found new → length new ≡ length found + added
+      → StepsOn steps old grown message moment reply new (grown + added)
+  one_done steps old found new grown added message moment reply begins step grows more = record {
+    found = found;
+    begins = begins;
+    step = step;
+    grows = grows;
+    counts = omega (arith, more);
   }
 
   each_then : (P Q : A → Type 0) → ((x : A) → P x → Q x) → (xs : List A) (x : A) → AllByRecursion P xs → Q x → AllByRecursion Q (xs ++ x ∷ [])

@@ -7,7 +7,7 @@ use Rattle.http_wire.specs.declared.message.Message.{Message}
 use Rattle.http_link.specs.declared.desk.Reply.{Reply}
 use Rattle.http_link.specs.Exchange.{Exchange, Chain}
 use Rattle.http_link.specs.Turns.{exchanges_of}
-use Rattle.http_link.specs.Link.{Serves}
+use Rattle.http_link.specs.Link.{ServesTelling}
 use Rattle.link_workers.specs.Port.{Visit, ServesEach}
 use Rattle.link_workers.specs.Joined.{all_of}
 use Rattle.step_hub.specs.Steps.{AtFront, Allows}
@@ -27,14 +27,14 @@ pub record Joins {D : Type 0} (allows : D → Message → ℕ → Reply → D �
   pub chain : Chain allows old (all_of exchanges) new
 
 pub joined : {D : Type 0} (allows : D → Message → ℕ → Reply → D → Type 0) (old new : D) (visits : List Visit)
-    → ServesEach (Serves PIECE_LIMIT allows) old visits new → Joins allows old new visits
+    → ServesEach (ServesTelling PIECE_LIMIT allows) old visits new → Joins allows old new visits
 joined allows old new [] same = record { exchanges = []; each = tt; chain = same }
 joined allows old new (v ∷ visits) h =
     let s = h.1 in
     let rest = joined allows h.0 new visits h.2 in record {
-      exchanges = exchanges_of s.turns ∷ rest.exchanges;
+      exchanges = exchanges_of s.serves.turns ∷ rest.exchanges;
       each = (record { old = old; new = h.0; serves = s; exchanges_are = refl }, rest.each);
-      chain = chain_then allows old h.0 new (exchanges_of s.turns) (all_of rest.exchanges) s.served.answered rest.chain;
+      chain = chain_then allows old h.0 new (exchanges_of s.serves.turns) (all_of rest.exchanges) s.serves.served.answered rest.chain;
     }
 
 module _ {C E : Type 0} (steps : C → List E → Message → ℕ → Reply → List E → Type 0) where
@@ -57,7 +57,7 @@ module _ {C E : Type 0} (steps : C → List E → Message → ℕ → Reply → 
 
   -- a step that was made on what is now a beginning of a list
   pub is_step : (list : List E) (old : AtFront C E) (e : Exchange) (new : AtFront C E) → IsPrefix new.front list
-      → Allows steps old e.message e.moment e.answer new → IsStepOf (steps old.setting) list (length old.front) e (length new.front)
+      → Allows steps old e.message e.moment e.answer new → IsStepOf (steps old.setting) list (length old.front) old.grown e (length new.front) new.grown
   is_step list old e new within a =
       let found = a.answered.found in
       let on : IsPrefix found new.front = grows_on found new.front a.answered.grows in record {
@@ -69,15 +69,17 @@ module _ {C E : Type 0} (steps : C → List E → Message → ℕ → Reply → 
         step =
             subst (λ (l : List E). steps old.setting l e.message e.moment e.answer (take (length new.front) list)) (sym (taken_is found list (prefix_trans found new.front list on within)))
             (subst (λ (l : List E). steps old.setting found e.message e.moment e.answer l) (sym (taken_is new.front list within)) a.answered.step);
+        counts = a.answered.counts;
       }
 
   -- a chain whose last front begins a list is made of steps of that list
   pub are_steps : (setting : C) (list : List E) (old new : AtFront C E) (exchanges : List Exchange) → old.setting ≡ setting → IsPrefix new.front list
-      → Chain (Allows steps) old exchanges new → AreStepsOf (steps setting) list (length old.front) exchanges (length new.front)
-  are_steps setting list old new [] is within same = ap (λ (d : AtFront C E). length d.front) same
+      → Chain (Allows steps) old exchanges new → AreStepsOf (steps setting) list (length old.front) old.grown exchanges (length new.front) new.grown
+  are_steps setting list old new [] is within same = (ap (λ (d : AtFront C E). length d.front) same, ap (λ (d : AtFront C E). d.grown) same)
   are_steps setting list old new (e ∷ exchanges) is within h = (
     length h.0.front,
-    subst (λ (s : C). IsStepOf (steps s) list (length old.front) e (length h.0.front)) is
+    h.0.grown,
+    subst (λ (s : C). IsStepOf (steps s) list (length old.front) old.grown e (length h.0.front) h.0.grown) is
         (is_step list old e h.0 (prefix_trans h.0.front new.front list (chain_begins h.0 new exchanges h.2) within) h.1),
     are_steps setting list h.0 new exchanges (h.1.setting ∙ is) within h.2,
   )

@@ -2,9 +2,10 @@
 ghost use Rattle.std.specs.Prelude.{◌≡◌, ◌++◌, IfOk};
 ghost use Rattle.step_hub.specs.Steps.{at_front};
 
+use crate::fronts::FrontDesk;
 use crate::hub::StepHub;
 use crate::stepped::Stepped;
-use http_link::{Desk, Reply};
+use http_link::{AlwaysTells, Desk, Reply, Withheld};
 use http_wire::Message;
 use osm_base::Memory;
 use shared_front::{Front, HubName};
@@ -12,14 +13,15 @@ use std::alloc::Global;
 use std::marker::Model;
 use std::sync::Wait;
 
-/// Answers the messages of one worker's links, each in one step under the hub's lock. Contracts see it as the setting and what it
-/// has seen of the list.
+/// Answers the messages of one worker's links, each in one step under the hub's lock. Contracts see it as the setting, what it has
+/// seen of the list, and how many entries its answers added to the list.
 #[derive(Drop)]
 pub struct StepDesk<'a, N: HubName, S: Stepped + Drop, R: Wait> {
     rt: &'a R,
     hub: &'a StepHub<N, S>,
     setting: &'a S::Setting,
     front: Front<N, S::Entry>,
+    grown: u64,
 }
 
 impl<'a, N: HubName, S: Stepped + Drop, R: Wait> Model for StepDesk<'a, N, S, R> {
@@ -27,13 +29,13 @@ impl<'a, N: HubName, S: Stepped + Drop, R: Wait> Model for StepDesk<'a, N, S, R>
 
     ghost Value = { AtFront S.Setting S.Entry };
 
-    ghost view = { λ d. at_front d.setting.now d.front };
+    ghost view = { λ d. at_front d.setting.now d.front d.grown };
 
     ghost invariant = { λ d. S.legal d.front };
 }
 
 impl<'a, N: HubName, S: Stepped + Drop, R: Wait> StepDesk<'a, N, S, R> {
-    /// A desk that has seen this of the hub's list. It takes no memory.
+    /// A desk that has seen this of the hub's list, and has answered nothing. It takes no memory.
     pub fn new(
         rt: &'a R,
         hub: &'a StepHub<N, S>,
@@ -41,13 +43,14 @@ impl<'a, N: HubName, S: Stepped + Drop, R: Wait> StepDesk<'a, N, S, R> {
         front: Front<N, S::Entry>,
     ) -> StepDesk<'a, N, S, R>
         requires { S.legal front }
-        ensures { result ≡ at_front setting.now front }
+        ensures { result ≡ at_front setting.now front 0 }
     {
         StepDesk {
             rt,
             hub,
             setting,
             front,
+            grown: 0,
         }
     }
 
@@ -61,13 +64,17 @@ impl<'a, N: HubName, S: Stepped + Drop, R: Wait> StepDesk<'a, N, S, R> {
     {
         self.hub.behind(self.rt, alloc, front)
     }
+}
 
-    /// What it has seen of the list.
-    pub fn front(&self) -> &Front<N, S::Entry>
-        ensures front { result.now ≡ self.now.front }
-        ensures legal { S.legal self.now.front }
-    {
+impl<'a, N: HubName, S: Stepped + Drop, R: Wait> FrontDesk<N, S> for StepDesk<'a, N, S, R> {
+    ghost at = { λ desk. desk };
+
+    fn front(&self) -> &Front<N, S::Entry> {
         &self.front
+    }
+
+    fn grown(&self) -> u64 {
+        self.grown
     }
 }
 
@@ -79,12 +86,25 @@ impl<'a, N: HubName, S: Stepped + Drop, R: Wait> Desk for StepDesk<'a, N, S, R> 
 
     ghost tells = { λ _. ⊤ };
 
+    ghost withholds = { λ _ _. ⊥ };
+
     fn answer(&mut self, alloc: Global, message: Message, moment: u64) -> Result<Reply, Memory> {
         let mut held = self.hub.held.lock(self.rt);
-        held.answer(alloc, self.setting, &mut self.front, &message, moment)
+        held.answer(
+            alloc,
+            self.setting,
+            &mut self.front,
+            &mut self.grown,
+            &message,
+            moment,
+        )
     }
 
-    fn may_tell(&mut self) -> bool {
-        true
+    fn may_tell(&mut self) -> Result<(), Withheld> {
+        Ok(())
     }
+}
+
+impl<'a, N: HubName, S: Stepped + Drop, R: Wait> AlwaysTells for StepDesk<'a, N, S, R> {
+    ghost never = { λ _ _ h. h };
 }

@@ -5,7 +5,7 @@
 //! that the list under the lock is the whole list, so the case that it is longer has a branch: the
 //! value isn't asked any more, and each message gets 503. No run has shown it. The server's hub
 //! takes its lock again there; a mirror may answer any message with 503.
-ghost use Rattle.std.specs.Prelude.{◌≡◌, ◌<◌, ◌^◌, ◌++◌, [], length, IsTrue, IfOk, OnOk, OnErr};
+ghost use Rattle.std.specs.Prelude.{◌≡◌, ◌<◌, ◌≤◌, ◌+◌, ◌^◌, ◌++◌, [], length, IsTrue, IfOk, OnOk, OnErr};
 ghost use mathlib.Core.List.{IsPrefix};
 ghost use Rattle.osm_base.specs.Status.{IsStatus};
 ghost use Rattle.http_link.specs.Desk.{counted_reply};
@@ -71,17 +71,19 @@ impl<N: HubName, S: Stepped + Drop> Held<N, S> {
         &self.front
     }
 
-    /// Answers a message at the list that is found here, and lets that front see what the list is then.
+    /// Answers a message at the list that is found here, and lets that front see what the list is then. An entry that this adds to the
+    /// list is counted.
     pub fn answer(
         &mut self,
         alloc: Global,
         setting: &S::Setting,
         front: &mut Front<N, S::Entry>,
+        grown: &mut u64,
         message: &Message,
         moment: u64,
     ) -> Result<Reply, Memory>
         requires legal { S.legal front.old }
-        ensures answered { StepsOn (S.steps setting.now) front.old message.now moment (counted_reply result) front.new }
+        ensures answered { StepsOn (S.steps setting.now) front.old grown.old message.now moment (counted_reply result) front.new grown.new }
         ensures legal { S.legal front.new }
         // an answer is one step of the list that is found here, and all of it is seen then
         ensures begins { OnOk result (IsPrefix front.old self.old) }
@@ -92,14 +94,16 @@ impl<N: HubName, S: Stepped + Drop> Held<N, S> {
         ensures status { IfOk result (λ reply. IsStatus reply.status) }
     {
         // The list is longer than what was seen of it, and what was seen is not.
-        if self.ahead || self.front.len() >= MOST || !front.begins(&self.front) {
+        if self.ahead || self.front.len() >= MOST || *grown >= MOST || !front.begins(&self.front) {
             return Err(Memory);
         }
+        let found = self.front.len();
         let reply = self.value.answer(alloc, setting, message, moment);
         if !catch_up(self.value.entries(), &self.tail, &mut self.front) {
             self.ahead = true;
             return Err(Memory);
         }
+        *grown += self.front.len() - found;
         *front = self.front.again();
         reply
     }
@@ -145,6 +149,8 @@ fn catch_up<N: HubName, E>(entries: &[E], tail: &Tail<N, E>, front: &mut Front<N
     requires { length front.old < 2 ^ 62 }
     ensures all { IsTrue result → GrowsByOne front.old entries.now → front.new ≡ entries.now }
     ensures begins { IsPrefix front.old front.new }
+    ensures more { length front.old ≤ length front.new }
+    ensures one { IsTrue result → length front.new ≤ length front.old + 1 }
 {
     let seen = front.len() as usize;
     if seen >= entries.len() {

@@ -6,12 +6,14 @@
 #![tactic(auto)]
 
 mod desk;
+mod fronts;
 mod held;
 mod hub;
 mod ports;
 mod stepped;
 
 pub use desk::StepDesk;
+pub use fronts::{FrontDesk, await_growth, longest};
 pub use hub::StepHub;
 pub use ports::{serve_ports, serve_ports_from};
 pub use stepped::Stepped;

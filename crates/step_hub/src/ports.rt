@@ -1,21 +1,21 @@
 //! Many workers over one list.
 //!
 //! The one list is the longest front of the workers' desks. What the lock holds at the end needs
-//! no looking at: all fronts begin one list, so the longest is begun by each.
+//! no looking at: all fronts begin one list, so the longest is begun by each. It is as long as the
+//! desks' answers have made it.
 ghost use Rattle.std.specs.Prelude.{◌≡◌, [], map, vec_len, replicate, IfOk, OnErr};
-ghost use Rattle.std.specs.List.{AllByRecursion};
-ghost use mathlib.Core.List.{IsPrefix};
 ghost use Rattle.osm_base.specs.declared.limits.TheConstants.{PIECE_LIMIT};
-ghost use Rattle.http_link.specs.Link.{Serves};
+ghost use Rattle.http_link.specs.Link.{ServesTelling};
 ghost use Rattle.link_workers.specs.Workers.{AllWork};
 ghost use Rattle.step_hub.specs.Steps.{at_front};
 ghost use Rattle.step_hub.specs.ServePorts.{ServesAll, ServesPorts, ServesPortsFrom};
 
 use crate::desk::StepDesk;
+use crate::fronts::{await_growth, longest};
 use crate::hub::StepHub;
 use crate::stepped::Stepped;
-use http_link::Desk;
-use link_workers::{DeskService, Outcome, Worker, any_failed, seat_all, serve_all, unseat_all};
+use http_link::AlwaysTells;
+use link_workers::{Outcome, TellingService, Worker, any_failed, seat_all, serve_all, unseat_all};
 use osm_base::{Memory, PIECE_LIMIT};
 use osm_outside::{Port, PortOutside};
 use shared_front::{Front, HubName, Opened};
@@ -33,7 +33,7 @@ fn desks_of<'a, N: HubName, S: Stepped + Drop, R: Wait>(
     count: usize,
 ) -> Result<Vec<StepDesk<'a, N, S, R>>, Memory>
     requires { S.legal first.now }
-    ensures { IfOk result (λ desks. desks.items ≡ replicate count (at_front setting.now first.now)) }
+    ensures { IfOk result (λ desks. desks.items ≡ replicate count (at_front setting.now first.now 0)) }
 {
     let mut desks = Vec::with_capacity(alloc, count)?;
     for _ in 0..count {
@@ -42,32 +42,15 @@ fn desks_of<'a, N: HubName, S: Stepped + Drop, R: Wait>(
     Ok(desks)
 }
 
-/// The longest front of the desks and of this one, which all of them begin.
-fn longest<N: HubName, S: Stepped + Drop, R: Wait>(
-    first: &Front<N, S::Entry>,
-    desks: &[StepDesk<'_, N, S, R>],
-) -> Front<N, S::Entry>
-    requires { S.legal first.now }
-    ensures legal { S.legal result }
-    ensures goes_on { IsPrefix first.now result }
-    ensures begin { AllByRecursion (λ desk. IsPrefix desk.front result) desks.now }
-{
-    let mut front = first.again();
-    for desk in desks {
-        front = front.longer(desk.front());
-    }
-    front
-}
-
 /// Serves the links of each worker's port by its desk, in a thread of its own.
-fn serve_desks<D: Desk + Send + Sync, R: Threads + Wait + Sync, P: Port + Send>(
+fn serve_desks<D: AlwaysTells + Send + Sync, R: Threads + Wait + Sync, P: Port + Send>(
     rt: &R,
     alloc: Global,
     workers: &mut [Worker<D, P>],
 )
-    ensures { AllWork (Serves PIECE_LIMIT D.allows) P.told workers.old workers.new }
+    ensures { AllWork (ServesTelling PIECE_LIMIT D.allows) P.told workers.old workers.new }
 {
-    serve_all(rt, alloc, &DeskService::<D>::new(PIECE_LIMIT), workers);
+    serve_all(rt, alloc, &TellingService::<D>::new(PIECE_LIMIT), workers);
 }
 
 /// Serves the links of each port by a desk of the hub, and says whether accepting failed at one. The ports come back in their
@@ -100,7 +83,8 @@ where
     let failed = any_failed(workers.as_slice());
     unseat_all(workers, &mut desks, ports);
     // All desks have seen beginnings of one list.
-    let _list = longest(first, desks.as_slice());
+    let list = longest::<N, S, StepDesk<'_, N, S, R>>(first, desks.as_slice());
+    await_growth::<N, S, StepDesk<'_, N, S, R>, R>(rt, first, &list, desks.as_slice());
     Ok(failed)
 }
 

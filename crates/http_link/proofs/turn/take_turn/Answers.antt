@@ -3,45 +3,47 @@ use Rattle.http_link.specs.Exchange.{Telling}
 use Rattle.http_link.proofs.TurnLemmas.{Step-from_parts, Held-from_parts, ReadsEnd-from}
 use Rattle.http_link.proofs.turn.take_turn.Goals as goal
 
-pub returns-in-None-clause-turn : goal.returns-in-None-clause-turn
-returns-in-None-clause-turn g c =
-    let replies = rw c.in-None.is at c.answer_message.ensures.replies in
+pub returns-in-Err-answer_message-clause-turn : goal.returns-in-Err-answer_message-clause-turn
+returns-in-Err-answer_message-clause-turn g c =
+    let replies = rw c.in-Err-answer_message.is at c.answer_message.ensures.replies in
     inr (inr (
-      Held-from_parts c.args.wire.now.body_limit g.D.Desk.allows _ _ _ _ _ _ _ c.args.count c.in-Ok.message (record {}) c.in-Ok.ensures.reads replies,
+      c.in-Err-answer_message.why,
+      Held-from_parts c.args.wire.now.body_limit g.D.Desk.allows _ _ _ _ _ _ _ c.args.count c.in-Ok.message (record {}) c.in-Ok.ensures.reads replies.0,
+      replies.1,
       refl,
     ))
 
-pub returns-in-Some-Err-clause-turn : goal.returns-in-Some-Err-clause-turn
-returns-in-Some-Err-clause-turn g c =
+pub returns-in-Ok-Err-clause-turn : goal.returns-in-Ok-Err-clause-turn
+returns-in-Ok-Err-clause-turn g c =
     let reads = c.in-Ok.ensures.reads in
     inl (
-      c.in-Some-Err.field-0,
-      Step-from_parts c.args.wire.now.body_limit (Telling g.D.Desk.allows g.D.Desk.tells) _ _ _ _ _ _ _ c.args.count c.in-Ok.message c.in-Some-Err.field-0 reads
-          (rw c.in-Some-Err.is at c.answer_message.ensures.replies),
-      rw c.in-Some-Err.field-0-is refl,
-      λ fails. omega (arith, (rw c.in-Some-Err.is at c.answer_message.ensures.failed) fails, reads.taken.others.write_faults),
+      c.in-Ok-Err.field-0,
+      Step-from_parts c.args.wire.now.body_limit (Telling g.D.Desk.allows g.D.Desk.tells) _ _ _ _ _ _ _ c.args.count c.in-Ok.message c.in-Ok-Err.field-0 reads
+          (rw c.in-Ok-Err.is at c.answer_message.ensures.replies),
+      rw c.in-Ok-Err.field-0-is refl,
+      λ fails. omega (arith, (rw c.in-Ok-Err.is at c.answer_message.ensures.failed) fails, reads.taken.others.write_faults),
     )
 
 pub returns-then-close-clause-turn : goal.returns-then-close-clause-turn
 returns-then-close-clause-turn g c =
     let reads = c.in-Ok.ensures.reads in
     inl (
-      c.in-Some-Ok.field-0,
-      Step-from_parts c.args.wire.now.body_limit (Telling g.D.Desk.allows g.D.Desk.tells) _ _ _ _ _ _ _ c.args.count c.in-Ok.message c.in-Some-Ok.field-0 reads
-          (rw c.in-Some-Ok.is at c.answer_message.ensures.replies),
-      rw (c.in-Some-Ok.field-0-is, c.if-close.true) refl,
-      λ fails. omega (arith, (rw c.in-Some-Ok.is at c.answer_message.ensures.failed) fails, reads.taken.others.write_faults),
+      c.in-Ok-Ok.field-0,
+      Step-from_parts c.args.wire.now.body_limit (Telling g.D.Desk.allows g.D.Desk.tells) _ _ _ _ _ _ _ c.args.count c.in-Ok.message c.in-Ok-Ok.field-0 reads
+          (rw c.in-Ok-Ok.is at c.answer_message.ensures.replies),
+      rw (c.in-Ok-Ok.field-0-is, c.if-close.true) refl,
+      λ fails. omega (arith, (rw c.in-Ok-Ok.is at c.answer_message.ensures.failed) fails, reads.taken.others.write_faults),
     )
 
 pub returns-else-close-clause-turn : goal.returns-else-close-clause-turn
 returns-else-close-clause-turn g c =
     let reads = c.in-Ok.ensures.reads in
     inl (
-      c.in-Some-Ok.field-0,
-      Step-from_parts c.args.wire.now.body_limit (Telling g.D.Desk.allows g.D.Desk.tells) _ _ _ _ _ _ _ c.args.count c.in-Ok.message c.in-Some-Ok.field-0 reads
-          (rw c.in-Some-Ok.is at c.answer_message.ensures.replies),
-      rw (c.in-Some-Ok.field-0-is, c.if-close.false) refl,
-      λ fails. omega (arith, (rw c.in-Some-Ok.is at c.answer_message.ensures.failed) fails, reads.taken.others.write_faults),
+      c.in-Ok-Ok.field-0,
+      Step-from_parts c.args.wire.now.body_limit (Telling g.D.Desk.allows g.D.Desk.tells) _ _ _ _ _ _ _ c.args.count c.in-Ok.message c.in-Ok-Ok.field-0 reads
+          (rw c.in-Ok-Ok.is at c.answer_message.ensures.replies),
+      rw (c.in-Ok-Ok.field-0-is, c.if-close.false) refl,
+      λ fails. omega (arith, (rw c.in-Ok-Ok.is at c.answer_message.ensures.failed) fails, reads.taken.others.write_faults),
     )
 
 pub returns-in-Err-clause-turn : goal.returns-in-Err-clause-turn

@@ -3,4 +3,4 @@ use Rattle.kept_steps.specs.Kept.{at_kept_front}
 use Rattle.kept_steps.proofs.ports.desks_of.Given as goal
 
 abbrev pub invariant-loop : goal.invariant-loop
-invariant-loop g l = l.desks.items ≡ replicate l.counter (at_kept_front l.maker.setting.now l.maker.first.now 0 l.maker.had.now)
+invariant-loop g l = l.desks.items ≡ replicate l.counter (at_kept_front l.maker.setting.now l.maker.first.now l.maker.had.now)

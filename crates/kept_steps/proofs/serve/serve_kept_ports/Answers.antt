@@ -1,7 +1,9 @@
-use Rattle.std.proofs.Common.{◌≡◌, ◌<◌, length, map, sym, ap, ◌∙◌, subst}
+use Rattle.std.proofs.Common.{◌≡◌, ◌+◌, ◌<◌, List, length, map, sym, ap, ◌∙◌, subst}
 use mathlib.Core.List.{IsPrefix}
+use Rattle.std.specs.List.{sum_by}
 use Rattle.kept_entries.specs.Receipts.{AreKept}
-use Rattle.kept_steps.specs.KeptPorts.{HaveKept}
+use Rattle.kept_entries.specs.declared.receipts.Receipt.{Receipt}
+use Rattle.kept_steps.specs.KeptPorts.{HaveKept, AreMatched}
 use Rattle.kept_steps.proofs.Working.{ports_kept}
 use Rattle.kept_steps.proofs.serve.serve_kept_ports.Goals as goal
 
@@ -25,13 +27,17 @@ returns-clause-serves g c =
     let one = c.in-Ok-shelved.ensures.first in
     let back = c.in-Ok-served.back in
     let served = c.in-Ok-served.ensures.served in
-    ports_kept S.steps c.args.setting.now J S.legal text V.moment V.left_since V.faults c.receipts_stay.ensures before after served.0 back.receipts.items had shelf.receipts
-    back.list shelf.entries device back.failed shelf.broken c.outcome_of-outcome.result c.in-Ok-served.ensures.legal
+    let had_is = c.in-Ok-shelved.ensures.receipts ∙ one.1 in
+    ports_kept S.steps c.args.setting.now J S.legal text V.moment V.left_since V.faults c.receipts_stay.ensures before after served.0 back.receipts.items one.0 shelf.receipts
+    back.list shelf.entries device back.withheld back.failed shelf.broken c.outcome_of-outcome.result c.in-Ok-served.ensures.legal
     (subst (λ l. IsPrefix l back.list) all c.in-Ok-served.ensures.goes_on)
-    (subst (λ l. HaveKept S.steps c.args.setting.now l had served.0 before after back.failed) all served.3)
-    served.1 served.2
-    (one.0, c.in-Ok-shelved.ensures.receipts ∙ one.1, one.2 ∙ ap length (c.again.ensures ∙ all))
+    (subst (λ l. HaveKept S.steps c.args.setting.now J l served.0 before after back.failed) had_is
+    (subst (λ l. HaveKept S.steps c.args.setting.now l had served.0 before after back.failed) all served.5))
+    served.1 served.2 served.3
+    (subst (λ l. length back.list ≡ length l + sum_by (λ it. it.desk.grown) served.0) all served.4)
+    (one.2 ∙ ap length (c.again.ensures ∙ all))
     (subst (λ d. AreKept text V.moment V.left_since d shelf.entries shelf.receipts) (sym c.into_device-2.ensures) c.law.ensures.kept)
     (λ going. ap V.faults c.into_device-2.ensures ∙ c.law.ensures.fine going)
     (λ broken. subst (λ d. 0 < V.faults d) (sym c.into_device-2.ensures) (c.law.ensures.failed broken))
-    c.outcome_of-outcome.ensures
+    (subst (λ (l : List Receipt). AreMatched l back.receipts.items back.withheld back.list shelf.entries shelf.receipts shelf.broken) had_is c.outcome_of-outcome.ensures.matched)
+    c.outcome_of-outcome.ensures.ends

@@ -1,8 +1,9 @@
-use Rattle.std.proofs.Common.{◌≡◌, ℕ, ◌<◌, List, length, map, take, sym, ap, ◌∙◌, subst, arith}
+use Rattle.std.proofs.Common.{◌≡◌, ℕ, ◌<◌, List, length, map, take, drop, sym, ap, ◌∙◌, subst, arith}
 use Rattle.std.proofs.lemmas.List.{length-map}
 use Rattle.notes_core.specs.Machine.{note_rules}
 use Rattle.notes_desk.specs.Desk.{note_row}
 use Rattle.kept_entries.specs.Receipts.{AreKept}
+use Rattle.snapshot_hub.specs.Closed.{HasClosed}
 use Rattle.kept_serve.proofs.Begun.{front_of_first, first_had, kept_ports}
 use Rattle.notes_kept.proofs.Serving.{kept_chain, kept_longer}
 use Rattle.notes_kept.proofs.ports.serve_kept_ports.Goals as goal
@@ -34,15 +35,17 @@ returns-clause-serves g c =
     c.index.ensures (c.again-front.ensures ∙ c.front.ensures) in
     kept_ports note_rules note_row text g.V.Device.moment g.V.Device.left_since g.V.Device.faults kept_chain kept_longer
     c.points_are_consistent.ensures c.receipts_stay.ensures
-    c.args.users.now c.args.seats.sessions g.N.HubName.sessions J before after begun c.truncate.new.self.items back.sessions.items served.0
-    back.receipts.items c.in-Ok-shelve.shelved.1 shelf.receipts shelf.entries device back.failed shelf.broken c.outcome_of-outcome.result
+    c.args.users.now c.args.seats.sessions g.N.HubName.sessions J before after begun c.split_off.new.self.items back.sessions.items c.in-Ok-split_off.spare.items served.0
+    back.receipts.items c.in-Ok-shelve.shelved.1 shelf.receipts shelf.entries device back.withheld back.failed shelf.broken c.outcome_of-outcome.result
     (omega (arith, long, c.requires.some, c.args.ports.now.ok)) (omega (arith, long, c.requires.count, c.args.ports.now.ok))
     c.requires.seated c.in-Ok.ensures.count c.in-Ok.ensures.back
-    (c.truncate.ensures.items ∙ ap (λ (n : ℕ). take n begun) same)
-    served.1 served.2 served.3 c.in-Ok-served.ensures.had
+    (c.in-Ok-split_off.ensures.items ∙ ap (λ (n : ℕ). take n begun) same)
+    (c.in-Ok-split_off.ensures.tail ∙ ap (λ (n : ℕ). drop n begun) same)
+    served.1 served.2 served.3 served.4 c.in-Ok-served.ensures.had
     (first_had J c.again-front.result c.in-Ok-shelve.shelved.1 c.in-Ok-shelve.shelved.0.receipts front c.in-Ok-shelve.ensures.receipts c.in-Ok-shelve.ensures.first)
-    c.close_with.ensures.ended
+    (subst (λ l. HasClosed note_rules g.N.HubName.sessions l c.in-Ok-split_off.spare.items) c.deref.ensures.value
+    (subst (λ l. HasClosed note_rules g.N.HubName.sessions c.deref.result.now l) c.deref-2.ensures.value c.close_with_spare.ensures.ended))
     (subst (λ d. AreKept text g.V.Device.moment g.V.Device.left_since d shelf.entries shelf.receipts) (sym c.into_device-2.ensures) c.law.ensures.kept)
     (λ going. ap g.V.Device.faults c.into_device-2.ensures ∙ c.law.ensures.fine going)
     (λ broken. subst (λ d. 0 < g.V.Device.faults d) (sym c.into_device-2.ensures) (c.law.ensures.failed broken))
-    c.outcome_of-outcome.ensures
+    c.outcome_of-outcome.ensures.matched c.outcome_of-outcome.ensures.ends

@@ -1,6 +1,6 @@
 use Rattle.std.proofs.lemmas.List.{take_at}
 use Rattle.std.proofs.lemmas.Slice.Zip.{AllZip-long}
-use Rattle.std.proofs.Common.{◌≡◌, List, length, map, refl, ap, ◌∙◌, subst, arith, map-id}
+use Rattle.std.proofs.Common.{◌≡◌, false, List, length, map, refl, ap, ◌∙◌, subst, arith, map-id}
 use Rattle.std.specs.List.{AllByRecursion, list_any}
 use mathlib.Core.List.{IsPrefix}
 use Rattle.map_machine.specs.Machine.{map_rules}
@@ -13,7 +13,7 @@ use Rattle.desk_serve.specs.Desks.{at_desk}
 use Rattle.desk_serve.specs.Kept.{KeepsLink}
 use Rattle.desk_serve.proofs.Working.{sessions_back, ports_back}
 use Rattle.desk_serve.proofs.KeptWorking.{have_kept}
-use Rattle.kept_serve.proofs.Working.{seen_back, starts_are, numbers_count, had_in_hand}
+use Rattle.kept_serve.proofs.Working.{seen_back, all_seen, starts_are, numbers_count, had_in_hand}
 use Rattle.kept_serve.proofs.Begun.{begun_at}
 use Rattle.osm_kept.proofs.ports.serve_by_sessions.Goals as goal
 
@@ -35,11 +35,14 @@ returns-clause-served g c =
       stopped,
       seen_back (λ (d : AtKept Entry). d) (λ s. s.desk.known) _ _ _ _ c.leave_desks.ensures.sessions c.in_ok-left.ensures.items desks,
       seen_back (λ (d : AtKept Entry). d) (λ s. s.receipts) _ _ _ _ c.leave_desks.ensures.in_hand c.in_ok-receipts.ensures.items desks,
+      λ none. subst (λ l. AllByRecursion (λ (s : AtKept Entry). s.failed ≡ false) (map (λ (d : AtKept Entry). d) l)) desks
+          (all_seen (λ (d : AtKept Entry). d) (λ s. s.failed ≡ false) c.unseat_all.new.sessions.items
+          (subst (λ l. AllByRecursion (λ desk. desk.failed ≡ false) l) c.as_slice-2.ensures.value (c.any_withheld-withheld.ensures none))),
       λ numbers J known.
           have_kept map_rules map_row serves (λ (d : AtKept Entry). d) (λ old new before after end h. h) users J had told numbers c.in_ok-desks.desks.items c.args.ports.now.items
           c.unseat_all.new.ports.items new stopped c.any_failed-failed.result
           (map-id c.in_ok-desks.desks.items ∙ (c.in_ok-desks.ensures
-          ∙ starts_are (λ s. s) (λ k. at_kept (at_desk users k) 0 had) (begun_at map_rules J) c.args.sessions.items numbers (map-id c.args.sessions.items ∙ known)))
+          ∙ starts_are (λ s. s) (λ k. at_kept (at_desk users k) 0 had false) (begun_at map_rules J) c.args.sessions.items numbers (map-id c.args.sessions.items ∙ known)))
           (omega (arith, numbers_count (λ s. s) (begun_at map_rules J) c.args.sessions.items numbers (map-id c.args.sessions.items ∙ known), c.requires, c.args.sessions.ok, c.args.ports.now.ok))
           (subst (λ l. AllWork serves told l new) (c.as_mut_slice.ensures.value ∙ c.in_ok-workers.ensures.workers) c.serve_desks.ensures)
           refl ports
@@ -59,6 +62,6 @@ returns-clause-had g c =
     subst (λ l. AllByRecursion (λ held. IsPrefix had held) l)
     (seen_back (λ (d : AtKept Entry). d) (λ s. s.receipts) _ _ _ _ c.leave_desks.ensures.in_hand c.in_ok-receipts.ensures.items
     (sessions_back _ _ _ new c.unseat_all.ensures.sessions c.in_ok-workers.ensures.emptied.0 (take_at new _ _ count)))
-    (had_in_hand map_rules map_row serves (λ (d : AtKept Entry). d) (λ old new before after end h. h) told (λ s. at_kept (at_desk users s) 0 had) had (λ s. refl)
+    (had_in_hand map_rules map_row serves (λ (d : AtKept Entry). d) (λ old new before after end h. h) told (λ s. at_kept (at_desk users s) 0 had false) had (λ s. refl)
     c.in_ok-desks.desks.items c.args.sessions.items c.args.ports.now.items new (map-id c.in_ok-desks.desks.items ∙ c.in_ok-desks.ensures)
     (subst (λ l. AllWork serves told l new) (c.as_mut_slice.ensures.value ∙ c.in_ok-workers.ensures.workers) c.serve_desks.ensures))

@@ -10,5 +10,8 @@ returns-clause-served g c = (
   c.serve_link-end.new.desk.known,
   search rules,
   search rules,
-  served_at map_rules map_row c.args.users.now c.in-Some.session c.new-desk.result c.serve_link-end.new.desk _ _ c.serve_link-end.result c.new-desk.ensures c.serve_link-end.ensures,
+  record {
+    serves = served_at map_rules map_row c.args.users.now c.in-Some.session c.new-desk.result c.serve_link-end.new.desk _ _ c.serve_link-end.result c.new-desk.ensures c.serve_link-end.ensures.serves;
+    tells = c.serve_link-end.ensures.tells;
+  },
 )

@@ -15,8 +15,9 @@ pub returns-in-Ok-serve_by_one : goal.returns-in-Ok-serve_by_one
 returns-in-Ok-serve_by_one g c =
     let s = c.in-Ok-serve_by_one.ensures.served in
     let one : g.N.HubName.sessions ≡ 1 = sym c.requires.seated ∙ c.requires.one in
-    let closed : HasClosed map_rules 1 (s.1 ∷ []) =
-    subst (λ (n : ℕ). HasClosed map_rules n (s.1 ∷ [])) one (subst (λ (l : List (Known Entry)). HasClosed map_rules g.N.HubName.sessions l) s.3 c.close_with.ensures.ended) in
+    let closed : HasClosed map_rules 1 (s.1 ∷ []) [] =
+    subst (λ (n : ℕ). HasClosed map_rules n (s.1 ∷ []) []) one
+    (subst (λ (l : List (Known Entry)). HasClosed map_rules g.N.HubName.sessions l []) (c.deref.ensures.value ∙ s.3) c.close_with.ensures.ended) in
     pipe_served map_rules map_row c.args.users.now s.0 s.1 (g.L.Outside.told c.args.link.now) (g.L.Outside.told c.serve_by_one.new.link) c.in-Ok-serve_by_one.end
     s.4 served_stay c.points_are_consistent.ensures (first_is c.in-Ok.sessions.items s.0 s.2 c.in-Ok.ensures.fresh) closed
 

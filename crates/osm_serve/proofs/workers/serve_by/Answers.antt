@@ -7,14 +7,14 @@ use Rattle.map_machine.specs.Machine.{map_rules}
 use Rattle.api_desk.specs.HubDesk.{map_row}
 use Rattle.link_workers.specs.Workers.{Works, AllWork}
 use Rattle.session_desk.specs.Answered.{AtDesk}
-use Rattle.desk_serve.specs.Link.{ServesLink}
+use Rattle.desk_serve.specs.Link.{TellsLink}
 use Rattle.desk_serve.proofs.Working.{have_served, sessions_back, ports_back, known_back}
 use Rattle.osm_serve.proofs.workers.serve_by.Goals as goal
 
 pub returns-clause-served : goal.returns-clause-served
 returns-clause-served g c numbers fresh =
     let told = g.P.PortOutside.told in
-    let serves = ServesLink map_rules map_row in
+    let serves = TellsLink map_rules map_row in
     let desks : List (AtDesk Entry) = c.in_ok-desks.desks.items in
     let long : length c.serve_desks.new.workers ≡ length c.as_mut_slice.result.now = AllZip-long (Works serves told) _ _ c.serve_desks.ensures in
     let same : length c.as_mut_slice.result.now ≡ length c.in_ok-workers.workers.items = ap (λ l. length l) c.as_mut_slice.ensures.value in

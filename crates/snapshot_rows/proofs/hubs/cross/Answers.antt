@@ -1,8 +1,7 @@
 use Rattle.std.proofs.Common.{[], append-nil}
-use Rattle.snapshot_rows.specs.declared.listing.Lack.TheVariants as lack
 use Rattle.snapshot_rows.proofs.hubs.cross.Goals as goal
 
 -- the plan was made on all that its session had seen then
 pub commit-requires-clause-made : goal.commit-requires-clause-made
 commit-requires-clause-made g c =
-    (c.plan.new.self.front, record { number = c.number; lack = lack.Nothing }, ([], append-nil c.plan.new.self.front), c.in_ok-plan.ensures.planned)
+    (c.plan.new.self.front, c.args.wish, ([], append-nil c.plan.new.self.front), c.in_ok-plan.ensures.planned)

@@ -24,8 +24,8 @@ invariant_of-self g c =
     (subst (λ (n : ℕ). HoldsFrom text d.left_since device (d.moment device) n (held ++ entries)) (sym (length-append held entries)) now) kept in
     (λ going. c.in-Ok.ensures.text held was ∙ ap text all, subst (λ l. AreKept text d.moment d.left_since device l c.give.new.receipts) all given)
 
-pub invariant_of-self-then-is_broken-2 : goal.invariant_of-self-then-is_broken-2
-invariant_of-self-then-is_broken-2 g c =
+pub invariant_of-self-in-Err-File : goal.invariant_of-self-in-Err-File
+invariant_of-self-in-Err-File g c =
     let d = g.D.Device in
     let text = g.T.Lines.text in
     let held = c.self.inside.front in
@@ -35,7 +35,7 @@ invariant_of-self-then-is_broken-2 g c =
     let was : c.self.inside.file.text ≡ text held = c.self.invariant.0 (sym c.is_broken.ensures ∙ c.if-is_broken.false) in
     let kept = kept_on text d.moment d.left_since c.self.inside.file.device device held (held ++ entries) c.self.inside.receipts c.in-Err-File.ensures.time
     (omega (arith, length-append held entries)) (λ t k. c.in-Err-File.ensures.each held t k was) c.self.invariant.1 in (
-      λ going. absurd (both_ways _ going (sym c.is_broken-in-Err-File.ensures ∙ c.if-is_broken-2.true)),
+      λ going. absurd (both_ways _ going (c.in-Err-File.ensures.failed (rw c.in-Err-File.field-0-is refl))),
       subst (λ l. AreKept text d.moment d.left_since device l c.self.inside.receipts) all kept,
     )
 

@@ -8,4 +8,4 @@ returns-clause-allowed g c =
     rw (← c.self.view_is)
     (answered_so g.S.Stepped.steps _ _ _ _ _ _ c.answer-reply.ensures.allowed
     (ap (λ (k : InHand). k.tells_of) c.note.ensures ∙ (c.len-seen.ensures ∙ ap length c.front.ensures.front))
-    (ap (λ (k : InHand). k.receipts) c.note.ensures))
+    (ap (λ (k : InHand). k.receipts) c.note.ensures) (ap (λ (k : InHand). k.failed) c.note.ensures))

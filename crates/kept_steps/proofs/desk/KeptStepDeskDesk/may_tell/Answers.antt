@@ -7,4 +7,4 @@ returns-clause-allowed g c =
     rw (← c.self.view_is)
     (λ before message moment reply allowed.
     still_allowed g.S.Stepped.steps before (kept_front c.self.inside.desk c.self.inside.keeper) message moment reply c.keep_list.new.keeper
-    c.keep_list.ensures.stays c.keep_list.ensures.receipts allowed)
+    c.keep_list.ensures.stays c.keep_list.ensures.receipts c.keep_list.ensures.failed allowed)

@@ -9,4 +9,4 @@ returns-clause-allowed g c =
     rw (← c.self.view_is)
     (answered_so note_row _ _ _ _ _ c.answer-reply.ensures.allowed
     (ap (λ (k : InHand). k.tells_of) c.note.ensures ∙ (c.len-seen.ensures ∙ ap length c.front.ensures))
-    (ap (λ (k : InHand). k.receipts) c.note.ensures))
+    (ap (λ (k : InHand). k.receipts) c.note.ensures) (ap (λ (k : InHand). k.failed) c.note.ensures))

@@ -9,4 +9,4 @@ returns-clause-allowed g c =
     rw (← c.self.view_is)
     (λ before message moment reply allowed.
     allowed_still map_rules map_row map_rows_stay before (kept_by c.self.inside.desk c.self.inside.keeper) (kept_by c.keep.new.desk c.keep.new.keeper)
-    message moment reply c.keep.ensures.session c.keep.ensures.stays c.keep.ensures.receipts allowed)
+    message moment reply c.keep.ensures.session c.keep.ensures.stays c.keep.ensures.receipts c.keep.ensures.failed allowed)

@@ -1,4 +1,4 @@
-use Rattle.snapshot_rows.proofs.main.Given as goal
+use Rattle.snapshot_rows.proofs.play_uncounted.Given as goal
 
 abbrev pub ghosts-play : goal.ghosts-play
 ghosts-play g a = record { name = a.blank.name; parts = a.blank.parts }
