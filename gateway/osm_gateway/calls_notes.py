@@ -122,12 +122,13 @@ async def answered(call: Call, reply: Spool) -> web.StreamResponse:
 
 async def create(call: Call) -> web.StreamResponse:
     server, given = notes_of(call), await form(call)
-    row = {"lat7": place(given, "lat"), "lon7": place(given, "lon"), "text": given.get("text", "")}
-    if not row["text"]:
+    lat7, lon7, text = place(given, "lat"), place(given, "lon"), given.get("text", "")
+    if not text:
         raise Refused(400, "No text was given")
-    if abs(row["lat7"]) > 900_000_000 or abs(row["lon7"]) > 1_800_000_000:
+    if abs(lat7) > 900_000_000 or abs(lon7) > 1_800_000_000:
         raise Refused(400, "The note is outside this world")
-    check_length(row["text"])
+    check_length(text)
+    row = {"lat7": lat7, "lon7": lon7, "text": text}
     return await answered(call, await note_created(call, row, await call.sent([ENCODER.encode(row)]), server))
 
 

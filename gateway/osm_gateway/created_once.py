@@ -119,11 +119,12 @@ async def changeset_created(call: Call, tags: dict[str, str], body: Spool | None
 
 def noted(events: Iterator[Event], base: Path, found: list[tuple[Row, Row]]) -> Iterator[str]:
     """In turns: puts each note there, without its comments, and the first of these."""
-    row, first = Row(), Row()
+    row: Row = {}
+    first: Row = {}
     for sort, path, value in events:
         if path == base and sort is Sort.CLOSED:
             found.append((row, first))
-            row, first = Row(), Row()
+            row, first = {}, {}
         elif path == (*base, "comments", "*"):
             first = first or value
         elif path[:-1] == base and sort is Sort.VALUE:

@@ -56,7 +56,7 @@ def element(texts: Texts, it: Element) -> Iterable[str]:
     if len(rows) > SLICE:
         return sliced(texts, it)
     nodes, has = it.get("nodes"), it.get("tags")
-    inner = '  <nd ref="' + '"/>\n  <nd ref="'.join(map(str, nodes)) + '"/>\n' if nodes else members(texts, rows) if rows else ""  # type: ignore[arg-type]
+    inner = '  <nd ref="' + '"/>\n  <nd ref="'.join(map(str, nodes)) + '"/>\n' if nodes else members(texts, rows) if rows else ""
     if has:
         inner += tags(texts, has)
     return (f"{start(texts, it)}>\n{inner}</{it['type']}>\n" if inner else f"{start(texts, it)}/>\n",)
