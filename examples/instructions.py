@@ -4,7 +4,8 @@
 Counts by valgrind's callgrind what `osm pipe` does for so few and for so many uploads, of ten new nodes and a way, and of ten new
 versions and one. Prints the instructions of one upload, which are the difference by the uploads between, and how they are shared among
 functions, in hundredths: each with all that it calls, but for the last rows, which stand for themselves wherever they are called. An
-indented row is part of the one above it. PROGRAM is crates/osm/out/osm where none is named. Needs Debian's valgrind.
+indented row is part of the one above it. Then it prints, in the same way, the instructions of each node in a map of 1,000 nodes, with
+its share of the request. PROGRAM is crates/osm/out/osm where none is named. Needs Debian's valgrind.
 """
 
 from __future__ import annotations
@@ -26,6 +27,8 @@ HERE = os.path.dirname(os.path.abspath(__file__))
 USERS = "1 alicetoken user alice\n"
 UPLOADS = ("new", "versions")
 """Each kind of upload."""
+NODES = 1_000
+"""How many nodes the map has that is read."""
 LINE = re.compile(r"\s*([\d,]+) \([ .\d]+%\)\s+[^ :]*:(.*?)(?:::<.*?)?(?: \[[^\]]*\])?$")
 
 
@@ -119,23 +122,37 @@ def sent(kind: str, uploads: int) -> str:
     return "".join(made + [eleven(number, number if versions else 0) for number in range(1, uploads + 1)])
 
 
-def counted(program: str, kind: str, uploads: int) -> Costs:
+def read(times: int) -> str:
+    """A map of nodes with a tag each, read so many times."""
+    nodes = [f'{{"type":"node","id":{-i},"lat7":{480_000_000 + 97 * i},"lon7":{110_000_000 + 89 * i},"tags":{{"natural":"tree"}}}}' for i in range(1, NODES + 1)]
+    made = [request("PUT", "changeset/create", ""), request("POST", "changeset/1/upload", f'{{"osmChange":[{{"create":[{",".join(nodes)}]}}]}}')]
+    return "".join(made + [request("GET", "map?bbox=11,48,11.1,48.1", "")] * times)
+
+
+def counted(program: str, given: str, wanted: int) -> Costs:
+    """The costs of requests, so many of which must be answered with 200."""
     with tempfile.TemporaryDirectory() as folder:
         path = os.path.join(folder, "callgrind.out")
         users = os.path.join(folder, "users.txt")
         with open(users, "w", encoding="ascii") as file:
             file.write(USERS)
         words = ("valgrind", "-q", "--tool=callgrind", f"--callgrind-out-file={path}", program, "pipe", "--users", users)
-        replies = output(*words, given=sent(kind, uploads)).count("HTTP/1.1 200 OK")
-        if replies != uploads + 2:
-            raise SystemExit(f"{replies} of {uploads + 2} requests were answered with 200")
+        replies = output(*words, given=given).count("HTTP/1.1 200 OK")
+        if replies != wanted:
+            raise SystemExit(f"{replies} of {wanted} requests were answered with 200")
         return Costs(costs_in(path, "yes"), costs_in(path, "no"))
 
 
 def of_one(program: str, kind: str, few: int, many: int) -> Costs:
     """What one upload costs, in thousandths of an instruction."""
-    less, more = (counted(program, kind, uploads) for uploads in (few, many))
+    less, more = (counted(program, sent(kind, uploads), uploads + 2) for uploads in (few, many))
     return Costs(*(Counter({name: 1000 * (count - old[name]) // (many - few) for name, count in new.items()}) for old, new in zip(less, more)))
+
+
+def of_node(program: str, few: int, many: int) -> float:
+    """The instructions of each node of a map that is read, by so few reads and so many."""
+    less, more = (counted(program, read(times), times + 2).alone.total() for times in (few, many))
+    return (more - less) / (many - few) / NODES
 
 
 def table(columns: dict[str, Costs]) -> None:
@@ -161,7 +178,9 @@ def main() -> int:
         parser.error("--many has to be above --few")
     with ThreadPoolExecutor(2) as pool:
         costs = pool.map(lambda kind: of_one(words.program, kind, words.few, words.many), UPLOADS)
+        node = pool.submit(of_node, words.program, 5, 25)
         table(dict(zip(UPLOADS, costs)))
+        print(f"{'a node of a map':24}{node.result():16,.0f}")
     return 0
 
 
