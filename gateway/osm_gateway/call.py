@@ -20,6 +20,7 @@ from .doubts import Once
 from .limits import Rates, address_of
 from .links import InDoubt, Links
 from .log import shown, tell, where
+from .mirrors import Mirrors
 from .oauth import OAuth
 from .people import People, User
 from .refusals import Asked, Refused, refusal
@@ -57,6 +58,7 @@ class Gateway:
     store: Store
     turns: Turns = field(default_factory=Turns)
     once: Once = field(default_factory=Once)
+    mirrors: Mirrors | None = None
     counted: dict[int, tuple[float, int]] = field(default_factory=dict)
     """How many changesets a user has, and when they were counted."""
     last_note: int = 0
@@ -197,8 +199,11 @@ class Call:
     ) -> Spool:  # fmt: skip
         """The body of the server's reply, or its refusal in OSM's words; InDoubt where nobody knows whether a change was made."""
         parameters = "&".join(f"{name}={quote(value, safe=',.-')}" for name, value in (query or {}).items())
-        target, links = f"/api/0.6/{path}{'?' if parameters else ''}{parameters}", server or self.gateway.server
-        reply = await links.ask(method, target, self.token, body, self.spool(always=method != "GET"))
+        target, links, mirrors = f"/api/0.6/{path}{'?' if parameters else ''}{parameters}", server or self.gateway.server, self.gateway.mirrors
+        if mirrors is not None and server is None:
+            reply = await mirrors.ask(self, method, target, body)
+        else:
+            reply = await links.ask(method, target, self.token, body, self.spool(always=method != "GET"))
         if reply.status == 200:
             return reply.body
         refused = refusal(reply.status, reply.body.whole(), asked or Asked())

@@ -14,9 +14,11 @@ from . import json_write, xml_write
 from .app import LEAFLET, app_of
 from .call import Gateway
 from .doubts import Once
+from .floors import Floors
 from .id_editor import program_of
 from .links import Address, Links
 from .log import CommonLog, hear_faults, tell
+from .mirrors import Mirrors
 from .people import BadUsers, People, people_of
 from .processes import Shared, is_taken, run
 from .room import MEGABYTE, Room
@@ -75,22 +77,46 @@ def licensed(words: Words) -> None:
     json_write.licence = "".join(f',"{name}":{json_write.value_of(value)}' for name, value in words.licence)
 
 
-async def serve(words: Words, people: People, store: Store, shared: Shared | None = None) -> int:
+def gateway_of(words: Words, people: People, store: Store, floors: Floors, shared: Shared | None) -> Gateway:
     server = links_of("the map", words.server, words)
     notes = links_of("notes", words.notes, words) if words.notes else None
-    gateway = Gateway(words, people, server, notes, Room(words.room * MEGABYTE, tell), store, once=Once(shared=shared))
-    if not words.data:
-        tell("authorizations, preferences and discussions are in memory alone: --data names a file for them")
+    mirrors = Mirrors(server, words.mirrors, words.links, floors) if words.mirrors else None
+    return Gateway(words, people, server, notes, Room(words.room * MEGABYTE, tell), store, once=Once(shared=shared), mirrors=mirrors)
+
+
+def begin(gateway: Gateway) -> None:
+    for links in filter(None, (gateway.server, gateway.notes)):
+        links.rest()
+    if gateway.mirrors is not None:
+        gateway.mirrors.begin()
+
+
+def end(gateway: Gateway) -> None:
+    for links in filter(None, (gateway.server, gateway.notes)):
+        links.close()
+    if gateway.mirrors is not None:
+        gateway.mirrors.close()
+    gateway.store.close()
+
+
+def told_to_end() -> asyncio.Event:
     ended = asyncio.Event()
     for number in (signal.SIGTERM, signal.SIGINT):
         asyncio.get_running_loop().add_signal_handler(number, ended.set)
+    return ended
+
+
+async def serve(words: Words, gateway: Gateway, is_shared: bool) -> int:
+    if not words.data:
+        tell("authorizations, preferences and discussions are in memory alone: --data names a file for them")
+    ended = told_to_end()
     runner = web.AppRunner(
         app_of(gateway), access_log_class=CommonLog, access_log=None if words.quiet else CommonLog.sink(), auto_decompress=False,
         max_line_size=LINE, max_field_size=LINE, keepalive_timeout=75,
     )  # fmt: skip
     await runner.setup()
     try:
-        await web.TCPSite(runner, words.host, words.port, backlog=1024, shutdown_timeout=ENDING, reuse_port=shared is not None or None).start()
+        await web.TCPSite(runner, words.host, words.port, backlog=1024, shutdown_timeout=ENDING, reuse_port=is_shared or None).start()
     except OSError as why:
         tell(f"can't listen on {words.host}:{words.port}: {why}")
         await runner.cleanup()
@@ -98,14 +124,11 @@ async def serve(words: Words, people: People, store: Store, shared: Shared | Non
     tell(f"http://{words.host}:{words.port} in front of http://{words.server.host}:{words.server.port}")
     if not os.path.isdir(LEAFLET):
         tell(f"there is no {LEAFLET}: the page has no map without Debian's libjs-leaflet")
-    for links in filter(None, (server, notes)):
-        links.rest()
+    begin(gateway)
     await ended.wait()
     tell("ending")
     await runner.cleanup()
-    for links in filter(None, (server, notes)):
-        links.close()
-    store.close()
+    end(gateway)
     tell("ended")
     return 0
 
@@ -117,10 +140,23 @@ def main() -> int:
     licensed(words)
     many_files()
     hear_faults()
+    floors = Floors(words.processes)
+
+    def one(part: Words, shared: Shared | None = None) -> int:
+        async def run_it() -> int:
+            return await serve(part, gateway_of(part, people, opened(part), floors, shared), shared is not None)
+
+        return asyncio.run(run_it())
+
     if words.processes == 1:
-        return asyncio.run(serve(words, people, opened(words)))
+        return one(words)
     if is_taken(words.host, words.port):
         return 6
     opened(words).close()
     shared, part = Shared(), replace(words, links=max(words.links // words.processes, 1), room=max(words.room // words.processes, 1))
-    return run(words.processes, lambda: asyncio.run(serve(part, people, opened(part), shared)))
+
+    def one_of_several(number: int) -> int:
+        floors.begin(number)
+        return one(part, shared)
+
+    return run(words.processes, one_of_several)
