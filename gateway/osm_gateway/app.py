@@ -4,6 +4,7 @@ from __future__ import annotations
 
 import os
 import re
+import time
 from collections.abc import Awaitable, Callable
 
 from aiohttp import ClientPayloadError, web
@@ -14,6 +15,7 @@ from .doubts import unknown
 from .limits import TooMany, address_of
 from .links import InDoubt
 from .log import shown, tell, where
+from .metrics import OTHER
 from .origins import PAGE_CSP, check_host, cors, has_bearer, options
 from .refusals import Refused
 from .spool import NoDisk
@@ -88,8 +90,14 @@ UNSERVED = (
 """What OSM's API has and nobody behind the gateway."""
 
 
+def name_of(handler: Callable[..., object]) -> str:
+    """What a call is counted as: the end of its module's name, and its own."""
+    return f"{handler.__module__.rpartition('.')[2].removeprefix('calls_')}.{handler.__qualname__.partition('.')[0]}"
+
+
 def served(gateway: Gateway, handler: Handler) -> Callable[[web.Request], Awaitable[web.StreamResponse]]:
     async def answer(request: web.Request) -> web.StreamResponse:
+        request["call"] = name_of(handler)
         call = Call(gateway, request)
         try:
             return await handler(call)
@@ -147,7 +155,7 @@ async def fields(request: web.Request, reply: web.StreamResponse) -> None:
 def around(gateway: Gateway) -> object:
     @web.middleware
     async def answer(request: web.Request, handler: Callable[[web.Request], Awaitable[web.StreamResponse]]) -> web.StreamResponse:
-        address = address_of(request)
+        address, begun = address_of(request), time.monotonic()
         try:
             check_host(gateway.words, request)
             gateway.rates.check(address)
@@ -165,6 +173,8 @@ def around(gateway: Gateway) -> object:
             tell(f"{shown(request.method)} {shown(request.path)}: {where(why)}")
             reply = refused(Refused(500, f"The gateway failed at this: {type(why).__name__}"))
         gateway.rates.count(address, reply.body_length or reply.content_length or 0)
+        if gateway.counts is not None:
+            gateway.counts.answered(request.get("call", OTHER), reply.status, time.monotonic() - begun)
         texts = request.get("texts")
         if texts is not None and texts.lost:
             tell(f"{texts.lost} characters that XML can't hold are U+FFFD in the reply to {request.method} {shown(request.path)}")
@@ -195,10 +205,13 @@ FORMS: tuple[tuple[tuple[str, ...], str, Callable[[Gateway, web.Request], Awaita
     (("GET",), "/api/.well-known/oauth-authorization-server", calls_oauth.metadata),
 )
 """Pages and endpoints that are none of OSM's API."""
+CALLS = sorted({name_of(it[2]) for it in (*TABLE, *OWN_ENDS)} | {name_of(it[2]) for it in FORMS})
+"""What requests are counted as."""
 
 
 def shown_by(gateway: Gateway, handler: Callable[[Gateway, web.Request], Awaitable[web.StreamResponse]]) -> Callable[[web.Request], Awaitable[web.StreamResponse]]:
     async def answer(request: web.Request) -> web.StreamResponse:
+        request["call"] = name_of(handler)
         return await handler(gateway, request)
 
     return answer

@@ -59,6 +59,10 @@ class Address:
             raise ValueError(f"{url} isn't http://HOST:PORT")
         return Address(parts.hostname, parts.port or 80)
 
+    @property
+    def url(self) -> str:
+        return f"http://{self.host}:{self.port}"
+
 
 @dataclass(frozen=True)
 class Request:
@@ -271,7 +275,7 @@ class Links:
     def lost(self, why: Lost, request: Request) -> Exception:
         if not self.is_lost:
             self.is_lost = True
-            self.tell(f"{self.name}, http://{self.address.host}:{self.address.port}, can't be reached: {why}")
+            self.tell(f"{self.name}, {self.address.url}, can't be reached: {why}")
         if why.asked and request.changes:
             return InDoubt(self.name, str(why))
         if why.is_strange:

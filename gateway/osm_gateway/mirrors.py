@@ -11,7 +11,7 @@ import asyncio
 import json
 import math
 import time
-from collections import Counter, deque
+from collections import deque
 from collections.abc import Awaitable, Callable
 from contextlib import suppress
 from functools import partial
@@ -104,7 +104,7 @@ class Past:
 
 class Mirror:
     def __init__(self, address: Address, count: int) -> None:
-        self.url = f"http://{address.host}:{address.port}"
+        self.url = address.url
         self.links, self.link = Links("a mirror", address, count, tell, partial(CheckedLink, self), ANSWERING), Link(address)
         self.state, self.most, self.level, self.out_until = State(), 0, -math.inf, 0.0
         """What it told last, the highest number that is known of it, and with what moment it is level."""
@@ -149,8 +149,6 @@ class Mirrors:
         self.mirrors = [Mirror(address, count) for address in addresses]
         self.tasks: list[asyncio.Task[None]] = []
         self.waiting, self.hurry = 0, asyncio.Event()
-        self.answers: Counter[str] = Counter()
-        """Reads that each mirror answered, and that the server did."""
 
     # ---- looking
 
@@ -245,7 +243,8 @@ class Mirrors:
         if call.request.method in ("GET", "HEAD"):
             mirror = await self.mirror_for(address, name)
             reply = await self.asked(mirror, call, target) if mirror is not None else None
-            self.answers[mirror.url if mirror is not None and reply is not None else "server"] += 1
+            if call.gateway.counts is not None:
+                call.gateway.counts.add("reads", mirror.url if mirror is not None and reply is not None else "map")
             if reply is not None:
                 return reply
         try:
