@@ -59,6 +59,8 @@ TABLE: tuple[tuple[str, str, Handler], ...] = (
     ("POST", f"changeset/{ID}/comment", calls_discussions.comment),
     ("POST", f"changeset/{ID}/subscribe", calls_discussions.subscribe),
     ("POST", f"changeset/{ID}/unsubscribe", calls_discussions.unsubscribe),
+    ("POST", f"changeset/{ID}/subscription", calls_discussions.subscribe),
+    ("DELETE", f"changeset/{ID}/subscription", calls_discussions.unsubscribe),
     ("POST", f"changeset/comment/{ID}/hide", calls_discussions.seen(False)),
     ("POST", f"changeset/comment/{ID}/unhide", calls_discussions.seen(True)),
     ("GET", "trackpoints", calls_about.trackpoints),
@@ -72,6 +74,8 @@ TABLE: tuple[tuple[str, str, Handler], ...] = (
     ("GET", "notes/search", calls_notes.search_texts),
     ("GET", "notes/feed", calls_notes.feed),
     ("POST", f"notes/{ID}/{{what:comment|close|reopen}}", calls_notes.change),
+    ("POST", f"notes/{ID}/subscription", calls_notes.subscribe),
+    ("DELETE", f"notes/{ID}/subscription", calls_notes.unsubscribe),
 )
 OWN_ENDS: tuple[tuple[str, str, Handler], ...] = (
     ("GET", "user/preferences/{key:.+}", calls_preferences.read),
