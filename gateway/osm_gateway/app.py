@@ -4,80 +4,87 @@ from __future__ import annotations
 
 import os
 import re
-from collections.abc import Awaitable, Callable
+import time
+from collections.abc import Awaitable, Callable, Iterator
 
 from aiohttp import ClientPayloadError, web
 
-from . import calls_about, calls_changesets, calls_discussions, calls_elements, calls_notes, calls_oauth, calls_preferences, id_editor, overview
+from . import calls_about, calls_changesets, calls_discussions, calls_elements, calls_notes, calls_oauth, calls_preferences, id_editor, overview, pages
 from .call import Call, Gateway
 from .doubts import unknown
 from .limits import TooMany, address_of
 from .links import InDoubt
 from .log import shown, tell, where
+from .metrics import OTHER
 from .origins import PAGE_CSP, check_host, cors, has_bearer, options
 from .refusals import Refused
 from .spool import NoDisk
 
 Handler = Callable[[Call], Awaitable[web.StreamResponse]]
-PAGE = os.path.join(os.path.dirname(os.path.dirname(os.path.abspath(__file__))), "page")
 LEAFLET = "/usr/share/javascript/leaflet"
 """Of Debian's libjs-leaflet."""
 END = r"{end:(?:\.json|\.xml)?}"
 KIND, KINDS, ID, VERSION = "{kind:node|way|relation}", "{kinds:nodes|ways|relations}", "{id:[0-9]{1,19}}", "{version:[0-9]{1,19}}"
+MORE_FORMS = r"{end:\.rss|\.gpx}"
+API = "/api/0.6/"
 TABLE: tuple[tuple[str, str, Handler], ...] = (
-    # A path is looked for from the first on, so what is asked most stands first.
-    ("GET", "/api/0.6/map", calls_elements.read_map),
-    ("PUT", f"/api/0.6/{KIND}/create", calls_elements.create),
-    ("POST", "/api/0.6/{kind:node|way|relation}s", calls_elements.create),
-    ("GET", f"/api/0.6/{KINDS}", calls_elements.read_many),
-    ("GET", f"/api/0.6/{KIND}/{ID}", calls_elements.read),
-    ("PUT", f"/api/0.6/{KIND}/{ID}", calls_elements.modify),
-    ("DELETE", f"/api/0.6/{KIND}/{ID}", calls_elements.delete),
-    ("GET", f"/api/0.6/{KIND}/{ID}/{{what:history|relations|[0-9]{{1,19}}}}", calls_elements.read),
-    ("GET", f"/api/0.6/{{kind:way|relation}}/{ID}/full", calls_elements.read),
-    ("GET", f"/api/0.6/node/{ID}/ways", calls_elements.read),
+    # A path is looked for from the first on, so what is asked most stands first. It begins with API where it doesn't begin with a slash.
+    ("GET", "map", calls_elements.read_map),
+    ("PUT", f"{KIND}/create", calls_elements.create),
+    ("POST", "{kind:node|way|relation}s", calls_elements.create),
+    ("GET", KINDS, calls_elements.read_many),
+    ("GET", f"{KIND}/{ID}", calls_elements.read),
+    ("PUT", f"{KIND}/{ID}", calls_elements.modify),
+    ("DELETE", f"{KIND}/{ID}", calls_elements.delete),
+    ("GET", f"{KIND}/{ID}/{{what:history|relations|[0-9]{{1,19}}}}", calls_elements.read),
+    ("GET", f"{{kind:way|relation}}/{ID}/full", calls_elements.read),
+    ("GET", f"node/{ID}/ways", calls_elements.read),
     ("GET", "/api/versions", calls_about.versions),
     ("GET", "/api/capabilities", calls_about.capabilities),
-    ("GET", "/api/0.6/capabilities", calls_about.capabilities),
-    ("GET", "/api/0.6/permissions", calls_about.permissions),
-    ("GET", "/api/0.6/user/details", calls_about.user_details),
-    ("GET", "/api/0.6/user/preferences", calls_preferences.read_all),
-    ("PUT", "/api/0.6/user/preferences", calls_preferences.write_all),
-    ("GET", f"/api/0.6/user/{ID}", calls_about.user),
-    ("GET", "/api/0.6/users", calls_about.users),
-    ("PUT", "/api/0.6/changeset/create", calls_changesets.create),
-    ("POST", "/api/0.6/changesets", calls_changesets.create),
-    ("GET", "/api/0.6/changesets", calls_changesets.read_some),
-    ("GET", f"/api/0.6/changeset/{ID}", calls_changesets.read),
-    ("PUT", f"/api/0.6/changeset/{ID}", calls_changesets.update),
-    ("PUT", f"/api/0.6/changeset/{ID}/close", calls_changesets.close),
-    ("POST", f"/api/0.6/changeset/{ID}/upload", calls_changesets.upload),
-    ("GET", f"/api/0.6/changeset/{ID}/download", calls_changesets.download),
-    ("POST", f"/api/0.6/changeset/{ID}/comment", calls_discussions.comment),
-    ("POST", f"/api/0.6/changeset/{ID}/subscribe", calls_discussions.subscribe),
-    ("POST", f"/api/0.6/changeset/{ID}/unsubscribe", calls_discussions.unsubscribe),
-    ("POST", f"/api/0.6/changeset/comment/{ID}/hide", calls_discussions.seen(False)),
-    ("POST", f"/api/0.6/changeset/comment/{ID}/unhide", calls_discussions.seen(True)),
-    ("GET", "/api/0.6/trackpoints", calls_about.trackpoints),
-    ("POST", f"/api/0.6/{KIND}/{ID}/{VERSION}/redact", calls_elements.redact),
-    ("POST", "/api/0.6/redactions", calls_elements.new_redaction),
-    ("GET", "/api/0.6/replication/{piece:state|[0-9]{1,19}}", calls_elements.feed),
-    ("POST", "/api/0.6/notes", calls_notes.create),
-    ("GET", "/api/0.6/notes", calls_notes.search),
-    ("GET", f"/api/0.6/notes/{ID}", calls_notes.read),
-    ("DELETE", f"/api/0.6/notes/{ID}", calls_notes.hide),
-    ("GET", "/api/0.6/notes/search", calls_notes.search_texts),
-    ("GET", "/api/0.6/notes/feed", calls_notes.feed),
-    ("POST", f"/api/0.6/notes/{ID}/{{what:comment|close|reopen}}", calls_notes.change),
+    ("GET", "capabilities", calls_about.capabilities),
+    ("GET", "permissions", calls_about.permissions),
+    ("GET", "user/details", calls_about.user_details),
+    ("GET", "user/preferences", calls_preferences.read_all),
+    ("PUT", "user/preferences", calls_preferences.write_all),
+    ("GET", f"user/{ID}", calls_about.user),
+    ("GET", "users", calls_about.users),
+    ("PUT", "changeset/create", calls_changesets.create),
+    ("POST", "changesets", calls_changesets.create),
+    ("GET", "changesets", calls_changesets.read_some),
+    ("GET", f"changeset/{ID}", calls_changesets.read),
+    ("PUT", f"changeset/{ID}", calls_changesets.update),
+    ("PUT", f"changeset/{ID}/close", calls_changesets.close),
+    ("POST", f"changeset/{ID}/upload", calls_changesets.upload),
+    ("GET", f"changeset/{ID}/download", calls_changesets.download),
+    ("POST", f"changeset/{ID}/comment", calls_discussions.comment),
+    ("POST", f"changeset/{ID}/subscribe", calls_discussions.subscribe),
+    ("POST", f"changeset/{ID}/unsubscribe", calls_discussions.unsubscribe),
+    ("POST", f"changeset/{ID}/subscription", calls_discussions.subscribe),
+    ("DELETE", f"changeset/{ID}/subscription", calls_discussions.unsubscribe),
+    ("POST", f"changeset/comment/{ID}/hide", calls_discussions.seen(False)),
+    ("POST", f"changeset/comment/{ID}/unhide", calls_discussions.seen(True)),
+    ("GET", "trackpoints", calls_about.trackpoints),
+    ("POST", f"{KIND}/{ID}/{VERSION}/redact", calls_elements.redact),
+    ("POST", "redactions", calls_elements.new_redaction),
+    ("GET", "replication/{piece:state|[0-9]{1,19}}", calls_elements.feed),
+    ("POST", "notes", calls_notes.create),
+    ("GET", "notes", calls_notes.search),
+    ("GET", f"notes/{ID}", calls_notes.read),
+    ("DELETE", f"notes/{ID}", calls_notes.hide),
+    ("GET", "notes/search", calls_notes.search_texts),
+    ("GET", "notes/feed", calls_notes.feed),
+    ("POST", f"notes/{ID}/{{what:comment|close|reopen}}", calls_notes.change),
+    ("POST", f"notes/{ID}/subscription", calls_notes.subscribe),
+    ("DELETE", f"notes/{ID}/subscription", calls_notes.unsubscribe),
 )
-OWN_ENDS = (
-    ("GET", "/api/0.6/user/preferences/{key:.+}", calls_preferences.read),
-    ("PUT", "/api/0.6/user/preferences/{key:.+}", calls_preferences.write),
-    ("DELETE", "/api/0.6/user/preferences/{key:.+}", calls_preferences.delete),
+OWN_ENDS: tuple[tuple[str, str, Handler], ...] = (
+    ("GET", "user/preferences/{key:.+}", calls_preferences.read),
+    ("PUT", "user/preferences/{key:.+}", calls_preferences.write),
+    ("DELETE", "user/preferences/{key:.+}", calls_preferences.delete),
     ("GET", "/overview/{z:1[0-2]}/{x:[0-9]{1,4}}/{y:[0-9]{1,4}}", overview.tile),
-    ("GET", r"/api/0.6/notes{end:\.rss|\.gpx}", calls_notes.search),
-    ("GET", r"/api/0.6/notes/search{end:\.rss|\.gpx}", calls_notes.search_texts),
-    ("GET", f"/api/0.6/notes/{ID}{{end:\\.rss|\\.gpx}}", calls_notes.read),
+    ("GET", f"notes{MORE_FORMS}", calls_notes.search),
+    ("GET", f"notes/search{MORE_FORMS}", calls_notes.search_texts),
+    ("GET", f"notes/{ID}{MORE_FORMS}", calls_notes.read),
 )
 """A key may end with .json, so these paths have no end that says a form; and notes have more forms."""
 UNSERVED = (
@@ -88,8 +95,14 @@ UNSERVED = (
 """What OSM's API has and nobody behind the gateway."""
 
 
+def name_of(handler: Callable[..., object]) -> str:
+    """What a call is counted as: the end of its module's name, and its own."""
+    return f"{handler.__module__.rpartition('.')[2].removeprefix('calls_')}.{handler.__qualname__.partition('.')[0]}"
+
+
 def served(gateway: Gateway, handler: Handler) -> Callable[[web.Request], Awaitable[web.StreamResponse]]:
     async def answer(request: web.Request) -> web.StreamResponse:
+        request["call"] = name_of(handler)
         call = Call(gateway, request)
         try:
             return await handler(call)
@@ -147,7 +160,7 @@ async def fields(request: web.Request, reply: web.StreamResponse) -> None:
 def around(gateway: Gateway) -> object:
     @web.middleware
     async def answer(request: web.Request, handler: Callable[[web.Request], Awaitable[web.StreamResponse]]) -> web.StreamResponse:
-        address = address_of(request)
+        address, begun = address_of(request), time.monotonic()
         try:
             check_host(gateway.words, request)
             gateway.rates.check(address)
@@ -165,6 +178,8 @@ def around(gateway: Gateway) -> object:
             tell(f"{shown(request.method)} {shown(request.path)}: {where(why)}")
             reply = refused(Refused(500, f"The gateway failed at this: {type(why).__name__}"))
         gateway.rates.count(address, reply.body_length or reply.content_length or 0)
+        if gateway.counts is not None:
+            gateway.counts.answered(request.get("call", OTHER), reply.status, time.monotonic() - begun)
         texts = request.get("texts")
         if texts is not None and texts.lost:
             tell(f"{texts.lost} characters that XML can't hold are U+FFFD in the reply to {request.method} {shown(request.path)}")
@@ -199,14 +214,8 @@ FORMS: tuple[tuple[tuple[str, ...], str, Callable[[Gateway, web.Request], Awaita
 
 def shown_by(gateway: Gateway, handler: Callable[[Gateway, web.Request], Awaitable[web.StreamResponse]]) -> Callable[[web.Request], Awaitable[web.StreamResponse]]:
     async def answer(request: web.Request) -> web.StreamResponse:
+        request["call"] = name_of(handler)
         return await handler(gateway, request)
-
-    return answer
-
-
-def file_of(path: str) -> Callable[[web.Request], Awaitable[web.StreamResponse]]:
-    async def answer(_: web.Request) -> web.StreamResponse:
-        return web.FileResponse(path)
 
     return answer
 
@@ -218,25 +227,32 @@ ADDRESSES = (
 """What JOSM, iD and people open: the page reads its own address."""
 
 
+async def index(_: Gateway, __: web.Request) -> web.StreamResponse:
+    return web.Response(text=pages.of_file("index.html"), content_type="text/html", charset="utf-8")
+
+
+CALLS = sorted({name_of(it[2]) for it in (*TABLE, *OWN_ENDS)} | {name_of(it) for it in (index, *(row[2] for row in FORMS))})
+"""What requests are counted as."""
+
+
+def routes(gateway: Gateway) -> Iterator[tuple[str, str, Callable[[web.Request], Awaitable[web.StreamResponse]]]]:
+    for end, table in ((END, TABLE), ("", OWN_ENDS)):
+        for method, path, handler in table:
+            yield method, ("" if path.startswith("/") else API) + path + end, served(gateway, handler)
+    for methods, path, page in FORMS:
+        for method in methods:
+            yield method, path, shown_by(gateway, page)
+    for path in ("/", *ADDRESSES):
+        yield "GET", path, shown_by(gateway, index)
+
+
 def app_of(gateway: Gateway) -> web.Application:
     gateway.overview = overview.Kept()
     app = web.Application(middlewares=[around(gateway)])  # type: ignore[list-item]
-    for method, path, handler in TABLE:
-        app.router.add_route(method, path + END, served(gateway, handler))
-        if method == "GET":
-            app.router.add_route("HEAD", path + END, served(gateway, handler))
-    for method, path, handler in OWN_ENDS:
-        app.router.add_route(method, path, served(gateway, handler))
-        if method == "GET":
-            app.router.add_route("HEAD", path, served(gateway, handler))
-    for methods, path, page in FORMS:
-        for method in methods:
-            app.router.add_route(method, path, shown_by(gateway, page))
-            if method == "GET":
-                app.router.add_route("HEAD", path, shown_by(gateway, page))
-    for path in ("/", *ADDRESSES):
-        app.router.add_get(path, file_of(os.path.join(PAGE, "index.html")))
-    app.router.add_static("/page", PAGE)
+    for method, path, handler in routes(gateway):
+        for name in (method, "HEAD") if method == "GET" else (method,):
+            app.router.add_route(name, path, handler)
+    app.router.add_static("/page", pages.FOLDER)
     if os.path.isdir(LEAFLET):
         app.router.add_static("/leaflet", LEAFLET, follow_symlinks=True)
     app.on_response_prepare.append(fields)

@@ -20,6 +20,8 @@ from .doubts import Once
 from .limits import Rates, address_of
 from .links import InDoubt, Links
 from .log import shown, tell, where
+from .metrics import Counts
+from .mirrors import Mirrors
 from .oauth import OAuth
 from .people import People, User
 from .refusals import Asked, Refused, refusal
@@ -57,6 +59,8 @@ class Gateway:
     store: Store
     turns: Turns = field(default_factory=Turns)
     once: Once = field(default_factory=Once)
+    mirrors: Mirrors | None = None
+    counts: Counts | None = None
     counted: dict[int, tuple[float, int]] = field(default_factory=dict)
     """How many changesets a user has, and when they were counted."""
     last_note: int = 0
@@ -198,10 +202,21 @@ class Call:
         """The body of the server's reply, or its refusal in OSM's words; InDoubt where nobody knows whether a change was made."""
         parameters = "&".join(f"{name}={quote(value, safe=',.-')}" for name, value in (query or {}).items())
         target, links = f"/api/0.6/{path}{'?' if parameters else ''}{parameters}", server or self.gateway.server
-        reply = await links.ask(method, target, self.token, body, self.spool(always=method != "GET"))
+        try:
+            return await self.replied(method, target, body, asked or Asked(), links, server is None)
+        except InDoubt:
+            if self.gateway.counts is not None:
+                self.gateway.counts.add("lost")
+            raise
+
+    async def replied(self, method: str, target: str, body: Spool | None, asked: Asked, links: Links, of_map: bool) -> Spool:
+        if of_map and self.gateway.mirrors is not None:
+            reply = await self.gateway.mirrors.ask(self, method, target, body)
+        else:
+            reply = await links.ask(method, target, self.token, body, self.spool(always=method != "GET"))
         if reply.status == 200:
             return reply.body
-        refused = refusal(reply.status, reply.body.whole(), asked or Asked())
+        refused = refusal(reply.status, reply.body.whole(), asked)
         if reply.status >= 500 and method != "GET":
             raise InDoubt(links.name, f"the answer has the status {reply.status}", refused if refused.said else None)
         raise refused

@@ -41,7 +41,7 @@ def scopes_of(method: str, path: str) -> tuple[str, ...]:
         return ("write_notes",)
     if call.startswith("redactions") or "/redact" in call:
         return ("write_redactions",)
-    talk = re.fullmatch(r"changeset/(comment/)?[0-9]+/(comment|subscribe|unsubscribe|hide|unhide)(\.\w+)?", call)
+    talk = re.fullmatch(r"changeset/(comment/)?[0-9]+/(comment|subscribe|unsubscribe|subscription|hide|unhide)(\.\w+)?", call)
     return ("write_api", "write_changeset_comments") if talk else ("write_api",)
 
 

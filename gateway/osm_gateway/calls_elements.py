@@ -149,4 +149,4 @@ async def redact(call: Call) -> web.StreamResponse:
 async def feed(call: Call) -> web.StreamResponse:
     """The server's feed, which OSM's API has no call for: as it stands, in units."""
     path = call.request.path.split("/api/0.6/", 1)[1].removesuffix(".json")
-    return web.Response(body=(await call.ask("GET", path)).whole(), content_type="application/json")
+    return web.Response(body=(await call.ask("GET", path, server=call.gateway.server)).whole(), content_type="application/json")

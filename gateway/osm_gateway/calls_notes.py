@@ -205,3 +205,25 @@ async def hide(call: Call) -> web.StreamResponse:
     reply = await call.ask("GET", f"notes/{call.path('id')}", server=notes_of(call))
     hidden.hide(call, call.path("id"))
     return await answered(call, reply)
+
+
+async def followed(call: Call) -> int:
+    """The number of the note that is to be followed or left, which has to be there."""
+    call.user()
+    hidden.refuse_hidden(call, call.path("id"))
+    await call.ask("GET", f"notes/{call.path('id')}", server=notes_of(call))
+    return call.path("id")
+
+
+async def subscribe(call: Call) -> web.StreamResponse:
+    number = await followed(call)
+    if not call.gateway.store.do("INSERT OR IGNORE INTO note_subscriptions VALUES (?, ?)", number, call.user().id):
+        raise Refused(409, f"You are already subscribed to note {number}.")
+    return call.text("")
+
+
+async def unsubscribe(call: Call) -> web.StreamResponse:
+    number = await followed(call)
+    if not call.gateway.store.do("DELETE FROM note_subscriptions WHERE note = ? AND user = ?", number, call.user().id):
+        raise Refused(404, f"You are not subscribed to note {number}.")
+    return call.text("")

@@ -15,6 +15,7 @@ import json
 from collections.abc import Awaitable, Callable, Hashable, Iterator
 from dataclasses import dataclass, field
 
+from . import missing
 from .call import Call
 from .changes import ENCODER
 from .doubts import Away, Doubt, seen, unknown
@@ -27,8 +28,6 @@ from .times import utc
 
 NOWHERE = (1 << 63) - 1
 """An id that no element has: ids count up from 1."""
-MANY = 500
-"""Ids in one fetch of many, which fit into the longest address that the server reads."""
 
 
 @dataclass(frozen=True)
@@ -72,9 +71,9 @@ async def made_once(call: Call, change: Change) -> Spool:
         except InDoubt as why:
             tell(f"the answer to {change.method} {change.path} was lost: {why}")
             return await Lost(call, change, before, why).answer()
-        except Refused:
+        except Refused as why:
             once.learn(number, before)
-            raise
+            raise await missing.with_all(call, why, change.begin()) from None
         operations = change.asked.operations
         once.learn(number, None if any(operations.skipped) else before + len(operations.ids))
         return reply
@@ -212,8 +211,8 @@ class Lost:
         found: dict[tuple[str, int], int] = {}
         for kind in sorted({kind for kind, _ in keys}):
             ids = [str(number) for of, number in keys if of == kind]
-            for start in range(0, len(ids), MANY):
-                reply = await seen(self.call, f"{kind}s", {f"{kind}s": ",".join(ids[start : start + MANY])})
+            for start in range(0, len(ids), missing.MANY):
+                reply = await seen(self.call, f"{kind}s", {f"{kind}s": ",".join(ids[start : start + missing.MANY])})
                 found |= {(kind, row["id"]): row["version"] for row in json.loads(reply.whole())["elements"]}
         return found
 

@@ -12,7 +12,6 @@ from .refusals import Refused
 
 SOURCE = "https://github.com/openstreetmap/iD/releases"
 PROGRAMS = ("iD.min.js", "iD.js")
-PAGE = os.path.join(os.path.dirname(os.path.dirname(os.path.abspath(__file__))), "page")
 # iD has styles in attributes, and asks servers of pictures, of words and of places, which its user chooses.
 CSP = (
     "default-src 'self'; script-src 'self'; style-src 'self' 'unsafe-inline'; img-src * data: blob:; connect-src *; font-src 'self' data:; "
@@ -56,15 +55,14 @@ async def index(gateway: Gateway, _: web.Request) -> web.StreamResponse:
             "<p>2. <code>gateway/run --id FOLDER ..</code>.</p>\n",
             pages.paragraph("iD then needs nothing else: it is set up for this server, and logs in by a name and a token."), status=404,
         )  # fmt: skip
-    with open(os.path.join(PAGE, "id.html"), encoding="utf-8") as file:
-        text = file.read().replace("PROGRAM", program_of(gateway.words.id))
+    text = pages.of_file("id.html").replace("PROGRAM", program_of(gateway.words.id))
     return with_csp(web.Response(text=text, content_type="text/html", charset="utf-8"), CSP)
 
 
 async def land(gateway: Gateway, _: web.Request) -> web.StreamResponse:
     """Where OAuth leads the small window of iD: the build's own page, or one that does the same."""
     own = os.path.join(gateway.words.id, "land.html") if gateway.words.id else ""
-    return with_csp(web.FileResponse(own if os.path.isfile(own) else os.path.join(PAGE, "land.html")), LAND_CSP)
+    return with_csp(web.FileResponse(own if os.path.isfile(own) else os.path.join(pages.FOLDER, "land.html")), LAND_CSP)
 
 
 async def file(gateway: Gateway, request: web.Request) -> web.StreamResponse:

@@ -33,6 +33,10 @@ class NoReply(ValueError):
     """What came isn't of the form of the server's replies."""
 
 
+class NoAnswer(Refused):
+    """No answer of the server came, so somebody else may be asked what only reads."""
+
+
 class InDoubt(Exception):
     """A change was sent, and no answer of the server came that tells whether it was made."""
 
@@ -55,6 +59,10 @@ class Address:
             raise ValueError(f"{url} isn't http://HOST:PORT")
         return Address(parts.hostname, parts.port or 80)
 
+    @property
+    def url(self) -> str:
+        return f"http://{self.host}:{self.port}"
+
 
 @dataclass(frozen=True)
 class Request:
@@ -73,6 +81,16 @@ class Request:
 class Reply:
     status: int
     body: Spool
+
+
+def head_of(address: Address, method: str, target: str, token: str | None = None, body: Spool | None = None) -> bytes:
+    fields = [f"{method} {target} HTTP/1.1", f"Host: {address.host}:{address.port}"]
+    fields += [f"Authorization: Bearer {token}"] if token else []
+    fields += ["Content-Type: application/json", f"Content-Length: {body.size}"] if body else []
+    head = ("\r\n".join(fields) + "\r\n\r\n").encode("ascii")
+    if len(head) > HEAD:
+        raise Refused(414, f"The address is too long: the server reads {HEAD} bytes")
+    return head
 
 
 def fields_of(head: bytes) -> tuple[int, dict[str, str]]:
@@ -124,7 +142,9 @@ class Link:
     async def ask(self, request: Request) -> Reply:
         """The reply to a request; the connection is closed where anything else than a whole reply came."""
         self.sent = False
-        kept = await self.connect()
+        return await self.exchange(request, await self.connect())
+
+    async def exchange(self, request: Request, kept: bool) -> Reply:
         assert self.reader and self.writer
         whole = False
         try:
@@ -164,9 +184,12 @@ class Link:
 class Links:
     """A server behind so many links. `tell` gets a line where it is lost, and one where it answers again."""
 
-    def __init__(self, name: str, address: Address, count: int, tell: Callable[[str], None]) -> None:
-        self.name, self.address, self.tell = name, address, tell
-        self.links = [Link(address) for _ in range(count)]
+    def __init__(
+        self, name: str, address: Address, count: int, tell: Callable[[str], None],
+        link: Callable[[Address], Link] = Link, answering: float = ANSWERING,
+    ) -> None:  # fmt: skip
+        self.name, self.address, self.tell, self.answering = name, address, tell, answering
+        self.links = [link(address) for _ in range(count)]
         self.free = list(self.links)
         self.waiting: deque[asyncio.Future[Link]] = deque()
         self.is_lost = False
@@ -195,7 +218,7 @@ class Links:
                 return await place
         except TimeoutError:
             self.leave(place)
-            raise Refused(503, f"{self.name} is busy: no link to it was free for {QUEUED:.0f} seconds") from None
+            raise NoAnswer(503, f"{self.name} is busy: no link to it was free for {QUEUED:.0f} seconds") from None
         except asyncio.CancelledError:
             self.leave(place)
             raise
@@ -218,15 +241,15 @@ class Links:
 
     async def ask(self, method: str, target: str, token: str | None, body: Spool | None, reply: Spool) -> Reply:
         """Refused where nothing was done; InDoubt where a change may have been made and its answer didn't come."""
-        request = Request(method, self.head(method, target, token, body), body, reply)
+        request = Request(method, head_of(self.address, method, target, token, body), body, reply)
         link = await self.take()
         try:
-            async with asyncio.timeout(ANSWERING):
+            async with asyncio.timeout(self.answering):
                 return await self.answered(link, request)
         except TimeoutError:
             if request.changes and link.sent:
-                raise InDoubt(self.name, f"no answer within {ANSWERING:.0f} seconds") from None
-            raise Refused(504, f"{self.name} didn't answer within {ANSWERING:.0f} seconds") from None
+                raise InDoubt(self.name, f"no answer within {self.answering:.0f} seconds") from None
+            raise NoAnswer(504, f"{self.name} didn't answer within {self.answering:.0f} seconds") from None
         except Refused as why:
             # No room for the reply to a change, which has been made or refused by then.
             if request.changes and link.sent:
@@ -247,26 +270,17 @@ class Links:
         self.found()
         return reply
 
-    def head(self, method: str, target: str, token: str | None, body: Spool | None) -> bytes:
-        fields = [f"{method} {target} HTTP/1.1", f"Host: {self.address.host}:{self.address.port}"]
-        fields += [f"Authorization: Bearer {token}"] if token else []
-        fields += ["Content-Type: application/json", f"Content-Length: {body.size}"] if body else []
-        head = ("\r\n".join(fields) + "\r\n\r\n").encode("ascii")
-        if len(head) > HEAD:
-            raise Refused(414, f"The address is too long: the server reads {HEAD} bytes")
-        return head
-
     # ---- whether the server is there
 
     def lost(self, why: Lost, request: Request) -> Exception:
         if not self.is_lost:
             self.is_lost = True
-            self.tell(f"{self.name}, http://{self.address.host}:{self.address.port}, can't be reached: {why}")
+            self.tell(f"{self.name}, {self.address.url}, can't be reached: {why}")
         if why.asked and request.changes:
             return InDoubt(self.name, str(why))
         if why.is_strange:
-            return Refused(502, f"What {self.name} sent is no reply of it: {why}")
-        return Refused(503, f"{self.name} can't be reached at the moment, nothing was done")
+            return NoAnswer(502, f"What {self.name} sent is no reply of it: {why}")
+        return NoAnswer(503, f"{self.name} can't be reached at the moment, nothing was done")
 
     def found(self) -> None:
         if self.is_lost:

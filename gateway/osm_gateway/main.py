@@ -6,17 +6,21 @@ import asyncio
 import os
 import resource
 import signal
-from dataclasses import replace
+from dataclasses import dataclass, replace
+from typing import Any
 
 from aiohttp import web
 
-from . import json_write, xml_write
-from .app import LEAFLET, app_of
+from . import json_write, metrics, xml_write
+from .app import CALLS, LEAFLET, app_of
 from .call import Gateway
 from .doubts import Once
+from .floors import Floors
 from .id_editor import program_of
 from .links import Address, Links
 from .log import CommonLog, hear_faults, tell
+from .metrics import Counts
+from .mirrors import Mirrors
 from .people import BadUsers, People, people_of
 from .processes import Shared, is_taken, run
 from .room import MEGABYTE, Room
@@ -75,37 +79,95 @@ def licensed(words: Words) -> None:
     json_write.licence = "".join(f',"{name}":{json_write.value_of(value)}' for name, value in words.licence)
 
 
-async def serve(words: Words, people: People, store: Store, shared: Shared | None = None) -> int:
+@dataclass
+class Common:
+    """What all processes have together."""
+
+    floors: Floors
+    counts: Counts | None
+    shared: Shared | None
+
+    @staticmethod
+    def of(words: Words) -> Common:
+        servers = ("map", *(("notes",) if words.notes else ()), *(it.url for it in words.mirrors))
+        counts = Counts(CALLS, servers, words.processes) if words.metrics else None
+        return Common(Floors(words.processes), counts, Shared() if words.processes > 1 else None)
+
+    def begin(self, process: int) -> None:
+        self.floors.begin(process)
+        if self.counts is not None:
+            self.counts.columns.begin(process)
+
+
+def gateway_of(words: Words, people: People, store: Store, common: Common) -> Gateway:
     server = links_of("the map", words.server, words)
     notes = links_of("notes", words.notes, words) if words.notes else None
-    gateway = Gateway(words, people, server, notes, Room(words.room * MEGABYTE, tell), store, once=Once(shared=shared))
-    if not words.data:
-        tell("authorizations, preferences and discussions are in memory alone: --data names a file for them")
+    mirrors = Mirrors(server, words.mirrors, words.links, common.floors) if words.mirrors else None
+    return Gateway(
+        words, people, server, notes, Room(words.room * MEGABYTE, tell), store,
+        once=Once(shared=common.shared), mirrors=mirrors, counts=common.counts,
+    )  # fmt: skip
+
+
+def begin(gateway: Gateway) -> None:
+    for links in filter(None, (gateway.server, gateway.notes)):
+        links.rest()
+    if gateway.mirrors is not None:
+        gateway.mirrors.begin()
+
+
+def end(gateway: Gateway) -> None:
+    for links in filter(None, (gateway.server, gateway.notes)):
+        links.close()
+    if gateway.mirrors is not None:
+        gateway.mirrors.close()
+    gateway.store.close()
+
+
+def told_to_end() -> asyncio.Event:
     ended = asyncio.Event()
     for number in (signal.SIGTERM, signal.SIGINT):
         asyncio.get_running_loop().add_signal_handler(number, ended.set)
-    runner = web.AppRunner(
-        app_of(gateway), access_log_class=CommonLog, access_log=None if words.quiet else CommonLog.sink(), auto_decompress=False,
-        max_line_size=LINE, max_field_size=LINE, keepalive_timeout=75,
-    )  # fmt: skip
+    return ended
+
+
+async def listen(app: web.Application, place: tuple[str, int], is_shared: bool, **more: Any) -> web.AppRunner | None:
+    """None where somebody else listens there, which is told."""
+    runner = web.AppRunner(app, **more)
     await runner.setup()
     try:
-        await web.TCPSite(runner, words.host, words.port, backlog=1024, shutdown_timeout=ENDING, reuse_port=shared is not None or None).start()
+        await web.TCPSite(runner, *place, backlog=1024, shutdown_timeout=ENDING, reuse_port=is_shared or None).start()
     except OSError as why:
-        tell(f"can't listen on {words.host}:{words.port}: {why}")
+        tell(f"can't listen on {place[0]}:{place[1]}: {why}")
         await runner.cleanup()
+        return None
+    return runner
+
+
+async def serve(words: Words, gateway: Gateway, is_shared: bool) -> int:
+    if not words.data:
+        tell("authorizations, preferences and discussions are in memory alone: --data names a file for them")
+    ended = told_to_end()
+    runners = [
+        await listen(
+            app_of(gateway), (words.host, words.port), is_shared, access_log_class=CommonLog, access_log=None if words.quiet else CommonLog.sink(),
+            auto_decompress=False, max_line_size=LINE, max_field_size=LINE, keepalive_timeout=75,
+        ),
+    ]  # fmt: skip
+    if words.metrics and gateway.counts is not None:
+        runners.append(await listen(metrics.app_of(gateway, gateway.counts), words.metrics, is_shared, access_log=None))
+        metrics.look_again(gateway, gateway.counts)
+    if None in runners:
         return 6
     tell(f"http://{words.host}:{words.port} in front of http://{words.server.host}:{words.server.port}")
     if not os.path.isdir(LEAFLET):
         tell(f"there is no {LEAFLET}: the page has no map without Debian's libjs-leaflet")
-    for links in filter(None, (server, notes)):
-        links.rest()
+    begin(gateway)
     await ended.wait()
     tell("ending")
-    await runner.cleanup()
-    for links in filter(None, (server, notes)):
-        links.close()
-    store.close()
+    for runner in filter(None, runners):
+        await runner.cleanup()
+    end(gateway)
     tell("ended")
     return 0
 
@@ -117,10 +179,23 @@ def main() -> int:
     licensed(words)
     many_files()
     hear_faults()
+    common = Common.of(words)
+
+    def one(part: Words) -> int:
+        async def run_it() -> int:
+            return await serve(part, gateway_of(part, people, opened(part), common), common.shared is not None)
+
+        return asyncio.run(run_it())
+
     if words.processes == 1:
-        return asyncio.run(serve(words, people, opened(words)))
-    if is_taken(words.host, words.port):
+        return one(words)
+    if any(is_taken(*place) for place in ((words.host, words.port), words.metrics) if place):
         return 6
     opened(words).close()
-    shared, part = Shared(), replace(words, links=max(words.links // words.processes, 1), room=max(words.room // words.processes, 1))
-    return run(words.processes, lambda: asyncio.run(serve(part, people, opened(part), shared)))
+    part = replace(words, links=max(words.links // words.processes, 1), room=max(words.room // words.processes, 1))
+
+    def one_of_several(number: int) -> int:
+        common.begin(number)
+        return one(part)
+
+    return run(words.processes, one_of_several)

@@ -2,6 +2,7 @@
 
 from __future__ import annotations
 
+import os
 from collections.abc import Iterable
 from html import escape
 
@@ -9,12 +10,27 @@ from aiohttp import web
 
 CSP = "default-src 'none'; style-src 'self'; img-src 'self' data:; base-uri 'none'; frame-ancestors 'none'; form-action 'self'"
 
+FOLDER = os.path.join(os.path.dirname(os.path.dirname(os.path.abspath(__file__))), "page")
+HEAD = """<!DOCTYPE html>
+<html lang="en">
+<head>
+<meta charset="utf-8">
+<meta name="viewport" content="width=device-width, initial-scale=1">
+<link rel="icon" href="data:,">
+"""
+"""What each page begins with."""
+
+
+def of_file(name: str) -> str:
+    """A page whose file has what comes behind that."""
+    with open(os.path.join(FOLDER, name), encoding="utf-8") as file:
+        return HEAD + file.read()
+
 
 def page(title: str, *parts: str, status: int = 200, form_action: str = "") -> web.Response:
     """Parts are HTML; whoever writes them escapes what they are made of. `form_action` is where a form's reply may lead besides."""
     text = (
-        '<!DOCTYPE html>\n<html lang="en">\n<head>\n<meta charset="utf-8">\n<meta name="viewport" content="width=device-width, initial-scale=1">\n'
-        f'<title>{escape(title)}</title>\n<link rel="icon" href="data:,">\n<link rel="stylesheet" href="/page/form.css">\n</head>\n'
+        f'{HEAD}<title>{escape(title)}</title>\n<link rel="stylesheet" href="/page/form.css">\n</head>\n'
         f"<body>\n<main>\n<h1>{escape(title)}</h1>\n{''.join(parts)}</main>\n</body>\n</html>\n"
     )
     reply = web.Response(status=status, text=text, content_type="text/html", charset="utf-8")

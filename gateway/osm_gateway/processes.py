@@ -3,8 +3,10 @@
 from __future__ import annotations
 
 import asyncio
+import ctypes
 import fcntl
 import hashlib
+import mmap
 import os
 import signal
 import socket
@@ -43,6 +45,19 @@ class Shared:
         fcntl.lockf(self.file, fcntl.LOCK_UN, 1, self.place(key))
 
 
+class Columns:
+    """So many numbers for each process, which alone writes its own; all read all of them."""
+
+    def __init__(self, count: int, processes: int) -> None:
+        column = ctypes.c_double * count
+        self.all = [column.from_buffer(mmap.mmap(-1, ctypes.sizeof(column))) for _ in range(processes)]
+        self.own = self.all[0]
+
+    def begin(self, process: int) -> None:
+        """In a process that was started: which column is its own."""
+        self.own = self.all[process]
+
+
 def is_taken(host: str, port: int) -> bool:
     """Whether somebody else listens there: several processes at one address are let in beside anybody."""
     family = socket.AF_INET6 if ":" in host else socket.AF_INET
@@ -56,9 +71,9 @@ def is_taken(host: str, port: int) -> bool:
     return False
 
 
-def run(count: int, serve: Callable[[], int]) -> int:
-    """Runs it in so many processes. All end when this one is told to, or where one of them ends by itself; its status is the highest."""
-    children = {begin(serve) for _ in range(count)}
+def run(count: int, serve: Callable[[int], int]) -> int:
+    """Runs it in so many processes, each with its number from 0 on. All end when this one is told to, or where one of them ends by itself; its status is the highest."""
+    children = {begin(serve, number) for number in range(count)}
     told = False
 
     def end(*_: object) -> None:
@@ -67,8 +82,8 @@ def run(count: int, serve: Callable[[], int]) -> int:
         for child in children:
             os.kill(child, signal.SIGTERM)
 
-    for number in (signal.SIGTERM, signal.SIGINT):
-        signal.signal(number, end)
+    for it in (signal.SIGTERM, signal.SIGINT):
+        signal.signal(it, end)
     highest = 0
     while children:
         child, status = os.wait()
@@ -82,12 +97,12 @@ def run(count: int, serve: Callable[[], int]) -> int:
     return highest
 
 
-def begin(serve: Callable[[], int]) -> int:
+def begin(serve: Callable[[int], int], number: int) -> int:
     child = os.fork()
     if child == 0:
         status = 1
         try:
-            status = serve()
+            status = serve(number)
         except SystemExit as why:
             tell(str(why.code))
         finally:

@@ -3,6 +3,7 @@
 from __future__ import annotations
 
 import json
+import re
 import time
 from array import array
 from collections.abc import Callable
@@ -86,6 +87,11 @@ def missing(it: dict[str, Any], asked: Asked) -> str:
             "which either do not exist, or are not visible."
         )
     return f"Precondition failed: Relation with id {number} cannot be saved due to {it['type'].capitalize()} with id {it['id']}"
+
+
+def ways_nodes(text: str, ids: list[int]) -> str:
+    """The same of a way with all nodes that it wants for."""
+    return re.sub(r"\([0-9]+\)", f"({','.join(map(str, ids))})", text, count=1)
 
 
 def used(it: dict[str, Any], _: Asked) -> str:

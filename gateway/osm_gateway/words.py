@@ -9,7 +9,8 @@ from urllib.parse import urlsplit
 from .links import Address
 
 USAGE = """gateway/run --server URL --users FILE [--notes URL] [--listen ADDRESS] [--host NAME].. [--public-url URL] [--data FILE] [--id FOLDER]
-    [--rate N] [--guesses N] [--copyright TEXT] [--attribution URL] [--license URL] [--links N] [--room MB] [--processes N] [--quiet]"""
+    [--rate N] [--guesses N] [--copyright TEXT] [--attribution URL] [--license URL] [--links N] [--room MB] [--processes N]
+    [--mirrors URL,URL..] [--metrics ADDRESS] [--quiet]"""
 
 
 @dataclass(frozen=True)
@@ -36,6 +37,9 @@ class Words:
     licence: tuple[tuple[str, str], ...] = ()
     """Attributes of documents: `copyright`, `attribution`, `license`."""
     processes: int = 1
+    mirrors: tuple[Address, ...] = ()
+    metrics: tuple[str, int] | None = None
+    """Where the counts are shown."""
 
 
 LICENCE = ("copyright", "attribution", "license")
@@ -75,11 +79,15 @@ def read_words(words: list[str] | None = None) -> Words:
         parser.add_argument(f"--{name}", metavar="TEXT", help=f"the attribute {name} of documents and of the capabilities")
     parser.add_argument("--links", type=int, default=8, metavar="N", help="links to each server, at most its workers; 8 if not said")
     parser.add_argument("--processes", type=int, default=1, metavar="N", help="processes at the address, 1 if not said; more need --data")
+    parser.add_argument("--mirrors", default="", metavar="URL,URL", help="mirrors of the server, which answer reads in its place")
+    parser.add_argument("--metrics", default="", metavar="ADDRESS", help="where counts are shown to Prometheus, as 127.0.0.1:9100; else nowhere")
     parser.add_argument("--quiet", action="store_true", help="no line for each request")
     it = parser.parse_args(words)
     try:
         host, port = listening(it.listen)
+        metrics = listening(it.metrics) if it.metrics else None
         server, notes = Address.of(it.server), Address.of(it.notes) if it.notes else None
+        mirrors = tuple(Address.of(url) for url in it.mirrors.split(",")) if it.mirrors else ()
         public, name = public_of(it.public_url) if it.public_url else (None, host)
     except ValueError as why:
         parser.error(str(why))
@@ -91,8 +99,13 @@ def read_words(words: list[str] | None = None) -> Words:
         parser.error("--links takes a number from 1 to 64")
     if not 1 <= it.room <= 1_000_000:
         parser.error("--room takes a number from 1 to 1000000")
+    if len(set(mirrors)) < len(mirrors) or server in mirrors:
+        parser.error("--mirrors takes each address once, and not that of --server")
     if not 1 <= it.processes <= 64 or it.processes > 1 and not it.data:
         parser.error("--processes takes a number from 1 to 64, and from 2 on it needs --data")
     hosts = frozenset({host.lower(), name.lower(), "localhost", "127.0.0.1", "::1", *(name.lower() for name in it.host)})
     licence = tuple((name, getattr(it, name)) for name in LICENCE if getattr(it, name))
-    return Words(server, notes, it.users, host, port, hosts, public, it.links, it.room, it.quiet, it.data, it.id, it.rate, it.guesses, licence, it.processes)
+    return Words(
+        server, notes, it.users, host, port, hosts, public, it.links, it.room, it.quiet, it.data, it.id, it.rate, it.guesses, licence,
+        it.processes, mirrors, metrics,
+    )  # fmt: skip

@@ -102,6 +102,9 @@ def discussions(gateway: Gateway) -> None:
     gateway.well("POST", f"changeset/{number}/unsubscribe", "", BOB)
     refused(gateway, 404, "not subscribed", "POST", f"changeset/{number}/unsubscribe", "", BOB)
     gateway.well("POST", f"changeset/{number}/subscribe", "", BOB)
+    refused(gateway, 409, "already subscribed", "POST", f"changeset/{number}/subscription", "", BOB)
+    gateway.well("DELETE", f"changeset/{number}/subscription", "", BOB)
+    refused(gateway, 404, "not subscribed", "DELETE", f"changeset/{number}/subscription", "", BOB)
     first = rows[0].attrib["id"]
     refused(gateway, 403, "moderator", "POST", f"changeset/comment/{first}/hide", "", ALICE)
     gateway.well("POST", f"changeset/comment/{first}/hide", "", BOB)
@@ -127,8 +130,14 @@ def ids(gateway: Gateway, path: str, who: str = "") -> list[int]:
 
 def notes(gateway: Gateway) -> None:
     bench, tree = note(gateway, "a+Bench+here"), note(gateway, "a+tree", who=ALICE)
-    gateway.well("POST", f"notes/{tree}/comment?text=no+bench", "", BOB)
     gateway.well("POST", f"notes/{bench}/close?text=", "", ALICE)
+    gateway.well("POST", f"notes/{tree}/comment?text=no+bench", "", BOB)
+    refused(gateway, 401, "authenticate", "POST", f"notes/{tree}/subscription", "")
+    refused(gateway, 404, "no note", "POST", "notes/999/subscription", "", BOB)
+    gateway.well("POST", f"notes/{tree}/subscription", "", BOB)
+    refused(gateway, 409, "already subscribed", "POST", f"notes/{tree}/subscription", "", BOB)
+    gateway.well("DELETE", f"notes/{tree}/subscription", "", BOB)
+    refused(gateway, 404, "not subscribed", "DELETE", f"notes/{tree}/subscription", "", BOB)
     for query, found in (
         ("q=bench", {bench, tree}), ("q=bench+here", {bench}), ("q=bench&closed=0", {tree}), ("display_name=bob", {tree}), ("user=1", {bench, tree}),
         ("q=nothing", set()), ("q=a&from=2000-01-01&to=2001-01-01", set()), ("q=a&limit=1&sort=created_at", {tree}),

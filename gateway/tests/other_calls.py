@@ -110,6 +110,10 @@ def elements(gateway: Gateway) -> None:
     refused(gateway, 412, "Precondition failed: Relation with id 0 cannot be saved due to Way with id 99", "PUT", "relation/create", lost, ALICE)
     lost = f'<osm><way changeset="{changeset}" id="-5"><nd ref="99"/></way></osm>'
     refused(gateway, 412, "requires the nodes with id in (99), which either do not exist, or are not visible.", "PUT", "way/create", lost, ALICE)
+    lost = f'<osm><way changeset="{changeset}" id="-5"><nd ref="99"/><nd ref="{two}"/><nd ref="97"/><nd ref="99"/><nd ref="98"/></way></osm>'
+    refused(gateway, 412, "requires the nodes with id in (97,98,99), which either do not exist", "PUT", "way/create", lost, ALICE)
+    row = f'<osmChange><create><node id="-1" changeset="{changeset}" lat="1" lon="1"/>{lost[5:-6]}</create></osmChange>'
+    refused(gateway, 412, "Way -5 requires the nodes with id in (97,98,99), which", "POST", f"changeset/{changeset}/upload", row, ALICE)
     want(gateway.well("DELETE", f"way/{way_id}", f'<osm><way id="{way_id}" changeset="{changeset}" version="1"/></osm>', ALICE), "2", "a deletion")
     refused(gateway, 410, f"The way with the id {way_id} has already been deleted", "GET", f"way/{way_id}")
     want(ET.fromstring(gateway.well("GET", f"ways?ways={way_id}"))[0].attrib["visible"], "false", "what is deleted, among many")
