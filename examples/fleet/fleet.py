@@ -29,7 +29,8 @@ from functools import partial
 from typing import Any
 
 import scripts
-from running import ENGINES, HERE, USERS, Front, Process, Watch, Wrong, new_mirror, number, same_reads, script, url, wait_until
+from running import ENGINES, HERE, USERS, Front, Process, Watch, Wrong
+from running import new_mirror, number, same_reads, script, url, wait_until, with_token
 from serving import Link, Server, free_port
 
 TOP = os.path.join(HERE, "..", "..")
@@ -135,8 +136,8 @@ def level(fleet: Fleet, words: argparse.Namespace) -> None:
         while sum(1 for _ in open(fleet.kept, "rb")) < most and time.monotonic() < until:
             time.sleep(0.05)
         start_time = time.monotonic()
-        words_of_keep = [sys.executable, os.path.join(HERE, "keep.py"), fleet.kept, "--feed", url(new.port), "--token", "bobtoken"]
-        subprocess.run(words_of_keep, check=True, stdout=subprocess.DEVNULL)
+        words_of_keep = [sys.executable, os.path.join(HERE, "keep.py"), fleet.kept, "--feed", url(new.port)]
+        subprocess.run(words_of_keep, check=True, stdout=subprocess.DEVNULL, env=with_token())
         seconds = time.monotonic() - start_time
         same_reads(fleet.server.port, new.port, "the mirror of the file", fleet.uploads)
     print(f"a new mirror has the file's {most} pieces after {seconds:.2f} s, and its reads are the server's", flush=True)

@@ -54,6 +54,11 @@ def number(port: int) -> int:
     return int(reply.read()["sequenceNumber"])
 
 
+def with_token() -> dict[str, str]:
+    """The environment with a moderator's token, since the words of a program can be read by everybody."""
+    return os.environ | {"HEGUNSAP_TOKEN": "bobtoken"}
+
+
 class Process:
     """A command that runs from `start` to `kill`, again and again; `said` has the lines of its last run."""
 
@@ -62,7 +67,7 @@ class Process:
         self.start()
 
     def start(self) -> None:
-        self.process = subprocess.Popen(self.words, stderr=subprocess.PIPE, stdout=subprocess.DEVNULL, text=True)
+        self.process = subprocess.Popen(self.words, stderr=subprocess.PIPE, stdout=subprocess.DEVNULL, text=True, env=with_token())
         self.said: list[str] = []
         self.reader = threading.Thread(target=self.read, args=(self.process, self.said), daemon=True)
         self.reader.start()
@@ -84,7 +89,7 @@ class Process:
 
 def script(name: str, *words: str) -> Process:
     """One of this folder's programs, with a moderator's token."""
-    return Process([sys.executable, os.path.join(HERE, name), *words, "--token", "bobtoken"])
+    return Process([sys.executable, os.path.join(HERE, name), *words])
 
 
 class EngineRun(Protocol):

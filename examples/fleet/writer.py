@@ -1,5 +1,5 @@
 #!/usr/bin/python3
-"""Brings a server's pieces into the engine: examples/fleet/writer.py --server URL --token TOKEN --engine redis://127.0.0.1:6380
+"""Brings a server's pieces into the engine: examples/fleet/writer.py --server URL --token-file FILE --engine redis://127.0.0.1:6380
 
 Goes on behind the last piece that the engine has, until it is ended. It asks the server for the piece that comes next each 10 milliseconds
 on a kept link, and for more at once where there is more. Status 3 where the server has another journal than the engine, since it was
@@ -61,8 +61,9 @@ class Writer:
 
 def main() -> int:
     parser = argparse.ArgumentParser(usage=scripts.usage(__doc__))
-    for name in ("--server", "--token", "--engine"):
-        parser.add_argument(name, required=True)
+    parser.add_argument("--server", required=True)
+    scripts.add_engine(parser)
+    scripts.add_token(parser)
     parser.add_argument("--new", action="store_true", help="begin a new journal in the engine")
     words = parser.parse_args()
     return scripts.run("writer", lambda: Writer(words.server, words.token, words.engine).run(words.new))
