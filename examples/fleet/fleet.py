@@ -9,6 +9,7 @@ ports of the loopback. Status 0 where all is as it should be. The parts:
   the server's byte for byte, those of a mirror too that was fed from the file of keep.py;
 - news: how long after the reply to an upload all four mirrors have it;
 - reads: by wrk, through nginx with 1, 2 and 4 mirrors, for so many seconds each;
+- untold: a Redis that forbids CONFIG is refused by the writer, and taken where it is told to trust it;
 - anew: the server is killed and started again; the writer tells of the other journal, and nothing of it comes to a mirror.
 
 Needs Debian's nginx-light, redis-server and python3-redis (or postgresql and python3-psycopg2), and wrk where there are seconds.
@@ -29,14 +30,15 @@ from functools import partial
 from typing import Any
 
 import scripts
-from running import ENGINES, HERE, USERS, Front, Process, Watch, Wrong
+from engine import open_engine
+from running import ENGINES, HERE, USERS, Front, Process, Redis, Watch, Wrong
 from running import new_mirror, number, same_reads, script, url, wait_until, with_token
 from serving import Link, Server, free_port
 
 TOP = os.path.join(HERE, "..", "..")
 SERVER_WORKERS = 12
 MIRRORS = 4
-PARTS = ("level", "news", "reads", "anew")
+PARTS = ("level", "news", "reads", "untold", "anew")
 MOST_NEWS = 0.05  # seconds
 
 
@@ -184,6 +186,38 @@ def reads_a_second(port: int, seconds: int) -> float:
     return float(found[1])
 
 
+def untold(fleet: Fleet, words: argparse.Namespace) -> None:
+    if words.engine != "redis":
+        return
+    fleet.edit_through(fleet.server.port)
+    fleet.upload(5)
+    wanted = number(fleet.server.port)
+    runs = (("forbids", ("--rename-command", "CONFIG", "")), ("loses", ("--appendfsync", "everysec")))
+    for name, more in runs:
+        redis = Redis(fleet.folder, name, more)
+        fleet.stack.callback(redis.kill)
+        ends = ("--server", url(fleet.server.port), "--engine", redis.url)
+        check_end(fleet.add("writer.py", *ends), "--trust-engine" if name == "forbids" else "everysec", 1)
+        trusting = fleet.add("writer.py", *ends, "--trust-engine")
+        if name == "loses":
+            check_end(trusting, "everysec", 1)
+            continue
+        until = time.monotonic() + 30
+        while (has := pieces_of(redis.url)) != wanted:
+            if time.monotonic() > until:
+                raise Wrong(f"a writer that trusts its engine has brought {has} of {wanted} pieces: {trusting.said}")
+            time.sleep(0.1)
+    print("a Redis that forbids CONFIG is refused, and taken with --trust-engine; one that says that it may lose pieces is refused with it too")
+
+
+def pieces_of(address: str) -> int:
+    engine = open_engine(address)
+    try:
+        return engine.ends(engine.journal()).number
+    finally:
+        engine.close()
+
+
 def anew(fleet: Fleet, _: argparse.Namespace) -> None:
     fleet.edit_through(fleet.server.port)
     fleet.upload(5)
@@ -224,9 +258,9 @@ def answers(port: int) -> list[bytes]:
     return [link.ask("GET", path).body for path in ("replication/state", "changesets", "map?bbox=11.5,48.1,11.6,48.2")]
 
 
-def check_end(process: Process, text: str) -> None:
+def check_end(process: Process, text: str, wanted: int = 3) -> None:
     status = process.end()
-    if status != 3 or not any(text in line for line in process.said):
+    if status != wanted or not any(text in line for line in process.said):
         raise Wrong(f"{' '.join(process.words[1:3])} ended with status {status}: {process.said}")
 
 

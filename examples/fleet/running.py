@@ -105,14 +105,16 @@ class EngineRun(Protocol):
 
 
 class Redis:
-    def __init__(self, folder: str) -> None:
-        self.folder, self.port = os.path.join(folder, "redis"), free_port()
+    """With the lines of redis.conf, and some words behind them."""
+
+    def __init__(self, folder: str, name: str = "redis", more: tuple[str, ...] = ()) -> None:
+        self.folder, self.port, self.more = os.path.join(folder, name), free_port(), more
         os.mkdir(self.folder)
         self.url = f"redis://127.0.0.1:{self.port}"
         self.start()
 
     def start(self) -> None:
-        words = ["redis-server", os.path.join(HERE, "redis.conf"), "--dir", self.folder, "--port", str(self.port)]
+        words = ["redis-server", os.path.join(HERE, "redis.conf"), "--dir", self.folder, "--port", str(self.port), *self.more]
         self.process = subprocess.Popen(words, stdout=subprocess.DEVNULL)
 
     def kill(self) -> None:
