@@ -4,7 +4,6 @@ from __future__ import annotations
 
 import os
 import pwd
-import re
 import shutil
 import signal
 import subprocess
@@ -185,17 +184,16 @@ class Watch(threading.Thread):
 
 
 class Front:
-    """nginx before a server and some of the mirrors."""
+    """nginx before a server and mirrors, which are all in; `key` tells readers apart."""
 
-    def __init__(self, folder: str, server: int, mirrors: list[int], processes: int) -> None:
+    def __init__(self, folder: str, server: int, mirrors: list[int], processes: int, key: str = "$remote_addr") -> None:
         self.folder, self.port = folder, free_port()
+        self.included, self.pid = os.path.join(folder, "mirrors.conf"), os.path.join(folder, "nginx.pid")
         with open(os.path.join(HERE, "nginx.conf"), encoding="utf-8") as file:
             text = file.read().replace("127.0.0.1:8080;", f"127.0.0.1:{server};").replace("127.0.0.1:8090;", f"127.0.0.1:{self.port};")
-        for place in range(4):
-            line = rf"    server 127\.0\.0\.1:{8081 + place} .*\n"
-            wanted = mirrors[place : place + 1]
-            text = re.sub(line, lambda it: "".join(it[0].replace(str(8081 + place), str(port)) for port in wanted), text)
-        for path, what in (("site.conf", text), ("main.conf", MAIN.format(folder=folder, processes=processes))):
+        text = text.replace("/var/lib/hegunsap-fleet-level/mirrors.conf", self.included).replace("$remote_addr", key)
+        included = "".join(f"server 127.0.0.1:{port} max_fails=1 fail_timeout=2s;\n" for port in mirrors)
+        for path, what in (("site.conf", text), ("main.conf", MAIN.format(folder=folder, processes=processes)), ("mirrors.conf", included)):
             with open(os.path.join(folder, path), "w", encoding="utf-8") as file:
                 file.write(what)
         os.chmod(folder, 0o755)
