@@ -289,10 +289,12 @@ def all_behind(fleet: Fleet, front: Front) -> str:
         wait_for(front, port, False)
     wait_until_read(front.port, f"node/{fleet.uploads}")
     os.kill(fleet.server.pid, signal.SIGSTOP)
-    for port in fleet.ports:
-        wait_for(front, port, True)
-    wait_until_read(front.port, "node/1")
-    os.kill(fleet.server.pid, signal.SIGCONT)
+    try:
+        for port in fleet.ports:
+            wait_for(front, port, True)
+        wait_until_read(front.port, "node/1")
+    finally:
+        os.kill(fleet.server.pid, signal.SIGCONT)
     for carrier in fleet.carriers:
         carrier.start()
     fleet.level("a mirror")
