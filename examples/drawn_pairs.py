@@ -22,6 +22,8 @@ import subprocess
 import sys
 from typing import Any
 
+from serving import tell_faults
+
 HERE = os.path.dirname(os.path.abspath(__file__))
 KINDS = ("node", "way", "relation")
 PAIRS_OF_A_ROW = 100
@@ -157,10 +159,7 @@ def main() -> int:
         for match in found:
             counts = [a + int(b) for a, b in zip(counts, match.groups(), strict=True)]
     print(f"{it.pairs} pairs in {rows} rows: {counts[0]} commits fast, {counts[1]} slow by a count, {counts[2]} by users; {counts[3]} refused")
-    for fault in faults[:3]:
-        print("wrong:", fault)
-    print(f"{len(faults)} wrong")
-    return 1 if faults else 0
+    return tell_faults(faults, 3)
 
 
 if __name__ == "__main__":

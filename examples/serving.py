@@ -10,7 +10,7 @@ import subprocess
 import sys
 import tempfile
 import time
-from collections.abc import Iterable, Iterator
+from collections.abc import Iterable, Iterator, Sequence
 from typing import Any, NamedTuple
 
 TICKS: int = os.sysconf("SC_CLK_TCK")
@@ -100,6 +100,14 @@ class Link:
         if self.stream is not None:
             self.stream.close()
             self.stream = None
+
+
+def tell_faults(faults: Sequence[str], most: int = 20) -> int:
+    """Prints the first of them, and how many there are; with the status that a trial ends with."""
+    for fault in faults[:most]:
+        print("wrong:", fault)
+    print(f"{len(faults)} wrong")
+    return 1 if faults else 0
 
 
 def family(pid: int) -> list[int]:

@@ -23,7 +23,7 @@ import tempfile
 import threading
 import time
 
-from serving import Lost, Replies, connect, free_port, request
+from serving import Lost, Replies, connect, free_port, request, tell_faults
 
 HERE = os.path.dirname(os.path.abspath(__file__))
 PROGRAM = os.path.join(HERE, "..", "crates", "osm", "out", "osm")
@@ -164,10 +164,7 @@ def main() -> int:
         return 2
     wrong = try_stop([it.program], it.links, it.seconds, it.wait)
     wrong += try_full([it.program], it.wait)
-    for fault in wrong[:20]:
-        print("wrong:", fault)
-    print(f"{len(wrong)} wrong")
-    return 1 if wrong else 0
+    return tell_faults(wrong)
 
 
 if __name__ == "__main__":

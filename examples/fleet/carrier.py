@@ -1,5 +1,5 @@
 #!/usr/bin/python3
-"""Brings a mirror the engine's pieces: examples/fleet/carrier.py --mirror URL --token TOKEN --engine redis://127.0.0.1:6380
+"""Brings a mirror the engine's pieces: examples/fleet/carrier.py --mirror URL --token-file FILE --engine redis://127.0.0.1:6380
 
 Waits at the engine for news, and goes on until it is ended. Which piece comes next the mirror says, so nothing is kept here; a mirror that
 was started anew gets all of them. The token is a moderator's at the mirror. Status 3 where the mirror has another journal than the engine,
@@ -103,8 +103,9 @@ class Carrier:
 
 def main() -> int:
     parser = argparse.ArgumentParser(usage=scripts.usage(__doc__))
-    for name in ("--mirror", "--token", "--engine"):
-        parser.add_argument(name, required=True)
+    parser.add_argument("--mirror", required=True)
+    scripts.add_engine(parser)
+    scripts.add_token(parser)
     words = parser.parse_args()
     return scripts.run("carrier", Carrier(words.mirror, words.token, words.engine).run)
 

@@ -26,6 +26,9 @@ class Engine(Protocol):
     A journal that is begun anew has another name, so that nobody who reads the old one is given anything of it.
     """
 
+    def check_keeping(self, is_trusted: bool) -> None:
+        """Raises Unusable where what is added may not be on the disk when it is answered; what it doesn't tell may be trusted to be so."""
+
     def journal(self) -> str:
         """The current journal's name; empty where there never was one."""
 
@@ -57,7 +60,7 @@ def open_engine(url: str) -> Engine:
     sys.path.append(os.path.join(os.path.dirname(os.path.abspath(__file__)), ".."))
     from packages import need
 
-    if url.startswith("redis://"):
+    if url.startswith(("redis://", "rediss://")):
         need("redis")
         from redis_engine import RedisEngine
 

@@ -9,6 +9,8 @@ ports of the loopback. Status 0 where all is as it should be. The parts:
   the server's byte for byte, those of a mirror too that was fed from the file of keep.py;
 - news: how long after the reply to an upload all four mirrors have it;
 - reads: by wrk, through nginx with 1, 2 and 4 mirrors, for so many seconds each;
+- untold: a Redis that forbids CONFIG is refused by the writer, and taken where it is told to trust it;
+- taken: level.py takes mirrors out of nginx that were started with an empty map or whose carriers are killed, and puts them back;
 - anew: the server is killed and started again; the writer tells of the other journal, and nothing of it comes to a mirror.
 
 Needs Debian's nginx-light, redis-server and python3-redis (or postgresql and python3-psycopg2), and wrk where there are seconds.
@@ -19,6 +21,7 @@ from __future__ import annotations
 import argparse
 import os
 import re
+import signal
 import subprocess
 import sys
 import tempfile
@@ -29,13 +32,16 @@ from functools import partial
 from typing import Any
 
 import scripts
-from running import ENGINES, HERE, USERS, Front, Process, Watch, Wrong, new_mirror, number, same_reads, script, url, wait_until
+from engine import open_engine
+from levels import PAUSE, Readers, empty_without, lines_of, wait_for, wait_until_read
+from running import ENGINES, HERE, USERS, Front, Process, Redis, Watch, Wrong
+from running import new_mirror, number, same_reads, script, url, wait_until, with_token
 from serving import Link, Server, free_port
 
 TOP = os.path.join(HERE, "..", "..")
 SERVER_WORKERS = 12
 MIRRORS = 4
-PARTS = ("level", "news", "reads", "anew")
+PARTS = ("level", "news", "reads", "untold", "taken", "anew")
 MOST_NEWS = 0.05  # seconds
 
 
@@ -97,6 +103,13 @@ class Fleet:
     def start_mirror(self, place: int) -> None:
         self.mirrors[place] = new_mirror(self.mirror_program, self.ports[place])
 
+    def restart_empty(self, place: int, pause: float) -> None:
+        """A mirror that is started anew, and isn't given any piece yet."""
+        self.carriers[place].kill()
+        self.kill_mirror(place)
+        time.sleep(pause)
+        self.start_mirror(place)
+
     def check_reads(self) -> int:
         return min(same_reads(self.server.port, port, f"mirror {place}", self.uploads) for place, port in enumerate(self.ports, 1))
 
@@ -135,8 +148,8 @@ def level(fleet: Fleet, words: argparse.Namespace) -> None:
         while sum(1 for _ in open(fleet.kept, "rb")) < most and time.monotonic() < until:
             time.sleep(0.05)
         start_time = time.monotonic()
-        words_of_keep = [sys.executable, os.path.join(HERE, "keep.py"), fleet.kept, "--feed", url(new.port), "--token", "bobtoken"]
-        subprocess.run(words_of_keep, check=True, stdout=subprocess.DEVNULL)
+        words_of_keep = [sys.executable, os.path.join(HERE, "keep.py"), fleet.kept, "--feed", url(new.port)]
+        subprocess.run(words_of_keep, check=True, stdout=subprocess.DEVNULL, env=with_token())
         seconds = time.monotonic() - start_time
         same_reads(fleet.server.port, new.port, "the mirror of the file", fleet.uploads)
     print(f"a new mirror has the file's {most} pieces after {seconds:.2f} s, and its reads are the server's", flush=True)
@@ -169,7 +182,8 @@ def reads(fleet: Fleet, words: argparse.Namespace) -> None:
     fleet.upload()
     fleet.level("a mirror")
     for count in (1, 2, 4):
-        with Front(fleet.folder, fleet.server.port, fleet.ports[:count], 2) as front:
+        # wrk has one address: here each of its links is a reader of its own.
+        with Front(fleet.folder, fleet.server.port, fleet.ports[:count], 2, "$remote_addr$remote_port") as front:
             print(f"{count} mirrors: {reads_a_second(front.port, words.seconds):.0f} reads a second through nginx")
     print(f"straight at one mirror: {reads_a_second(fleet.ports[0], words.seconds):.0f} reads a second", flush=True)
 
@@ -181,6 +195,112 @@ def reads_a_second(port: int, seconds: int) -> float:
     if found is None or "Non-2xx" in told:
         raise Wrong(told)
     return float(found[1])
+
+
+def untold(fleet: Fleet, words: argparse.Namespace) -> None:
+    if words.engine != "redis":
+        return
+    fleet.edit_through(fleet.server.port)
+    fleet.upload(5)
+    wanted = number(fleet.server.port)
+    runs = (("forbids", ("--rename-command", "CONFIG", "")), ("loses", ("--appendfsync", "everysec")))
+    for name, more in runs:
+        redis = Redis(fleet.folder, name, more)
+        fleet.stack.callback(redis.kill)
+        ends = ("--server", url(fleet.server.port), "--engine", redis.url)
+        check_end(fleet.add("writer.py", *ends), "--trust-engine" if name == "forbids" else "everysec", 1)
+        trusting = fleet.add("writer.py", *ends, "--trust-engine")
+        if name == "loses":
+            check_end(trusting, "everysec", 1)
+            continue
+        until = time.monotonic() + 30
+        while (has := pieces_of(redis.url)) != wanted:
+            if time.monotonic() > until:
+                raise Wrong(f"a writer that trusts its engine has brought {has} of {wanted} pieces: {trusting.said}")
+            time.sleep(0.1)
+    print("a Redis that forbids CONFIG is refused, and taken with --trust-engine; one that says that it may lose pieces is refused with it too")
+
+
+def pieces_of(address: str) -> int:
+    engine = open_engine(address)
+    try:
+        return engine.ends(engine.journal()).number
+    finally:
+        engine.close()
+
+
+def taken(fleet: Fleet, _: argparse.Namespace) -> None:
+    fleet.edit_through(fleet.server.port)
+    fleet.upload(20)
+    fleet.level("a mirror")
+    with Front(fleet.folder, fleet.server.port, fleet.ports, 2) as front:
+        empty = empty_without(front, partial(fleet.restart_empty, 0, 0))
+        if not empty:
+            raise Wrong("a fresh mirror in rotation answers nobody with an empty map, so the trial below would find nothing")
+        fleet.carriers[0].start()
+        fleet.level("a mirror")
+        named = [word for port in fleet.ports for word in ("--mirror", url(port))]
+        words = ["--server", url(fleet.server.port), *named, "--write", front.included, "--pid", front.pid]
+        guard = fleet.add("level.py", *words, "--most", "10", "--seconds", "5")
+        try:
+            told = f"a fresh mirror in rotation: {empty} replies of an empty map, and with level.py {fresh_is_out(fleet, front)}"
+            print(f"{told}; {carriers_die(fleet, front)}; {all_behind(fleet, front)}", flush=True)
+        except Wrong as why:
+            raise Wrong(f"{why}; level.py said {guard.said[-8:]}") from why
+        guard.kill()
+
+
+def fresh_is_out(fleet: Fleet, front: Front) -> str:
+    time.sleep(3)
+    readers = Readers(front.port, "node/1")
+    fleet.restart_empty(0, PAUSE)
+    time.sleep(3)
+    if lines_of(front)[fleet.ports[0]]:
+        raise Wrong("an empty mirror is in")
+    fleet.carriers[0].start()
+    wait_for(front, fleet.ports[0], True)
+    readers.end()
+    if readers.wrong:
+        raise Wrong(f"{len(readers.wrong)} of {readers.count} reads: {readers.wrong[0]}")
+    return f"none of {readers.count}"
+
+
+def carriers_die(fleet: Fleet, front: Front) -> str:
+    """A mirror is out by the seconds, and one by its number of pieces."""
+    told = []
+    for place, uploads, reason in ((2, 5, "by the seconds"), (3, 20, "by the pieces")):
+        fleet.carriers[place].kill()
+        fleet.edit_through(fleet.server.port)  # the link of before has been silent for long
+        fleet.upload(uploads)
+        seconds = wait_for(front, fleet.ports[place], False)
+        wait_until_read(front.port, f"node/{fleet.uploads}")
+        fleet.carriers[place].start()
+        told.append(f"{seconds:.1f} s {reason}, and in again {wait_for(front, fleet.ports[place], True):.1f} s behind its start")
+    return f"a killed carrier's mirror is out within {'; '.join(told)}"
+
+
+def all_behind(fleet: Fleet, front: Front) -> str:
+    """The server is read where no mirror is level, and the mirrors again where it doesn't answer."""
+    for carrier in fleet.carriers:
+        carrier.kill()
+    fleet.edit_through(fleet.server.port)
+    fleet.upload(20)
+    for port in fleet.ports:
+        wait_for(front, port, False)
+    wait_until_read(front.port, f"node/{fleet.uploads}")
+    os.kill(fleet.server.pid, signal.SIGSTOP)
+    try:
+        for port in fleet.ports:
+            wait_for(front, port, True)
+        wait_until_read(front.port, "node/1")
+    finally:
+        os.kill(fleet.server.pid, signal.SIGCONT)
+    for carrier in fleet.carriers:
+        carrier.start()
+    fleet.level("a mirror")
+    for port in fleet.ports:
+        wait_for(front, port, True)
+    return "where no mirror is level the server is read, and where it doesn't answer the mirrors are in again"
 
 
 def anew(fleet: Fleet, _: argparse.Namespace) -> None:
@@ -223,9 +343,9 @@ def answers(port: int) -> list[bytes]:
     return [link.ask("GET", path).body for path in ("replication/state", "changesets", "map?bbox=11.5,48.1,11.6,48.2")]
 
 
-def check_end(process: Process, text: str) -> None:
+def check_end(process: Process, text: str, wanted: int = 3) -> None:
     status = process.end()
-    if status != 3 or not any(text in line for line in process.said):
+    if status != wanted or not any(text in line for line in process.said):
         raise Wrong(f"{' '.join(process.words[1:3])} ended with status {status}: {process.said}")
 
 

@@ -1,6 +1,6 @@
 #!/usr/bin/python3
-"""Keeps a server's journal in a file, a piece a line: examples/fleet/keep.py FILE --server URL --token TOKEN
-Or brings a mirror what such a file has: examples/fleet/keep.py FILE --feed MIRROR --token TOKEN
+"""Keeps a server's journal in a file, a piece a line: examples/fleet/keep.py FILE --server URL --token-file FILE
+Or brings a mirror what such a file has: examples/fleet/keep.py FILE --feed MIRROR --token-file FILE
 
 Lines are written and flushed to the disk (fsync) before more pieces are asked for. A last line that was cut off is cut away. The first and
 the last piece of the file are compared with the server's on each link: the file of another journal is left alone, status 3, and so is a
@@ -83,7 +83,7 @@ def give(path: str, url: str, token: str) -> None:
 def main() -> int:
     parser = argparse.ArgumentParser(description="Keeps a server's journal in a file, or brings a mirror what such a file has.")
     parser.add_argument("file")
-    parser.add_argument("--token", required=True)
+    scripts.add_token(parser)
     which = parser.add_mutually_exclusive_group(required=True)
     which.add_argument("--server")
     which.add_argument("--feed")

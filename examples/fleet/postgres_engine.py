@@ -40,9 +40,12 @@ class PostgresEngine:
             self.rows("select pg_advisory_lock(hashtext('hegunsap'))")  # two that begin at once would both make the tables
             self.rows(TABLES + "select pg_advisory_unlock(hashtext('hegunsap'))")
             self.rows(f"listen {CHANNEL}; select 1")
+
+    def check_keeping(self, is_trusted: bool) -> None:
+        with asked():
             kept = self.rows("select current_setting('fsync'), current_setting('synchronous_commit')")[0]
         if kept[0] != "on" or kept[1] == "off":
-            raise Unusable(f"{url} doesn't bring each piece to the disk before it answers: fsync and synchronous_commit have to be on")
+            raise Unusable("postgresql doesn't bring each piece to the disk before it answers: fsync and synchronous_commit have to be on")
 
     def rows(self, query: str, *values: object) -> list[Any]:
         with self.link.cursor() as cursor:

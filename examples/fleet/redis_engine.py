@@ -42,9 +42,25 @@ class RedisEngine:
         self.link: Any = redis.Redis.from_url(url, socket_timeout=SECONDS)
         self.script: Any = self.link.register_script(ADD)
         with asked():
-            kept = {**self.link.config_get("appendonly"), **self.link.config_get("appendfsync")}
+            self.link.ping()
+
+    def check_keeping(self, is_trusted: bool) -> None:
+        """Many that run for others forbid CONFIG. One that tells otherwise isn't believed to keep, whatever the operator says."""
+        try:
+            with asked():
+                kept = {**self.link.config_get("appendonly"), **self.link.config_get("appendfsync")}
+        except EngineLost as why:
+            if not isinstance(why.__cause__, redis.ResponseError):
+                raise
+            if not is_trusted:
+                raise untold(why) from why
+            return
+        if not kept and is_trusted:
+            return
+        if not kept:
+            raise untold("redis: CONFIG GET tells nothing")
         if kept != {"appendonly": "yes", "appendfsync": "always"}:
-            raise Unusable(f"{url} doesn't bring each piece to the disk before it answers: redis.conf in this folder has the lines for it")
+            raise Unusable(f"redis doesn't bring each piece to the disk before it answers, but has {kept}: redis.conf has the lines for it")
 
     def journal(self) -> str:
         with asked():
@@ -89,6 +105,10 @@ class RedisEngine:
 
     def close(self) -> None:
         self.link.close()
+
+
+def untold(why: object) -> Unusable:
+    return Unusable(f"{why}; so whether it has a piece on the disk before it answers isn't known. Who knows that it does says --trust-engine")
 
 
 def number_of(entry: tuple[bytes, Any]) -> int:

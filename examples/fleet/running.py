@@ -4,7 +4,6 @@ from __future__ import annotations
 
 import os
 import pwd
-import re
 import shutil
 import signal
 import subprocess
@@ -54,6 +53,11 @@ def number(port: int) -> int:
     return int(reply.read()["sequenceNumber"])
 
 
+def with_token() -> dict[str, str]:
+    """The environment with a moderator's token, since the words of a program can be read by everybody."""
+    return os.environ | {"HEGUNSAP_TOKEN": "bobtoken"}
+
+
 class Process:
     """A command that runs from `start` to `kill`, again and again; `said` has the lines of its last run."""
 
@@ -62,7 +66,7 @@ class Process:
         self.start()
 
     def start(self) -> None:
-        self.process = subprocess.Popen(self.words, stderr=subprocess.PIPE, stdout=subprocess.DEVNULL, text=True)
+        self.process = subprocess.Popen(self.words, stderr=subprocess.PIPE, stdout=subprocess.DEVNULL, text=True, env=with_token())
         self.said: list[str] = []
         self.reader = threading.Thread(target=self.read, args=(self.process, self.said), daemon=True)
         self.reader.start()
@@ -84,7 +88,7 @@ class Process:
 
 def script(name: str, *words: str) -> Process:
     """One of this folder's programs, with a moderator's token."""
-    return Process([sys.executable, os.path.join(HERE, name), *words, "--token", "bobtoken"])
+    return Process([sys.executable, os.path.join(HERE, name), *words])
 
 
 class EngineRun(Protocol):
@@ -100,14 +104,16 @@ class EngineRun(Protocol):
 
 
 class Redis:
-    def __init__(self, folder: str) -> None:
-        self.folder, self.port = os.path.join(folder, "redis"), free_port()
+    """With the lines of redis.conf, and some words behind them."""
+
+    def __init__(self, folder: str, name: str = "redis", more: tuple[str, ...] = ()) -> None:
+        self.folder, self.port, self.more = os.path.join(folder, name), free_port(), more
         os.mkdir(self.folder)
         self.url = f"redis://127.0.0.1:{self.port}"
         self.start()
 
     def start(self) -> None:
-        words = ["redis-server", os.path.join(HERE, "redis.conf"), "--dir", self.folder, "--port", str(self.port)]
+        words = ["redis-server", os.path.join(HERE, "redis.conf"), "--dir", self.folder, "--port", str(self.port), *self.more]
         self.process = subprocess.Popen(words, stdout=subprocess.DEVNULL)
 
     def kill(self) -> None:
@@ -178,17 +184,16 @@ class Watch(threading.Thread):
 
 
 class Front:
-    """nginx before a server and some of the mirrors."""
+    """nginx before a server and mirrors, which are all in; `key` tells readers apart."""
 
-    def __init__(self, folder: str, server: int, mirrors: list[int], processes: int) -> None:
+    def __init__(self, folder: str, server: int, mirrors: list[int], processes: int, key: str = "$remote_addr") -> None:
         self.folder, self.port = folder, free_port()
+        self.included, self.pid = os.path.join(folder, "mirrors.conf"), os.path.join(folder, "nginx.pid")
         with open(os.path.join(HERE, "nginx.conf"), encoding="utf-8") as file:
             text = file.read().replace("127.0.0.1:8080;", f"127.0.0.1:{server};").replace("127.0.0.1:8090;", f"127.0.0.1:{self.port};")
-        for place in range(4):
-            line = rf"    server 127\.0\.0\.1:{8081 + place} .*\n"
-            wanted = mirrors[place : place + 1]
-            text = re.sub(line, lambda it: "".join(it[0].replace(str(8081 + place), str(port)) for port in wanted), text)
-        for path, what in (("site.conf", text), ("main.conf", MAIN.format(folder=folder, processes=processes))):
+        text = text.replace("/var/lib/hegunsap-fleet-level/mirrors.conf", self.included).replace("$remote_addr", key)
+        included = "".join(f"server 127.0.0.1:{port} max_fails=1 fail_timeout=2s;\n" for port in mirrors)
+        for path, what in (("site.conf", text), ("main.conf", MAIN.format(folder=folder, processes=processes)), ("mirrors.conf", included)):
             with open(os.path.join(folder, path), "w", encoding="utf-8") as file:
                 file.write(what)
         os.chmod(folder, 0o755)

@@ -1,16 +1,18 @@
 #!/usr/bin/python3
-"""Has mirrors take over from a server that is gone for good: examples/fleet/takeover.py [--program PROGRAM] [--mirror PROGRAM]
-    [--rounds 4] [--seconds 2] [--seed 1]
+"""Has mirrors take over from a server that is gone for good, by promote: examples/fleet/takeover.py [--program PROGRAM]
+    [--mirror PROGRAM] [--engine postgresql] [--rounds 10] [--seconds 2] [--pause 0.02] [--seed 1]
 
-Starts `osm serve --journal` and two mirrors with a journal each, on free ports of the loopback, brings each piece to both, and uploads.
-After a drawn time the server is killed, and its file is thrown away. Of the mirrors the one that has more pieces is ended, and
-`osm serve --journal` goes on from its file; the other one follows that server on, and a new mirror comes to it with an empty file. In
-each round all of this holds:
+Starts `osm serve --journal`, an engine, writer.py, and three mirrors with a journal and a carrier each, on free ports of the loopback. First
+promote has to refuse what it can't do (refused.py). Then, in each round, eight links upload, each so many seconds behind its last reply, and
+after a drawn time the server is killed and its file put away. By turns everything else runs on; or the carriers were killed one after another before, so that the engine has what no
+mirror has; or the engine is killed too and thrown away. By turns promote does all itself (--run), or what it prints is done. Then
 
-- the new server answers nine kinds of reads as that mirror did, byte for byte, the number of its pieces among them;
-- what is uploaded from then on comes to both mirrors, and each answers as the server does.
+- the new server's text is a beginning of the old one's, and has all that a mirror or the engine had;
+- where promote prints, the new server answers nine kinds of reads as the mirror did, byte for byte;
+- eight links upload again, and each mirror answers as the server does: the two that are left, and a new one with an empty file or, where
+  promote prints, with a copy of the server's.
 
-What neither mirror had is lost with the server. Status 0 where all holds.
+It tells how many answered uploads are lost, and how long before the server's end the first of them was answered. Status 0 where all holds.
 """
 
 from __future__ import annotations
@@ -18,102 +20,145 @@ from __future__ import annotations
 import argparse
 import os
 import random
+import shutil
 import sys
 import tempfile
 import threading
 import time
+from contextlib import ExitStack
 
-from running import MIRROR_WORKERS, USERS, Wrong, kinds_of_reads, number, same_reads, wait_until
-from serving import Link, Lost, Server
+import scripts
+from promoted import Answered, Mirrored, Promoted, run_promote, text_is_beginning
+from promotion import Text
+from refused import try_refusals
+from running import ENGINES, HERE, USERS, Process, Wrong, kinds_of_reads, number, same_reads, script, url, wait_until
+from serving import Link, Lost, Server, free_port
 
-HERE = os.path.dirname(os.path.abspath(__file__))
 OUT = os.path.join(HERE, "..", "..", "crates")
-SERVER_WORKERS = 8
-ADDED = 20  # uploads behind each takeover
-
-
-class Carrier(threading.Thread):
-    """Brings a server's pieces to a mirror, one after another, until one of them is gone."""
-
-    def __init__(self, server: int, mirror: int) -> None:
-        super().__init__(daemon=True)
-        self.links = Link(server, "bobtoken", 900), Link(mirror, "bobtoken", 900)
-        self.goes_on, self.fault = True, ""
-        self.start()
-
-    def run(self) -> None:
-        source, mirror = self.links
-        try:
-            following = int(mirror.ask("GET", "replication/state").read()["sequenceNumber"]) + 1
-            while self.goes_on and not self.fault:
-                piece = source.ask("GET", f"replication/{following}")
-                if piece.status == 404:
-                    time.sleep(0.002)
-                    continue
-                taken = mirror.ask("POST", "replication", piece.body)
-                if (piece.status, taken.status) != (200, 200):
-                    self.fault = f"piece {following}: {piece.status}, {taken.status} {taken.body[:200]!r}"
-                following += 1
-        except (OSError, Lost):
-            return
-
-    def end(self) -> None:
-        self.goes_on = False
-        self.join()
-        if self.fault:
-            raise Wrong(self.fault)
+WORKERS = 12
+LINKS = 8
+MIRRORS = 3
+ADDED = 20  # uploads of each link behind each takeover
+KINDS = ("all else runs on", "the carriers ended before", "the engine is gone too")
 
 
 class Uploads(threading.Thread):
     """Uploads of a node each, and every tenth time of a way too, so many or until the server is gone."""
 
-    def __init__(self, port: int, most: int = 0) -> None:
+    def __init__(self, port: int, most: int = 0, pause: float = 0.0) -> None:
         super().__init__(daemon=True)
-        self.link, self.most, self.done = Link(port, "alicetoken", 900), most, 0
+        self.link, self.most, self.pause, self.changes = Link(port, "alicetoken", 900), most, pause, 0
+        self.changeset, self.answered = 0, []  # type: int, list[Answered]
         self.start()
 
     def run(self) -> None:
         try:
-            changeset = self.link.ask("PUT", "changeset/create", {"tags": {"comment": "takeover"}}).read()
-            while not self.most or self.done < self.most:
-                nodes = [{"type": "node", "id": -1, "lat7": 481000000 + self.done, "lon7": 115000000 + self.done}]
-                nodes += [{"type": "way", "id": -1, "nodes": [-1]}] * (self.done % 10 == 9)
-                if self.link.ask("POST", f"changeset/{changeset}/upload", {"osmChange": [{"create": nodes}]}).status != 200:
-                    raise Wrong(f"upload {self.done} is refused")
-                self.done += 1
+            self.changeset = self.link.ask("PUT", "changeset/create", {"tags": {"comment": "takeover"}}).read()
+            while not self.most or len(self.answered) < self.most:
+                done = len(self.answered)
+                nodes = [{"type": "node", "id": -1, "lat7": 481000000 + done, "lon7": 115000000 + done}]
+                nodes += [{"type": "way", "id": -1, "nodes": [-1]}] * (done % 10 == 9)
+                if self.link.ask("POST", f"changeset/{self.changeset}/upload", {"osmChange": [{"create": nodes}]}).status != 200:
+                    return
+                self.changes += len(nodes)
+                self.answered.append(Answered(time.monotonic(), self.changes))
+                time.sleep(self.pause)
         except (OSError, Lost):
             return
 
-
-class Place:
-    """A program with the journal that it keeps."""
-
-    def __init__(self, words: argparse.Namespace, folder: str, name: str) -> None:
-        self.words, self.journal = words, os.path.join(folder, name)
-
-    def serve(self) -> Place:
-        self.running = Server(self.words.program, SERVER_WORKERS, USERS, command=("serve", "--journal", self.journal))
-        return self
-
-    def mirror(self) -> Place:
-        self.running = Server(self.words.mirror, MIRROR_WORKERS, USERS, command=("--journal", self.journal))
-        return self
-
-    @property
-    def port(self) -> int:
-        return self.running.port
-
-    def end(self) -> None:
-        self.running.process.kill()
-        self.running.__exit__()
+    def lost(self, port: int) -> list[Answered]:
+        """What was answered and isn't there."""
+        reply = Link(port, kept=1).ask("GET", f"changeset/{self.changeset}")
+        found = reply.read()["changeset"]["changes_count"] if reply.status == 200 else 0
+        return [it for it in self.answered if it.changes > found]
 
 
-def nodes_of(port: int) -> int:
-    """The last node: the uploads number them one after another."""
-    link, last = Link(port, kept=900), 0
-    while link.ask("GET", f"node/{last + 1}").status == 200:
-        last += 1
-    return last
+class Trial:
+    """All that runs, from one takeover to the next."""
+
+    def __init__(self, words: argparse.Namespace, folder: str, stack: ExitStack) -> None:
+        self.words, self.folder, self.stack = words, folder, stack
+        self.users = os.path.join(folder, "users.txt")
+        with open(self.users, "w", encoding="utf-8") as file:
+            file.write(USERS)
+        self.port, self.files = free_port(), 0
+        self.journal = self.new_file("server")
+        server = Server(words.program, WORKERS, USERS, command=("serve", "--journal", self.journal), port=self.port)
+        self.stack.callback(server.__exit__)
+        self.end_server = server.process.kill
+        self.wait_for_server = server.process.wait
+        self.mirrors = [Mirrored(words.mirror, self.new_file("mirror")) for _ in range(MIRRORS)]
+        self.stack.callback(self.end_mirrors)
+        self.begin_engine()
+
+    def end_mirrors(self) -> None:
+        for it in self.mirrors:
+            it.kill()
+
+    def new_file(self, name: str) -> str:
+        self.files += 1
+        return os.path.join(self.folder, f"{name}{self.files}.journal")
+
+    def begin_engine(self) -> None:
+        """An empty one, with a writer and carriers of its own."""
+        folder = os.path.join(self.folder, f"engine{self.files}")
+        os.mkdir(folder)
+        self.engine = ENGINES[self.words.engine](folder)
+        self.stack.callback(self.engine.kill)
+        self.writer = self.add("writer.py", "--server", url(self.port))
+        self.carriers = [self.add("carrier.py", "--mirror", url(it.port)) for it in self.mirrors]
+
+    def add(self, name: str, *words: str) -> Process:
+        process = script(name, *words, "--engine", self.engine.url)
+        self.stack.callback(process.kill)
+        return process
+
+    def break_down(self, kind: str) -> float:
+        """Ends what is to be gone, and tells when the server was."""
+        time.sleep(random.uniform(0.3, self.words.seconds))
+        if kind == KINDS[1]:
+            for carrier in random.sample(self.carriers, MIRRORS):
+                carrier.kill()
+                time.sleep(random.uniform(0, 0.2))
+        self.end_server()
+        ended = time.monotonic()
+        if kind == KINDS[2]:
+            self.engine.kill()
+            for process in (self.writer, *self.carriers):
+                process.kill()
+        self.wait_for_server()
+        return ended
+
+    def promote(self, engine: str, is_run: bool) -> Promoted:
+        named = [word for it in self.mirrors for word in ("--mirror", f"{url(it.port)}={it.journal}")]
+        words = ["--old", url(self.port), *named, *(("--engine", engine) if engine else ()), *(("--run",) if is_run else ())]
+        serve = [self.words.program, "serve", "--users", self.users, "--listen", f"127.0.0.1:{self.port}", "--workers", str(WORKERS)]
+        promoted = run_promote(self.folder, [*words, "--", *serve], self.port, is_run, self.mirrors, lambda port: replies(port, 1000))
+        self.stack.callback(promoted.end)
+        return promoted
+
+    def go_on(self, kind: str, heir: Mirrored, is_empty: bool) -> None:
+        """Everybody follows the new server, and a new mirror stands in the place of the one that took over."""
+        place, file = self.mirrors.index(heir), self.new_file("mirror")
+        if not is_empty:
+            shutil.copy(self.journal, file)
+        self.mirrors[place] = Mirrored(self.words.mirror, file, heir.port)
+        if kind == KINDS[1]:
+            for carrier in self.carriers:
+                carrier.start()
+        if kind == KINDS[2]:
+            self.files += 1
+            self.begin_engine()
+
+    def level(self) -> None:
+        uploads = [Uploads(self.port, ADDED) for _ in range(LINKS)]
+        for it in uploads:
+            it.join()
+            if len(it.answered) != ADDED:
+                raise Wrong(f"{len(it.answered)} of {ADDED} uploads are accepted")
+        for mirror in self.mirrors:
+            wait_until("a mirror", number(self.port), mirror.port)
+            same_reads(self.port, mirror.port, "a mirror", 1000)
 
 
 def replies(port: int, most: int) -> list[tuple[str, int, bytes]]:
@@ -123,66 +168,57 @@ def replies(port: int, most: int) -> list[tuple[str, int, bytes]]:
     return [(path, reply.status, reply.body) for path, reply in ((path, link.ask("GET", path)) for path in paths)]
 
 
-def level(server: Place, mirrors: list[Place]) -> None:
-    """Uploads come to both mirrors, and each reads as the server does."""
-    carriers = [Carrier(server.port, it.port) for it in mirrors]
-    uploads = Uploads(server.port, ADDED)
-    uploads.join()
-    if uploads.done != ADDED:
-        raise Wrong(f"{uploads.done} of {ADDED} uploads are accepted")
-    most = nodes_of(server.port)
-    for it in mirrors:
-        wait_until("a mirror", number(server.port), it.port)
-        same_reads(server.port, it.port, "a mirror", most)
-    for carrier in carriers:
-        carrier.end()
-
-
-def take_over(words: argparse.Namespace, folder: str, server: Place, mirrors: list[Place], name: str) -> tuple[Place, list[Place]]:
-    carriers = [Carrier(server.port, it.port) for it in mirrors]
-    uploads = Uploads(server.port)
-    time.sleep(random.uniform(0.3, words.seconds))
-    server.end()
-    os.remove(server.journal)
-    for thread in (uploads, *carriers):
+def take_over(trial: Trial, kind: str, is_run: bool) -> tuple[int, int, float]:
+    """A round: how many uploads were answered, how many of these are lost, and seconds from the first lost one to the server's end."""
+    uploads = [Uploads(trial.port, pause=trial.words.pause) for _ in range(LINKS)]
+    ended = trial.break_down(kind)
+    for thread in uploads:
         thread.join(30)
-    other, heir = sorted(mirrors, key=lambda it: number(it.port))
-    had = [number(it.port) for it in (other, heir)]
-    most = nodes_of(heir.port)
-    before = replies(heir.port, most)
-    heir.end()
-    new = Place(words, folder, os.path.basename(heir.journal)).serve()
-    for wanted, came in zip(before, replies(new.port, most)):
-        if wanted != came:
-            raise Wrong(f"the new server answers {came}, and the mirror answered {wanted}")
-    fresh = Place(words, folder, name).mirror()
-    level(new, [other, fresh])
-    told = f"{uploads.done} uploads, then the server is gone; the mirrors have {had[0]} and {had[1]} pieces of them"
-    print(f"{told}; the second one's file is a server's, and both mirrors follow to piece {number(new.port)}", flush=True)
-    return new, [other, fresh]
+    gone = trial.journal + ".gone"
+    os.rename(trial.journal, gone)
+    had = sorted(number(it.port) for it in trial.mirrors)
+    promoted = trial.promote("" if kind == KINDS[2] else trial.engine.url, is_run)
+    trial.end_server, trial.wait_for_server = promoted.process.kill, promoted.process.wait
+    trial.journal = promoted.heir.journal
+    left, all_of_it = text_is_beginning(trial.journal, gone, at_least=had[-1]), len(Text(gone))
+    lost = [it for thread in uploads for it in thread.lost(trial.port)]
+    trial.go_on(kind, promoted.heir, is_run)
+    trial.level()
+    answered, before = sum(len(it.answered) for it in uploads), max((ended - it.moment for it in lost), default=0.0)
+    told = f"{kind}, promote {'--run' if is_run else 'prints'}: the mirrors had {', '.join(map(str, had))} of {all_of_it} pieces"
+    lack = f", the first of them {1000 * before:.1f} ms before the end" if lost else ""
+    print(f"{told}, {left} are left; {len(lost)} of {answered} answered uploads are lost{lack}; all follow", flush=True)
+    return answered, len(lost), before
+
+
+def rounds(words: argparse.Namespace, folder: str) -> None:
+    with ExitStack() as stack:
+        trial = Trial(words, folder, stack)
+        trial.level()
+        print(try_refusals(trial.port, trial.mirrors, trial.engine.url, words, folder), flush=True)
+        found = [take_over(trial, KINDS[place % 3], place % 2 == 0) for place in range(words.rounds)]
+    answered, lost, before = sum(it[0] for it in found), sum(it[1] for it in found), max(it[2] for it in found)
+    most = max(it[1] for it in found)
+    print(f"{lost} of {answered} answered uploads are lost in {len(found)} takeovers, {most} at most in one, {1000 * before:.1f} ms at most")
 
 
 def main() -> int:
-    parser = argparse.ArgumentParser(usage=(__doc__ or "").split("\n\n")[0].partition(": ")[2])
+    parser = argparse.ArgumentParser(usage=scripts.usage(__doc__))
     parser.add_argument("--program", default=os.path.join(OUT, "osm", "out", "osm"))
     parser.add_argument("--mirror", default=os.path.join(OUT, "osm_mirror", "out", "osm_mirror"))
-    parser.add_argument("--rounds", type=int, default=4)
+    parser.add_argument("--engine", choices=tuple(ENGINES), default="redis")
+    parser.add_argument("--rounds", type=int, default=10)
     parser.add_argument("--seconds", type=float, default=2)
+    parser.add_argument("--pause", type=float, default=0.02)
     parser.add_argument("--seed", type=int, default=1)
     words = parser.parse_args()
     random.seed(words.seed)
     with tempfile.TemporaryDirectory() as folder:
-        server = Place(words, folder, "server.journal").serve()
-        mirrors = [Place(words, folder, f"mirror{place}.journal").mirror() for place in (1, 2)]
         try:
-            for place in range(words.rounds):
-                server, mirrors = take_over(words, folder, server, mirrors, f"mirror{3 + place}.journal")
+            rounds(words, folder)
         except Wrong as why:
             print(f"wrong: {why}")
             return 1
-        finally:
-            for it in (server, *mirrors):
-                it.end()
     return 0
 
 

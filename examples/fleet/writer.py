@@ -1,5 +1,5 @@
 #!/usr/bin/python3
-"""Brings a server's pieces into the engine: examples/fleet/writer.py --server URL --token TOKEN --engine redis://127.0.0.1:6380
+"""Brings a server's pieces into the engine: examples/fleet/writer.py --server URL --token-file FILE --engine redis://127.0.0.1:6380
 
 Goes on behind the last piece that the engine has, until it is ended. It asks the server for the piece that comes next each 10 milliseconds
 on a kept link, and for more at once where there is more. Status 3 where the server has another journal than the engine, since it was
@@ -21,8 +21,8 @@ PAUSE = 0.01  # seconds between two questions where there is nothing new
 
 
 class Writer:
-    def __init__(self, server: str, token: str, engine: str) -> None:
-        self.server, self.token, self.engine = server, token, engine
+    def __init__(self, server: str, token: str, engine: str, is_trusted: bool) -> None:
+        self.server, self.token, self.engine, self.is_trusted = server, token, engine, is_trusted
         self.trouble = scripts.Trouble("writer")
 
     def run(self, is_new: bool) -> None:
@@ -30,6 +30,7 @@ class Writer:
             try:
                 engine = open_engine(self.engine)
                 try:
+                    engine.check_keeping(self.is_trusted)
                     name = engine.journal()
                     if not name or is_new:
                         name, is_new = engine.begin(name), False
@@ -61,11 +62,13 @@ class Writer:
 
 def main() -> int:
     parser = argparse.ArgumentParser(usage=scripts.usage(__doc__))
-    for name in ("--server", "--token", "--engine"):
-        parser.add_argument(name, required=True)
+    parser.add_argument("--server", required=True)
+    scripts.add_engine(parser)
+    scripts.add_token(parser)
     parser.add_argument("--new", action="store_true", help="begin a new journal in the engine")
+    parser.add_argument("--trust-engine", action="store_true", help="one that doesn't tell so has additions on the disk before it answers")
     words = parser.parse_args()
-    return scripts.run("writer", lambda: Writer(words.server, words.token, words.engine).run(words.new))
+    return scripts.run("writer", lambda: Writer(words.server, words.token, words.engine, words.trust_engine).run(words.new))
 
 
 if __name__ == "__main__":

@@ -37,7 +37,7 @@ HERE = os.path.dirname(os.path.abspath(__file__))
 sys.path.insert(1, os.path.join(HERE, ".."))
 
 from editors import Editor, Reader  # noqa: E402
-from serving import Link, Lost, Server, free_port  # noqa: E402
+from serving import Link, Lost, Server, free_port, tell_faults  # noqa: E402
 
 PROGRAM = os.path.join(HERE, "..", "..", "crates", "osm", "out", "osm")
 TEXT_LIMIT = 1 << 28  # bytes that `replay` reads
@@ -264,11 +264,7 @@ def tell(name: str, run: Run) -> int:
     versions = sum(map(len, (known for editor in run.editors for known in editor.versions.values())))
     entries = sum(editor.entries for editor in run.editors)
     print(f"{name}: {run.rounds} kills, {entries} changes, {versions} versions, {len(run.reader.seen)} elements read meanwhile")
-    faults = run.wrong()
-    for fault in faults[:20]:
-        print("wrong:", fault)
-    print(f"{len(faults)} wrong")
-    return len(faults)
+    return tell_faults(run.wrong())
 
 
 def main() -> int:

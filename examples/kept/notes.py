@@ -24,7 +24,7 @@ HERE = os.path.dirname(os.path.abspath(__file__))
 sys.path.insert(1, os.path.join(HERE, ".."))
 
 from kill import PROGRAM, parted, read  # noqa: E402
-from serving import Link, Lost, Server  # noqa: E402
+from serving import Link, Lost, Server, tell_faults  # noqa: E402
 
 HEADER = b"osm-notes-journal 1\n"
 LONGEST = 0.8  # seconds of a round
@@ -124,10 +124,7 @@ def main() -> int:
     faults += [fault for writer in writers for fault in writer.faults]
     accepted, notes = sum(it.accepted for it in writers), sum(len(it.notes) for it in writers)
     print(f"{it.rounds} kills, {accepted} requests, {notes} notes, {text.count(bytes([10])) - 1} entries")
-    for fault in faults[:20]:
-        print("wrong:", fault)
-    print(f"{len(faults)} wrong")
-    return 1 if faults else 0
+    return tell_faults(faults)
 
 
 if __name__ == "__main__":

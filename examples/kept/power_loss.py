@@ -32,7 +32,7 @@ sys.path.insert(1, os.path.join(HERE, ".."))
 
 from editors import Editor  # noqa: E402
 from kill import PROGRAM, parted, read  # noqa: E402
-from serving import Link, Lost, Server  # noqa: E402
+from serving import Link, Lost, Server, tell_faults  # noqa: E402
 from traced import NEVER, Call, Change, Traced, calls_on, changes_of, hindrance, own_port, syncs_of, traced, users  # noqa: E402
 
 SECTOR = 512
@@ -268,10 +268,7 @@ def main() -> int:
     trial.try_doctored()
     if not trial.faults:
         trial.tell()
-    for fault in trial.faults[:20]:
-        print("wrong:", fault)
-    print(f"{len(trial.faults)} wrong")
-    return 1 if trial.faults else 0
+    return tell_faults(trial.faults)
 
 
 if __name__ == "__main__":

@@ -33,6 +33,7 @@ sys.path.insert(1, os.path.join(HERE, ".."))
 
 from editors import Element  # noqa: E402
 from kill import HEADER, PROGRAM, parted  # noqa: E402
+from serving import tell_faults  # noqa: E402
 from traced import NEVER, SYNCS, Call, Change, Done, Sent, Traced, Uploader, changes_of, hindrance, syncs_of, traced  # noqa: E402
 
 HOUR = 3600
@@ -295,10 +296,7 @@ def main() -> int:
         others = doctored(trace)
         faults = overlooked(others)
         tell(trace, others)
-    for fault in faults[:20]:
-        print("wrong:", fault)
-    print(f"{len(faults)} wrong")
-    return 1 if faults else 0
+    return tell_faults(faults)
 
 
 if __name__ == "__main__":
