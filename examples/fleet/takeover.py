@@ -4,8 +4,9 @@
 
 Starts `osm serve --journal`, an engine, writer.py, and three mirrors with a journal and a carrier each, on free ports of the loopback. First
 promote has to refuse what it can't do (refused.py). Then, in each round, eight links upload, each so many seconds behind its last reply, and
-after a drawn time the server is killed and its file put away. By turns everything else runs on; or the carriers were killed one after another before, so that the engine has what no
-mirror has; or the engine is killed too and thrown away. By turns promote does all itself (--run), or what it prints is done. Then
+after a drawn time the server is killed and its file put away. By turns everything else runs on; or the carriers were killed one after
+another before, so that the engine has what no mirror has; or the engine is killed too and thrown away. By turns promote does all itself
+(--run), or what it prints is done. Then
 
 - the new server's text is a beginning of the old one's, and has all that a mirror or the engine had;
 - where promote prints, the new server answers nine kinds of reads as the mirror did, byte for byte;
