@@ -39,9 +39,13 @@ class Follower:
         self.at = 0
 
     def advance(self) -> Iterator[State]:
-        """Takes what the feed has, and tells of each file that came of it. Where the server is lost, behind what could be written."""
+        """Takes what the feed has, and tells of each file that came of it. Where the server is lost, behind what could be written.
+
+        Where nothing came, a file without changes tells followers that the server was asked: so a quiet one isn't taken for a dead one.
+        """
         self.catch_up()
-        is_whole = False
+        asked = int(time.time())
+        is_whole, is_quiet = False, True
         while not is_whole:
             lost: Lost | None = None
             try:
@@ -50,9 +54,13 @@ class Follower:
                 lost = why
             self.post()
             if self.versions:
-                yield self.publish()
+                is_quiet = False
+                yield self.publish(self.at)
             if lost is not None:
                 raise lost
+        if is_quiet:
+            # Before the feed was asked, so what is stamped later is in a later file.
+            yield self.publish(asked)
 
     def rest(self) -> None:
         """Ends the links until the next time: a kept one would hold a worker of the server."""
@@ -83,7 +91,7 @@ class Follower:
         text = self.next_text()
         if text is not None:
             self.ahead.appendleft(text)
-        moment = int(time.time()) if text is None else read_piece(text).at - 1
+        moment = (int(time.time()) if text is None else read_piece(text).at) - 1
         self.state = State(0, moment, 0, hashlib.sha256().hexdigest())
         self.folder.publish(self.state, ())
         return self.state
@@ -131,11 +139,11 @@ class Follower:
         self.unposted.clear()
         self.unposted_bytes = 0
 
-    def publish(self) -> State:
+    def publish(self, at: int) -> State:
         """One file with every version of the interval that no redaction hides at its end."""
         assert self.state is not None
         # Moments of files rise, so that none is found in place of another by its moment.
-        moment = max(self.at, self.state.moment + 1)
+        moment = max(at, self.state.moment + 1)
         state = State(self.state.sequence + 1, moment, self.mirror.length, self.digest.hexdigest())
         self.folder.publish(state, self.shown())
         self.state = state
