@@ -24,13 +24,14 @@ from feed import Unusable
 
 @dataclass(frozen=True, slots=True)
 class State:
-    """A sequence number, the moment up to which it goes in seconds since 1970, and of the feed the number of its last piece and
-    the SHA-256 over all pieces up to it."""
+    """A sequence number, the moment up to which it goes in seconds since 1970, and of the feed the number of its last piece,
+    the SHA-256 over all pieces up to it, and how many elements of each kind these made; folders of before don't tell it."""
 
     sequence: int
     moment: int
     piece: int
     digest: str
+    ids: dict[str, int] | None = None
 
     def text(self) -> str:
         """As planet.openstreetmap.org has it, with the moment in its first line too, so that it is the same whenever it is written."""

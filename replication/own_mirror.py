@@ -26,8 +26,9 @@ class Ended(Exception):
 
 
 def end_with_parent() -> None:
-    """In the child: whatever ends this program ends the mirror too (Linux)."""
+    """In the child: whatever ends this program ends the mirror too (Linux). What it keeps is for nobody else."""
     ctypes.CDLL(None).prctl(PR_SET_PDEATHSIG, signal.SIGTERM)
+    os.umask(0o077)
 
 
 def free_port() -> int:
@@ -37,35 +38,38 @@ def free_port() -> int:
 
 
 class OwnMirror:
-    """Starts an empty mirror on a free port of the loopback, with one user who may post pieces; `close` ends it.
+    """Starts a mirror of what a file has on a free port of the loopback, with one user who may post pieces; `close` ends it.
 
     A mirror that serves its standard streams would end behind 1,000 requests, so it listens.
     """
 
-    def __init__(self, words: Sequence[str]) -> None:
-        self.length, port, token = 0, free_port(), secrets.token_hex(16)
+    def __init__(self, words: Sequence[str], journal: str) -> None:
+        self.length, self.journal = 0, journal
+        port, token = free_port(), secrets.token_hex(16)
         self.site = Site(f"http://127.0.0.1:{port}", token)
         with tempfile.TemporaryDirectory() as folder:
             users = os.path.join(folder, "users.txt")
             with open(users, "w", encoding="utf-8") as file:
                 file.write(f"1 {token} moderator replication\n")
-            more = ("--users", users, "--listen", f"127.0.0.1:{port}", "--workers", "2")
+            more = ("--users", users, "--listen", f"127.0.0.1:{port}", "--workers", "2", "--journal", journal)
             self.process = subprocess.Popen([*words, *more], stdin=subprocess.DEVNULL, preexec_fn=end_with_parent)
             try:
-                self.wait_for_it(words[0])
+                self.length = self.wait_for_it(words[0])
             except BaseException:
                 self.close()
                 raise
 
-    def wait_for_it(self, program: str) -> None:
+    def wait_for_it(self, program: str) -> int:
+        """Answers how many pieces it has."""
         until = time.monotonic() + WAIT
         while True:
             try:
-                self.site.ask(self.site.get("replication/state"))
-                return
+                return int(json.loads(self.site.ask(self.site.get("replication/state")).body)["sequenceNumber"])
             except Lost:
                 if self.process.poll() is not None:
-                    raise Unusable(f"the mirror's program {program} ended with status {self.process.returncode}") from None
+                    raise Unusable(
+                        f"the mirror's program {program} ended with status {self.process.returncode}; its journal is {self.journal}"
+                    ) from None
                 if time.monotonic() > until:
                     raise Unusable(f"the mirror's program {program} doesn't answer") from None
                 time.sleep(0.02)

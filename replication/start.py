@@ -1,0 +1,71 @@
+"""A start: what the folder was made of, as the mirror's file keeps it, else as the feed has it from the first piece on."""
+
+from __future__ import annotations
+
+import hashlib
+from collections import deque
+from dataclasses import replace
+
+from feed import Feed, OtherJournal
+from folder import Folder
+from kept_journal import Known, Writing, read_kept, set_aside
+from made import Counts, made_by, read_piece
+
+NOTHING = hashlib.sha256().hexdigest()
+
+
+class Start:
+    """The feed behind the pieces of the folder's newest state, and what is known of these.
+
+    The SHA-256 over all pieces has to be the one that the folder tells of, whether they come from the file or from the feed. Where the
+    file has them the feed is compared with the first and the last of them, on each link: so no other journal is gone on with.
+    """
+
+    def __init__(self, url: str, token: str, folder: Folder, path: str) -> None:
+        self.folder, self.path = folder, path
+        self.state = folder.newest()
+        self.aside: str | None = None
+        self.counts = Counts()
+        self.ahead: deque[bytes] = deque()
+        self.writing: Writing | None = None
+        known = self.read()
+        self.known = known or Known()
+        self.feed = Feed(url, token, replace(self.known.taken))
+
+    def read(self) -> Known | None:
+        """What the file has of the state's pieces, where it is usable; any other journal is set aside."""
+        state = self.state
+        piece, digest, ids = (state.piece, state.digest, state.ids) if state else (0, NOTHING, None)
+        if ids is not None or not piece:
+            known = read_kept(self.path, piece, digest)
+            if known is not None:
+                self.counts = Counts(dict(ids or self.counts.ids))
+                return known
+        self.aside = set_aside(self.path)
+        return None
+
+    def take(self) -> None:
+        """Has the file written out of the feed where it wasn't usable. Raises Lost where the server doesn't answer, and then goes on."""
+        state = self.state
+        if state is None or self.known.taken.number == state.piece:
+            return
+        self.writing = self.writing or Writing(self.path)
+        while self.known.taken.number < state.piece:
+            text = self.next_text()
+            if text is None:
+                raise OtherJournal(
+                    f"{self.feed.site.url} has another journal than {self.folder.path}: it is shorter than {state.piece} pieces"
+                )
+            made_by(read_piece(text), self.counts)
+            self.known.add(text)
+            self.writing.add(text)
+        if self.known.digest.hexdigest() != state.digest:
+            raise OtherJournal(
+                f"{self.feed.site.url} has another journal than {self.folder.path}: its first {state.piece} pieces are others"
+            )
+        self.writing.end()
+
+    def next_text(self) -> bytes | None:
+        if not self.ahead:
+            self.ahead.extend(self.feed.next_pieces())
+        return self.ahead.popleft() if self.ahead else None
