@@ -32,10 +32,14 @@ def inner_lines(element: Element) -> Iterator[str]:
         yield f'      <nd ref="{ref}"/>\n'
     for member in element.get("members", ()):
         yield f'      <member type="{member["type"]}" ref="{member["ref"]}"{attribute("role", member["role"])}/>\n'
+    yield from tag_lines(element.get("tags", {}), "      ")
+
+
+def tag_lines(tags: dict[str, str], indent: str) -> Iterator[str]:
     # Two keys may be the same once they are fit for XML; then the first one counts.
-    tags = {attribute("k", key): value for key, value in reversed(element.get("tags", {}).items())}
-    for key, value in reversed(tags.items()):
-        yield f"      <tag{key}{attribute('v', value)}/>\n"
+    fit = {attribute("k", key): value for key, value in reversed(tags.items())}
+    for key, value in reversed(fit.items()):
+        yield f"{indent}<tag{key}{attribute('v', value)}/>\n"
 
 
 def lines(element: Element) -> Iterator[str]:
@@ -49,21 +53,25 @@ def lines(element: Element) -> Iterator[str]:
 
 
 def text_of(elements: Iterable[Element]) -> Iterator[str]:
-    """The whole text, versions in their order, neighbours of one action together."""
+    return text_of_blocks((action_of(element), text) for element in elements for text in lines(element))
+
+
+def text_of_blocks(blocks: Iterable[tuple[str, str]]) -> Iterator[str]:
+    """The whole text of versions that are written already, each with its action: in their order, neighbours of one action together."""
     yield '<?xml version="1.0" encoding="UTF-8"?>\n<osmChange version="0.6" generator="hegunsap">\n'
     action = ""
-    for element in elements:
-        if action_of(element) != action:
-            yield (f"  </{action}>\n" if action else "") + f"  <{action_of(element)}>\n"
-            action = action_of(element)
-        yield from lines(element)
+    for its_action, text in blocks:
+        if its_action != action:
+            yield (f"  </{action}>\n" if action else "") + f"  <{its_action}>\n"
+            action = its_action
+        yield text
     yield (f"  </{action}>\n" if action else "") + "</osmChange>\n"
 
 
-def packed(elements: Iterable[Element]) -> Iterator[bytes]:
-    """The file, part by part: the same for the same versions, whenever it is written."""
+def packed(texts: Iterable[str]) -> Iterator[bytes]:
+    """A file of a text, part by part: the same for the same text, whenever it is written."""
     packer = zlib.compressobj(wbits=31)  # gzip's form, without a time
-    for text in text_of(elements):
+    for text in texts:
         if part := packer.compress(text.encode()):
             yield part
     yield packer.flush()

@@ -5,7 +5,8 @@ from __future__ import annotations
 import time
 from collections.abc import Iterator, Sequence
 
-from change_file import Element
+import changeset_file
+from change_file import Element, packed, text_of
 from feed import Unusable
 from folder import State
 from kept_link import Lost
@@ -63,7 +64,7 @@ class Follower:
             self.start.ahead.appendleft(text)
         moment = (int(time.time()) if text is None else read_piece(text).at) - 1
         state = State(0, moment, 0, self.start.known.digest.hexdigest(), dict(self.start.counts.ids))
-        self.folder.publish(state, ())
+        self.folder.publish(state, packed(text_of(())), packed(changeset_file.text_of(())))
         return state
 
     def gather(self) -> bool:
@@ -78,6 +79,7 @@ class Follower:
     def look_at(self, text: bytes) -> None:
         piece = read_piece(text)
         made = made_by(piece, self.start.counts)
+        self.start.changesets.add(piece, self.start.counts)
         self.start.known.add(text)
         self.at = piece.at
         self.versions.update(dict.fromkeys(made.sure))
@@ -104,13 +106,14 @@ class Follower:
         self.unposted_bytes = 0
 
     def publish(self, at: int) -> State:
-        """One file with every version of the interval that no redaction hides at its end."""
+        """One file with every version of the interval that no redaction hides at its end, and one with its changesets."""
         assert self.state is not None
         # Moments of files rise, so that none is found in place of another by its moment.
         moment = max(at, self.state.moment + 1)
-        ids = dict(self.start.counts.ids)
-        state = State(self.state.sequence + 1, moment, self.mirror.length, self.start.known.digest.hexdigest(), ids)
-        self.folder.publish(state, self.shown())
+        news = self.start.changesets.told(self.mirror.changesets(self.start.changesets.to_look_at()))
+        ids, is_open = dict(self.start.counts.ids), tuple(sorted(self.start.changesets.open))
+        state = State(self.state.sequence + 1, moment, self.mirror.length, self.start.known.digest.hexdigest(), ids, is_open)
+        self.folder.publish(state, packed(text_of(self.shown())), packed(changeset_file.text_of(news)))
         self.state = state
         self.versions.clear()
         return state

@@ -11,7 +11,7 @@ import socket
 import subprocess
 import tempfile
 import time
-from collections.abc import Sequence
+from collections.abc import Iterator, Sequence
 from typing import Any
 
 from feed import Unusable
@@ -86,17 +86,25 @@ class OwnMirror:
         except Lost as why:
             raise Ended(str(why)) from why
 
-    def read(self, paths: Sequence[str]) -> list[dict[str, Any] | None]:
-        """The first element of each reply, with those that are redacted; none where there is no such element or version."""
-        found: list[dict[str, Any] | None] = []
+    def bodies(self, paths: Sequence[str]) -> Iterator[dict[str, Any] | None]:
+        """Of each read what it tells; none where there is no such thing."""
         try:
             for path, reply in zip(paths, self.site.exchange([self.site.get(it) for it in paths])):
                 if reply.status not in (200, 404):
                     raise Unusable(f"the mirror's reply to {path}: {reply.status} {reply.body[:200].decode(errors='replace')}")
-                found.append(json.loads(reply.body)["elements"][0] if reply.status == 200 else None)
+                yield json.loads(reply.body) if reply.status == 200 else None
         except Lost as why:
             raise Ended(str(why)) from why
-        return found
+
+    def read(self, paths: Sequence[str]) -> list[dict[str, Any] | None]:
+        """The first element of each reply, with those that are redacted; none where there is no such element or version."""
+        return [it and it["elements"][0] for it in self.bodies(paths)]
+
+    def changesets(self, ids: Sequence[int]) -> list[dict[str, Any]]:
+        found = list(self.bodies([f"changeset/{it}" for it in ids]))
+        if None in found:
+            raise Unusable(f"the mirror has no changeset {ids[found.index(None)]}, which the feed tells of")
+        return [it["changeset"] for it in found if it]
 
     def close(self) -> None:
         self.site.close()

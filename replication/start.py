@@ -9,7 +9,7 @@ from dataclasses import replace
 from feed import Feed, OtherJournal
 from folder import Folder
 from kept_journal import Known, Writing, read_kept, set_aside
-from made import Counts, made_by, read_piece
+from made import Changesets, Counts, made_by, read_piece
 
 NOTHING = hashlib.sha256().hexdigest()
 
@@ -24,8 +24,10 @@ class Start:
     def __init__(self, url: str, token: str, folder: Folder, path: str) -> None:
         self.folder, self.path = folder, path
         self.state = folder.newest()
+        if self.state is not None:
+            folder.tell_changesets(self.state)
         self.aside: str | None = None
-        self.counts = Counts()
+        self.counts, self.changesets = Counts(), Changesets()
         self.ahead: deque[bytes] = deque()
         self.writing: Writing | None = None
         known = self.read()
@@ -40,6 +42,7 @@ class Start:
             known = read_kept(self.path, piece, digest)
             if known is not None:
                 self.counts = Counts(dict(ids or self.counts.ids))
+                self.changesets.open.update(state.open if state else ())
                 return known
         self.aside = set_aside(self.path)
         return None
@@ -56,7 +59,9 @@ class Start:
                 raise OtherJournal(
                     f"{self.feed.site.url} has another journal than {self.folder.path}: it is shorter than {state.piece} pieces"
                 )
-            made_by(read_piece(text), self.counts)
+            piece = read_piece(text)
+            made_by(piece, self.counts)
+            self.changesets.add(piece, self.counts)
             self.known.add(text)
             self.writing.add(text)
         if self.known.digest.hexdigest() != state.digest:
@@ -64,6 +69,7 @@ class Start:
                 f"{self.feed.site.url} has another journal than {self.folder.path}: its first {state.piece} pieces are others"
             )
         self.writing.end()
+        self.changesets.forget(state.moment)
 
     def next_text(self) -> bytes | None:
         if not self.ahead:

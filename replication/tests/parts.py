@@ -195,7 +195,7 @@ def written(_: Programs, folder: str) -> str:
   </modify>
 </osmChange>
 """
-    found = gzip.decompress(b"".join(change_file.packed(elements))).decode()
+    found = gzip.decompress(b"".join(change_file.packed(change_file.text_of(elements)))).decode()
     if found != wanted:
         raise Wrong(f"it is {found}")
     state = State(1234567, 1700000000, 5, "")
