@@ -18,9 +18,9 @@ from collections.abc import Iterator
 
 import osm_file
 from map_client import KINDS, Client, Element, Key, Lost, Refused, key
+from osm_file import Box
 
 MANY = 500  # ids in a request
-Box = tuple[int, int, int, int]  # west, south, east, north, in units of 1e-7 degrees
 
 
 def read_box(client: Client, box: Box) -> dict[Key, Element]:
@@ -69,7 +69,8 @@ def read_many(client: Client, kind: str, first: int, end: int) -> list[Element]:
     if first == end:
         return []
     try:
-        return client.ask("GET", f"{kind}s?{kind}s=" + ",".join(map(str, range(first, end))))["elements"]
+        elements: list[Element] = client.ask("GET", f"{kind}s?{kind}s=" + ",".join(map(str, range(first, end))))["elements"]
+        return elements
     except Refused as why:
         if why.error != "no_element":
             raise

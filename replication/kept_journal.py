@@ -107,7 +107,10 @@ class Writing:
         self.file.write(HEADER)
 
     def add(self, piece: bytes) -> None:
-        self.file.write(entry_of(piece) + b"\n")
+        self.add_entry(entry_of(piece))
+
+    def add_entry(self, entry: bytes) -> None:
+        self.file.write(entry + b"\n")
 
     def end(self) -> None:
         self.file.write(GATE)
