@@ -2,23 +2,18 @@
 
 from __future__ import annotations
 
-import re
 import zlib
 from collections.abc import Iterable, Iterator
 from typing import Any
-from xml.sax.saxutils import quoteattr
+
+from from_gateway import Texts, degrees_of
 
 Element = dict[str, Any]
-# What no text of XML 1.0 can have, nor tell by a number.
-NOT_XML = re.compile("[^\t\n\r\x20-\ud7ff\ue000-\ufffd\U00010000-\U0010ffff]")
+TEXTS = Texts()
 
 
 def attribute(name: str, value: object) -> str:
-    return f" {name}={quoteattr(NOT_XML.sub(chr(0xFFFD), str(value)))}"
-
-
-def degrees(units: int) -> str:
-    return f"{'-' if units < 0 else ''}{abs(units) // 10**7}.{abs(units) % 10**7:07}"
+    return f' {name}="{TEXTS(str(value))}"'
 
 
 def action_of(element: Element) -> str:
@@ -46,7 +41,7 @@ def lines(element: Element) -> Iterator[str]:
     """A version, with its kind, id, version, who made it and when, and where it is visible its content."""
     head = "".join(attribute(name, element[name]) for name in ("id", "version", "timestamp", "changeset", "uid", "user"))
     if "lat7" in element:
-        head += f' lat="{degrees(element["lat7"])}" lon="{degrees(element["lon7"])}"'
+        head += f' lat="{degrees_of(element["lat7"])}" lon="{degrees_of(element["lon7"])}"'
     inner = "".join(inner_lines(element))
     kind = element["type"]
     yield f"    <{kind}{head}>\n{inner}    </{kind}>\n" if inner else f"    <{kind}{head}/>\n"

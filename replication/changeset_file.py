@@ -5,7 +5,8 @@ from __future__ import annotations
 from collections.abc import Iterable, Iterator
 from typing import Any
 
-from change_file import attribute, degrees, tag_lines
+from change_file import attribute, tag_lines
+from from_gateway import degrees_of
 
 Changeset = dict[str, Any]
 Box = tuple[int, int, int, int]  # west, south, east, north, in units of 1e-7 degrees
@@ -17,14 +18,14 @@ def lines(changeset: Changeset) -> Iterator[str]:
     head = "".join(attribute(name, changeset[name]) for name in ("id", "created_at", "closed_at") if name in changeset)
     head += f' open="{"true" if changeset["open"] else "false"}"'
     head += "".join(attribute(name, changeset[name]) for name in ("user", "uid"))
-    head += "".join(f' {name}="{degrees(changeset[edge])}"' for name, edge in EDGES.items() if edge in changeset)
+    head += "".join(f' {name}="{degrees_of(changeset[edge])}"' for name, edge in EDGES.items() if edge in changeset)
     head += f' num_changes="{changeset["changes_count"]}" comments_count="0"'
     inner = "".join(tag_lines(changeset["tags"], "    "))
     yield f"  <changeset{head}>\n{inner}  </changeset>\n" if inner else f"  <changeset{head}/>\n"
 
 
 def bounds_line(box: Box) -> str:
-    west, south, east, north = map(degrees, box)
+    west, south, east, north = map(degrees_of, box)
     return f'  <bounds minlat="{south}" minlon="{west}" maxlat="{north}" maxlon="{east}"/>\n'
 
 

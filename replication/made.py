@@ -7,7 +7,8 @@ from collections.abc import Iterator
 from dataclasses import dataclass, field
 from typing import Any
 
-KINDS = ("node", "way", "relation")
+from from_gateway import KINDS
+
 COUNTED = (*KINDS, "changeset")
 DAY = 86_400  # seconds; no changeset is open for longer
 

@@ -20,7 +20,7 @@ from collections.abc import Iterator, Sequence
 from change_file import packed, text_of, text_of_blocks
 from feed import Unusable
 from folder import Folder, State, write_whole
-from made import KINDS
+from from_gateway import KINDS
 
 HOUR, DAY = 3_600, 86_400
 MOST_OPEN = 64  # files that are read at once; a process has 1,024

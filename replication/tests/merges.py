@@ -16,8 +16,8 @@ import folder as folders
 import same
 from change_file import Element, packed, text_of
 from folder import Folder, State
+from from_gateway import KINDS
 from killed import Steps
-from made import KINDS
 from merged import DAY, hours_and_days, merged
 from parts import Programs, Wrong, compare, from_nothing, whole_files
 

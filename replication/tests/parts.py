@@ -174,7 +174,7 @@ def written(_: Programs, folder: str) -> str:
         {"type": "node", "id": 4, "version": 2, "visible": False, **who},
         {"type": "way", "id": 9, "version": 3, "visible": True, "nodes": [4, 4], "tags": {}, **who},
     ]
-    shown = """changeset="7" uid="2" user='Jo "&amp;" &lt;Al&gt;&#10;'"""
+    shown = 'changeset="7" uid="2" user="Jo &quot;&amp;&quot; &lt;Al&gt;&#10;"'
     moment = 'timestamp="2026-11-29T00:00:00Z"'
     wanted = f"""<?xml version="1.0" encoding="UTF-8"?>
 <osmChange version="0.6" generator="hegunsap">
