@@ -53,10 +53,12 @@ def opened(path: str) -> Iterator[IO[bytes]]:
         yield file
 
 
-def check_header(path: str, file: IO[bytes]) -> None:
-    """So that no other file that is named by mistake is cut or moved. A break may leave the beginning of a header."""
-    if not HEADER.startswith(file.readline(len(HEADER))):
+def has_header(path: str, file: IO[bytes]) -> bool:
+    """Whether the file begins as a journal. One that isn't even the beginning of one was named by mistake, and is neither cut nor moved."""
+    found = file.readline(len(HEADER))
+    if not HEADER.startswith(found):
         raise Unusable(f"{path} isn't the journal of a mirror, and is left as it is: --mirror-journal names another file")
+    return found == HEADER
 
 
 def read_kept(path: str, piece: int, digest: str) -> Known | None:
@@ -66,7 +68,8 @@ def read_kept(path: str, piece: int, digest: str) -> Known | None:
     """
     try:
         with opened(path) as file:
-            check_header(path, file)
+            if not has_header(path, file):
+                return None
             known, end = Known(), len(HEADER)
             while known.taken.number < piece:
                 line = file.readline()
@@ -91,7 +94,7 @@ def set_aside(path: str) -> str | None:
     aside = path + ".old"
     try:
         with opened(path) as file:
-            check_header(path, file)
+            has_header(path, file)
             os.replace(path, aside)
     except FileNotFoundError:
         return None
@@ -111,6 +114,10 @@ class Writing:
 
     def add_entry(self, entry: bytes) -> None:
         self.file.write(entry + b"\n")
+
+    def drop(self) -> None:
+        self.file.close()
+        os.remove(self.new)
 
     def end(self) -> None:
         self.file.write(GATE)

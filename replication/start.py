@@ -56,20 +56,21 @@ class Start:
         while self.known.taken.number < state.piece:
             text = self.next_text()
             if text is None:
-                raise OtherJournal(
-                    f"{self.feed.site.url} has another journal than {self.folder.path}: it is shorter than {state.piece} pieces"
-                )
+                raise self.other(f"it is shorter than {state.piece} pieces")
             piece = read_piece(text)
             made_by(piece, self.counts)
             self.changesets.add(piece, self.counts)
             self.known.add(text)
             self.writing.add(text)
         if self.known.digest.hexdigest() != state.digest:
-            raise OtherJournal(
-                f"{self.feed.site.url} has another journal than {self.folder.path}: its first {state.piece} pieces are others"
-            )
+            raise self.other(f"its first {state.piece} pieces are others")
         self.writing.end()
         self.changesets.forget(state.moment)
+
+    def other(self, why: str) -> OtherJournal:
+        if self.writing is not None:
+            self.writing.drop()
+        return OtherJournal(f"{self.feed.site.url} has another journal than {self.folder.path}: {why}")
 
     def next_text(self) -> bytes | None:
         if not self.ahead:

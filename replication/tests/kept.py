@@ -72,6 +72,10 @@ def cut(path: str) -> None:
         file.truncate(file.read().index(b"\n#") // 2)
 
 
+def empty(path: str) -> None:
+    os.truncate(path, 0)
+
+
 def damage(path: str) -> None:
     """Another letter in the first entry."""
     with open(path, "r+b") as file:
@@ -91,7 +95,7 @@ def of_before(path: str) -> None:
         file.write(f'{{"moment": {state.moment}, "piece": {state.piece}, "digest": "{state.digest}"}}\n')
 
 
-SPOILS: tuple[Callable[[str], None], ...] = (remove, cut, damage, of_before)
+SPOILS: tuple[Callable[[str], None], ...] = (remove, cut, empty, damage, of_before)
 
 
 def refused(programs: Programs, port: int, folder: str, wanted: str, *more: str) -> None:
