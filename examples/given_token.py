@@ -9,7 +9,8 @@ VARIABLE = "HEGUNSAP_TOKEN"
 
 
 def add_token(parser: argparse.ArgumentParser) -> None:
-    parser.add_argument("--token-file", metavar="FILE", help=f"a file with the token alone; {VARIABLE} of the environment where it isn't said")
+    text = f"a file with the token alone; {VARIABLE} of the environment where it isn't said"
+    parser.add_argument("--token-file", metavar="FILE", help=text)
 
 
 def token_of(parser: argparse.ArgumentParser, words: argparse.Namespace) -> str:

@@ -96,7 +96,7 @@ def all_rows(folder: Folder, first: int, end: int) -> list[Row]:
 
 
 def check_contents(large: Folder, small: Folder, seconds: int) -> int:
-    """Each file has the versions of the smaller ones up to its moment, and nothing is left out between; answers how many files there are."""
+    """Each file has the versions of the smaller ones up to its moment, and nothing between is left out; answers how many there are."""
     last = large.newest()
     if last is None:
         raise Wrong(f"nothing is in {large.path}")
@@ -104,7 +104,8 @@ def check_contents(large: Folder, small: Folder, seconds: int) -> int:
         before, state = large.state(sequence - 1), large.state(sequence)
         if rows(large.base(sequence) + ".osc.gz") != all_rows(small, before.piece + 1, state.piece + 1):
             raise Wrong(f"{large.path}: file {sequence} hasn't what files {before.piece + 1} to {state.piece} have")
-        ends = small.state(state.piece).moment, small.state(state.piece + 1).moment if small.newest() != small.state(state.piece) else 1 << 40
+        is_last = small.newest() == small.state(state.piece)
+        ends = small.state(state.piece).moment, 1 << 40 if is_last else small.state(state.piece + 1).moment
         if state.moment % seconds or not (before.moment < state.moment and ends[0] <= state.moment < ends[1]):
             raise Wrong(f"{large.path}: file {sequence} is of {state.moment}, the smaller ones of {ends}")
     return last.sequence
