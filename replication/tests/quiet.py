@@ -16,6 +16,7 @@ from parts import USERS, Programs, Running, Wrong, export, url
 from serving import Server
 
 QUIET = 4  # intervals without a change
+LATE = 30  # seconds that a busy machine may take to write a file or to ask
 
 
 def wait_until(running: Running, sequence: int, seconds: float = 60) -> None:
@@ -45,7 +46,7 @@ def empty_files(running: Running, first: int, end: int) -> None:
             raise Wrong(f"file {sequence} of a quiet server has {len(root)} changes")
         moment, before = moment_of(running, sequence), moment_of(running, sequence - 1)
         written = os.stat(running.folder.base(sequence) + ".state.txt").st_mtime
-        if moment < before + 1 or abs(written - moment) > 5:
+        if moment < before + 1 or abs(written - moment) > LATE:
             raise Wrong(f"the moment of {sequence} is {moment} behind {before}, and it was written at {written}")
 
 
@@ -74,7 +75,7 @@ def quiet(programs: Programs, folder: str) -> str:
             last = running.folder.newest()
             time.sleep(8)
             ended, old = ages(database)
-    if begun <= state.sequence or young > 4:
+    if begun <= state.sequence or young > LATE:
         raise Wrong(f"of a quiet server osm2pgsql-replication tells sequence {begun}, {young} seconds old")
     if last is None or ended != last.sequence or old < 8:
         raise Wrong(f"of a dead server osm2pgsql-replication tells sequence {ended}, {old} seconds old; the folder has {last}")
