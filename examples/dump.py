@@ -60,10 +60,10 @@ def entries_of_file(path: str) -> Iterator[bytes]:
 
 def last_of_feed(url: str, token: str) -> int:
     """How far the feed goes, so that an end is found though editing goes on."""
-    site = Feed(url, token).site
-    state = site.ask(site.get("replication/state"))
-    site.close()
-    return int(json.loads(state.body)["sequenceNumber"])
+    feed = Feed(url, token)
+    last = feed.last()
+    feed.site.close()
+    return last
 
 
 def place_of(base_url: str) -> tuple[int, dict[str, str]]:

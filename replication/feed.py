@@ -110,6 +110,13 @@ class Feed:
         self.window = next_window(self.window, pieces, MOST) if len(pieces) == self.window else 1
         return pieces
 
+    def last(self) -> int:
+        """How many pieces there are by now."""
+        reply = self.site.ask(self.site.get("replication/state"))
+        if reply.status != 200:
+            raise self.refused(reply)
+        return int(json.loads(reply.body)["sequenceNumber"])
+
     def checked(self, body: bytes, number: int) -> bytes:
         found = NUMBER.search(body)
         if found is None or int(found[1]) != number:

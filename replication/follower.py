@@ -81,6 +81,8 @@ class Follower:
         made = made_by(piece, self.start.counts)
         self.start.changesets.add(piece, self.start.counts)
         self.start.known.add(text)
+        if self.start.appending is not None:
+            self.start.appending.add(text)
         self.at = piece.at
         self.versions.update(dict.fromkeys(made.sure))
         if made.perhaps:
@@ -110,6 +112,8 @@ class Follower:
         assert self.state is not None
         # Moments of files rise, so that none is found in place of another by its moment.
         moment = max(at, self.state.moment + 1)
+        if self.start.appending is not None:
+            self.start.appending.sync()
         news = self.start.changesets.told(self.mirror.changesets(self.start.changesets.to_look_at()))
         ids, is_open = dict(self.start.counts.ids), tuple(sorted(self.start.changesets.open))
         state = State(self.state.sequence + 1, moment, self.mirror.length, self.start.known.digest.hexdigest(), ids, is_open)

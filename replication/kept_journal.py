@@ -101,6 +101,40 @@ def set_aside(path: str) -> str | None:
     return aside
 
 
+class Appending:
+    """The file kept by this program itself, for a mirror that keeps nothing: brought to the disk once for each file of the folder.
+
+    A mirror brings each piece there by itself, which takes long where there are many. What a break leaves behind the pieces of the
+    folder's state is cut off by the next start.
+    """
+
+    def __init__(self, path: str) -> None:
+        if not os.path.exists(path):
+            with open(os.open(path, os.O_WRONLY | os.O_CREAT | os.O_CLOEXEC, 0o600), "wb") as file:
+                file.write(HEADER)
+            sync(os.path.dirname(path))
+        self.opening = opened(path)
+        self.file = self.opening.__enter__()
+        self.file.readline()
+
+    def pieces(self, count: int) -> Iterator[bytes]:
+        """So many of the pieces that it has; behind them it is cut, and goes on."""
+        for number in range(1, count + 1):
+            yield piece_of(self.file.readline()[:-1], number)
+        self.file.seek(self.file.tell())
+        self.file.truncate()
+
+    def add(self, piece: bytes) -> None:
+        self.file.write(entry_of(piece) + b"\n")
+
+    def sync(self) -> None:
+        self.file.flush()
+        os.fsync(self.file.fileno())
+
+    def close(self) -> None:
+        self.opening.__exit__(None, None, None)
+
+
 class Writing:
     """The file written anew, piece by piece: in its place once it is whole."""
 

@@ -38,12 +38,13 @@ def free_port() -> int:
 
 
 class OwnMirror:
-    """Starts a mirror of what a file has on a free port of the loopback, with one user who may post pieces; `close` ends it.
+    """Starts a mirror on a free port of the loopback, with one user who may post pieces; `close` ends it. It begins with what the file
+    of its journal has, and keeps there what it is given; without one it is empty, and keeps nothing.
 
     A mirror that serves its standard streams would end behind 1,000 requests, so it listens.
     """
 
-    def __init__(self, words: Sequence[str], journal: str) -> None:
+    def __init__(self, words: Sequence[str], journal: str | None) -> None:
         self.length, self.journal = 0, journal
         port, token = free_port(), secrets.token_hex(16)
         self.site = Site(f"http://127.0.0.1:{port}", token)
@@ -51,7 +52,7 @@ class OwnMirror:
             users = os.path.join(folder, "users.txt")
             with open(users, "w", encoding="utf-8") as file:
                 file.write(f"1 {token} moderator replication\n")
-            more = ("--users", users, "--listen", f"127.0.0.1:{port}", "--workers", "2", "--journal", journal)
+            more = ["--users", users, "--listen", f"127.0.0.1:{port}", "--workers", "2", *(["--journal", journal] if journal else [])]
             self.process = subprocess.Popen([*words, *more], stdin=subprocess.DEVNULL, preexec_fn=end_with_parent)
             try:
                 self.length = self.wait_for_it(words[0])
@@ -68,7 +69,7 @@ class OwnMirror:
             except Lost:
                 if self.process.poll() is not None:
                     raise Unusable(
-                        f"the mirror's program {program} ended with status {self.process.returncode}; its journal is {self.journal}"
+                        f"the mirror's program {program} ended with status {self.process.returncode}; its journal: {self.journal or 'none'}"
                     ) from None
                 if time.monotonic() > until:
                     raise Unusable(f"the mirror's program {program} doesn't answer") from None

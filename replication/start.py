@@ -4,14 +4,19 @@ from __future__ import annotations
 
 import hashlib
 from collections import deque
+from collections.abc import Sequence
 from dataclasses import replace
+from itertools import islice
 
 from feed import Feed, OtherJournal
 from folder import Folder
-from kept_journal import Known, Writing, read_kept, set_aside
+from kept_journal import Appending, Known, Writing, read_kept, set_aside
 from made import Changesets, Counts, made_by, read_piece
+from own_mirror import OwnMirror
 
 NOTHING = hashlib.sha256().hexdigest()
+FAR = 1_000  # new pieces from which on the mirror doesn't keep them, each by itself, but this program
+MOST_POSTED = 500  # pieces that a mirror is given at once
 
 
 class Start:
@@ -30,6 +35,7 @@ class Start:
         self.counts, self.changesets = Counts(), Changesets()
         self.ahead: deque[bytes] = deque()
         self.writing: Writing | None = None
+        self.appending: Appending | None = None
         known = self.read()
         self.known = known or Known()
         self.feed = Feed(url, token, replace(self.known.taken))
@@ -66,6 +72,26 @@ class Start:
             raise self.other(f"its first {state.piece} pieces are others")
         self.writing.end()
         self.changesets.forget(state.moment)
+
+    def mirror(self, words: Sequence[str]) -> OwnMirror:
+        """One that has the pieces of the state: it reads them in its file. Where the feed is far ahead they are given to one without."""
+        if self.feed.last() - self.known.taken.number <= FAR:
+            return OwnMirror(words, self.path)
+        self.appending = Appending(self.path)
+        mirror = OwnMirror(words, None)
+        try:
+            pieces = self.appending.pieces(self.known.taken.number)
+            while part := list(islice(pieces, MOST_POSTED)):
+                mirror.post(part)
+        except BaseException:
+            mirror.close()
+            raise
+        return mirror
+
+    def close(self) -> None:
+        self.feed.site.close()
+        if self.appending is not None:
+            self.appending.close()
 
     def other(self, why: str) -> OtherJournal:
         if self.writing is not None:

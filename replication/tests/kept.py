@@ -13,9 +13,10 @@ from collections.abc import Callable
 import edits
 from edits import Session
 from folder import Folder
-from parts import USERS, Programs, Running, Wrong, compare, export, from_nothing, url
+from parts import HERE, RUN, USERS, Programs, Running, Wrong, compare, export, from_nothing, url
 from serving import Server
 
+FAR = os.path.join(HERE, "far.py")
 ASKED = re.compile(rb"GET /api/0\.6/replication/(\d+) ")
 
 
@@ -129,8 +130,8 @@ def kept(programs: Programs, folder: str) -> str:
         edits.first_edits(session)
         edits.several_versions(session)
         again = []
-        for signal_number in (signal.SIGTERM, signal.SIGKILL):
-            running = Running(programs, listening.port, www)
+        for script, signal_number in ((RUN, signal.SIGTERM), (FAR, signal.SIGKILL), (RUN, signal.SIGKILL), (FAR, signal.SIGTERM)):
+            running = Running(programs, listening.port, www, script=script)
             running.wait_for(session)
             running.process.send_signal(signal_number)
             running.process.communicate(timeout=30)
@@ -157,6 +158,6 @@ def kept(programs: Programs, folder: str) -> str:
     from_nothing(Folder(www), found)
     compare("behind all starts", found, wanted)
     return (
-        f"behind {again[0]} and {again[1]} pieces a start asks for two of them and what is new; with a file that is gone, cut, "
+        f"behind {', '.join(map(str, again))} pieces a start asks for two of them and what is new; with a file that is gone, cut, empty, "
         "damaged or of before for all, and the map is the server's; other files stay"
     )

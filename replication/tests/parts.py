@@ -53,8 +53,8 @@ def url(port: int) -> str:
 class Running:
     """replication/run on a server and a folder, until the end of a `with`."""
 
-    def __init__(self, programs: Programs, port: int, folder: str, *more: str, killed_at: int = 0) -> None:
-        command = [os.path.join(HERE, "killed.py"), str(killed_at)] if killed_at else [RUN]
+    def __init__(self, programs: Programs, port: int, folder: str, *more: str, killed_at: int = 0, script: str = RUN) -> None:
+        command = [os.path.join(HERE, "killed.py"), str(killed_at)] if killed_at else [script]
         words = ["--feed", url(port), "--token", "bobtoken", "--folder", folder, "--mirror", programs.mirror, "--every", "1", *more]
         self.folder, self.mark = Folder(folder), uuid.uuid4().hex
         self.process = subprocess.Popen(
