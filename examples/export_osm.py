@@ -16,18 +16,22 @@ import sys
 import urllib.request
 from collections.abc import Iterator
 
+sys.path.append(os.path.join(os.path.dirname(os.path.dirname(os.path.abspath(__file__))), "gateway"))
+
 import osm_file
 from map_client import KINDS, Client, Element, Key, Lost, Refused, key
+from osm_gateway.degrees import degrees_of, units_of
 
 MANY = 500  # ids in a request
-Box = tuple[int, int, int, int]  # west, south, east, north, in units of 1e-7 degrees
+Box = osm_file.Box
+degrees = degrees_of
 
 
 def read_box(client: Client, box: Box) -> dict[Key, Element]:
     """The map of a box, in quarters where the server says that it is too large."""
     west, south, east, north = box
     try:
-        found = client.ask("GET", "map?bbox=" + ",".join(degrees(it) for it in box))["elements"]
+        found = client.ask("GET", "map?bbox=" + ",".join(map(degrees, box)))["elements"]
         return {key(it): it for it in found}
     except Refused as why:
         if why.error not in ("map_area", "map_nodes") or (west == east and south == north):
@@ -42,10 +46,6 @@ def read_box(client: Client, box: Box) -> dict[Key, Element]:
     }:
         parts.update(read_box(client, part))
     return parts
-
-
-def degrees(units: int) -> str:
-    return f"{'-' if units < 0 else ''}{abs(units) // 10**7}.{abs(units) % 10**7:07}"
 
 
 def read_all(client: Client) -> dict[Key, Element]:
@@ -69,7 +69,8 @@ def read_many(client: Client, kind: str, first: int, end: int) -> list[Element]:
     if first == end:
         return []
     try:
-        return client.ask("GET", f"{kind}s?{kind}s=" + ",".join(map(str, range(first, end))))["elements"]
+        elements: list[Element] = client.ask("GET", f"{kind}s?{kind}s=" + ",".join(map(str, range(first, end))))["elements"]
+        return elements
     except Refused as why:
         if why.error != "no_element":
             raise
@@ -90,7 +91,7 @@ def replication_headers(base_url: str) -> dict[str, str]:
 
 def box_of(text: str) -> Box:
     """`WEST,SOUTH,EAST,NORTH` in degrees."""
-    west, south, east, north = (round(float(it) * 1e7) for it in text.split(","))
+    west, south, east, north = map(units_of, text.split(","))
     return west, south, east, north
 
 

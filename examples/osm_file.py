@@ -16,6 +16,7 @@ from map_client import KINDS, Element, Key
 
 LETTERS = {"n": "node", "w": "way", "r": "relation"}
 BUFFER = 4 << 20  # bytes, as pyosmium has it
+Box = tuple[int, int, int, int]  # west, south, east, north, in units of 1e-7 degrees
 LETTER_OF = {kind: letter for letter, kind in LETTERS.items()}
 
 
@@ -51,24 +52,47 @@ def read(path: str) -> dict[Key, Element]:
 
 
 def mutable_of(it: Element) -> Any:
-    """The element as pyosmium writes it; who made it and when is there where the server told it."""
+    """The element as pyosmium writes it; who made it and when is there where the server told it. A deleted one has no content."""
     given = {name: it[name] for name in ("version", "changeset", "uid", "user", "timestamp") if name in it}
-    given.update(id=it["id"], tags=it.get("tags", {}), visible=True)
+    given.update(id=it["id"], tags=it.get("tags", {}), visible=it.get("visible", True))
     if it["type"] == "node":
-        return mutable.Node(location=(it["lon7"] / 1e7, it["lat7"] / 1e7), **given)
+        place: dict[str, Any] = {"location": (it["lon7"] / 1e7, it["lat7"] / 1e7)} if "lat7" in it else {}
+        return mutable.Node(**place, **given)
     if it["type"] == "way":
-        return mutable.Way(nodes=it["nodes"], **given)
-    members = [(LETTER_OF[member["type"]], member["ref"], member["role"]) for member in it["members"]]
+        return mutable.Way(nodes=it.get("nodes", ()), **given)
+    members = [(LETTER_OF[member["type"]], member["ref"], member["role"]) for member in it.get("members", ())]
     return mutable.Relation(members=members, **given)
 
 
+class Writer:
+    """A new file, of the form that the end of its name says: a .osh.pbf has every version with whether it is visible.
+
+    Elements are added by kind and id, their versions in turn. The file is whole behind the end of a `with`.
+    """
+
+    def __init__(self, path: str, headers: Mapping[str, str], box: Box | None = None) -> None:
+        header = osmium.io.Header()
+        header.has_multiple_object_versions = ".osh" in path
+        for name, value in headers.items():
+            header.set(name, value)
+        if box is not None:
+            header.add_box(osmium.osm.Box(*(it / 1e7 for it in box)))
+        self.writer = osmium.SimpleWriter(path, BUFFER, header)
+        self.adders = {kind: getattr(self.writer, f"add_{kind}") for kind in KINDS}
+
+    def add(self, it: Element) -> None:
+        self.adders[it["type"]](mutable_of(it))
+
+    def __enter__(self) -> Writer:
+        return self
+
+    def __exit__(self, *_: object) -> None:
+        self.writer.close()
+
+
 def write(path: str, elements: Iterable[Element], headers: Mapping[str, str] | None = None) -> None:
-    """A new file, of the form that the end of its name says: nodes, then ways, then relations, each by id."""
+    """Nodes, then ways, then relations, each by id."""
     order = {kind: place for place, kind in enumerate(KINDS)}
-    header = osmium.io.Header()
-    for name, value in (headers or {}).items():
-        header.set(name, value)
-    writer = osmium.SimpleWriter(path, BUFFER, header)
-    for it in sorted(elements, key=lambda it: (order[it["type"]], it["id"])):
-        getattr(writer, f"add_{it['type']}")(mutable_of(it))
-    writer.close()
+    with Writer(path, headers or {}) as writer:
+        for it in sorted(elements, key=lambda it: (order[it["type"]], it["id"])):
+            writer.add(it)

@@ -11,6 +11,7 @@ from kept_link import Link, Lost, Reply, Site
 MOST = 128  # pieces that are asked for at once
 LARGE = 8 << 20  # bytes; a piece may have 32 MiB
 NUMBER = re.compile(rb'"number":(\d+),"version":\d+}$')
+BEFORE, BEHIND = b'{"entry":', b',"number":%d,"version":2}'
 
 
 class OtherJournal(Exception):
@@ -19,6 +20,20 @@ class OtherJournal(Exception):
 
 class Unusable(Exception):
     """What the other side says can't be gone on with, now or later."""
+
+
+def piece_of(entry: bytes, number: int) -> bytes:
+    """The piece of a line of the journal's text."""
+    return BEFORE + entry + BEHIND % number
+
+
+def entry_of(piece: bytes) -> bytes:
+    """The line of the journal's text that a piece has."""
+    entry = piece[len(BEFORE) : piece.rfind(b',"number":')]
+    found = NUMBER.search(piece)
+    if found is None or piece_of(entry, int(found[1])) != piece:
+        raise Unusable(f"a piece isn't of the form that is known: {piece[:60]!r}")
+    return entry
 
 
 @dataclass
@@ -94,6 +109,13 @@ class Feed:
                 raise
         self.window = next_window(self.window, pieces, MOST) if len(pieces) == self.window else 1
         return pieces
+
+    def last(self) -> int:
+        """How many pieces there are by now."""
+        reply = self.site.ask(self.site.get("replication/state"))
+        if reply.status != 200:
+            raise self.refused(reply)
+        return int(json.loads(reply.body)["sequenceNumber"])
 
     def checked(self, body: bytes, number: int) -> bytes:
         found = NUMBER.search(body)

@@ -2,17 +2,17 @@
 
 from __future__ import annotations
 
-import hashlib
 import time
-from collections import deque
 from collections.abc import Iterator, Sequence
 
-from change_file import Element
-from feed import Feed, OtherJournal, Unusable
-from folder import Folder, State
+import changeset_file
+from change_file import Element, packed, text_of
+from feed import Unusable
+from folder import State
 from kept_link import Lost
-from made import Counts, Made, Version, made_by, read_piece
+from made import Made, Version, made_by, read_piece
 from own_mirror import OwnMirror
+from start import Start
 
 MOST_VERSIONS = 50_000  # from so many on a file ends, at the end of a piece
 MOST_POSTED = 500  # pieces that are held back for the mirror
@@ -21,27 +21,26 @@ MANY = 500  # versions that are read at once
 
 
 class Follower:
-    """The feed, a mirror of its own that has each piece that was looked at, and the folder.
+    """The feed behind a start, a mirror of its own that has each piece that was looked at, and the folder."""
 
-    A mirror keeps nothing on a disk, so it is given all pieces from the first one on at each start. With that it is seen whether the feed
-    is still the one that the folder was made of: the SHA-256 over all its pieces must come out again.
-    """
-
-    def __init__(self, feed: Feed, mirror: OwnMirror, folder: Folder) -> None:
-        self.feed, self.mirror, self.folder = feed, mirror, folder
-        self.state = folder.newest()
-        self.is_level = False
-        self.ahead: deque[bytes] = deque()
+    def __init__(self, start: Start, mirror: OwnMirror) -> None:
+        if mirror.length != start.known.taken.number:
+            raise Unusable(f"the mirror has {mirror.length} pieces of {mirror.journal}, which has {start.known.taken.number}")
+        self.start, self.mirror, self.folder = start, mirror, start.folder
+        self.state = start.state
         self.unposted: list[bytes] = []
         self.unposted_bytes = 0
-        self.counts, self.digest = Counts(), hashlib.sha256()
         self.versions: dict[Version, None] = {}
         self.at = 0
 
     def advance(self) -> Iterator[State]:
-        """Takes what the feed has, and tells of each file that came of it. Where the server is lost, behind what could be written."""
-        self.catch_up()
-        is_whole = False
+        """Takes what the feed has, and tells of each file that came of it. Where the server is lost, behind what could be written.
+
+        Where nothing came, a file without changes tells followers that the server was asked: so a quiet one isn't taken for a dead one.
+        """
+        self.state = self.state or self.begin()
+        asked = int(time.time())
+        is_whole, is_quiet = False, True
         while not is_whole:
             lost: Lost | None = None
             try:
@@ -50,53 +49,28 @@ class Follower:
                 lost = why
             self.post()
             if self.versions:
-                yield self.publish()
+                is_quiet = False
+                yield self.publish(self.at)
             if lost is not None:
                 raise lost
-
-    def rest(self) -> None:
-        """Ends the links until the next time: a kept one would hold a worker of the server."""
-        self.feed.site.close()
-        self.mirror.site.close()
-
-    def catch_up(self) -> None:
-        """Gives the mirror what the folder has already. Of a new folder it writes the beginning."""
-        if self.is_level:
-            return
-        state = self.state or self.begin()
-        while self.mirror.length + len(self.unposted) < state.piece:
-            text = self.next_text()
-            if text is None:
-                raise OtherJournal(
-                    f"{self.feed.site.url} has another journal than {self.folder.path}: it is shorter than {state.piece} pieces"
-                )
-            self.look_at(text)
-        self.post()
-        if self.digest.hexdigest() != state.digest:
-            raise OtherJournal(
-                f"{self.feed.site.url} has another journal than {self.folder.path}: its first {state.piece} pieces are others"
-            )
-        self.is_level = True
+        if is_quiet:
+            # Before the feed was asked, so what is stamped later is in a later file.
+            yield self.publish(asked)
 
     def begin(self) -> State:
-        """Sequence number 0, without changes, just before the first piece."""
-        text = self.next_text()
+        """Of a new folder: sequence number 0, without changes, just before the first piece."""
+        text = self.start.next_text()
         if text is not None:
-            self.ahead.appendleft(text)
-        moment = int(time.time()) if text is None else read_piece(text).at - 1
-        self.state = State(0, moment, 0, hashlib.sha256().hexdigest())
-        self.folder.publish(self.state, ())
-        return self.state
-
-    def next_text(self) -> bytes | None:
-        if not self.ahead:
-            self.ahead.extend(self.feed.next_pieces())
-        return self.ahead.popleft() if self.ahead else None
+            self.start.ahead.appendleft(text)
+        moment = (int(time.time()) if text is None else read_piece(text).at) - 1
+        state = State(0, moment, 0, self.start.known.digest.hexdigest(), dict(self.start.counts.ids))
+        self.folder.publish(state, packed(text_of(())), packed(changeset_file.text_of(())))
+        return state
 
     def gather(self) -> bool:
         """Looks at pieces until the feed ends or a file is full; answers whether it ended."""
         while len(self.versions) < MOST_VERSIONS:
-            text = self.next_text()
+            text = self.start.next_text()
             if text is None:
                 return True
             self.look_at(text)
@@ -104,14 +78,16 @@ class Follower:
 
     def look_at(self, text: bytes) -> None:
         piece = read_piece(text)
-        made = made_by(piece, self.counts)
-        self.digest.update(text + b"\n")
-        if self.is_level:
-            self.at = piece.at
-            self.versions.update(dict.fromkeys(made.sure))
-            if made.perhaps:
-                self.versions.update(dict.fromkeys(self.new_ones(text, made)))
-                return
+        made = made_by(piece, self.start.counts)
+        self.start.changesets.add(piece, self.start.counts)
+        self.start.known.add(text)
+        if self.start.appending is not None:
+            self.start.appending.add(text)
+        self.at = piece.at
+        self.versions.update(dict.fromkeys(made.sure))
+        if made.perhaps:
+            self.versions.update(dict.fromkeys(self.new_ones(text, made)))
+            return
         self.unposted.append(text)
         self.unposted_bytes += len(text)
         if len(self.unposted) >= MOST_POSTED or self.unposted_bytes >= MOST_BYTES:
@@ -131,13 +107,17 @@ class Follower:
         self.unposted.clear()
         self.unposted_bytes = 0
 
-    def publish(self) -> State:
-        """One file with every version of the interval that no redaction hides at its end."""
+    def publish(self, at: int) -> State:
+        """One file with every version of the interval that no redaction hides at its end, and one with its changesets."""
         assert self.state is not None
         # Moments of files rise, so that none is found in place of another by its moment.
-        moment = max(self.at, self.state.moment + 1)
-        state = State(self.state.sequence + 1, moment, self.mirror.length, self.digest.hexdigest())
-        self.folder.publish(state, self.shown())
+        moment = max(at, self.state.moment + 1)
+        if self.start.appending is not None:
+            self.start.appending.sync()
+        news = self.start.changesets.told(self.mirror.changesets(self.start.changesets.to_look_at()))
+        ids, is_open = dict(self.start.counts.ids), tuple(sorted(self.start.changesets.open))
+        state = State(self.state.sequence + 1, moment, self.mirror.length, self.start.known.digest.hexdigest(), ids, is_open)
+        self.folder.publish(state, packed(text_of(self.shown())), packed(changeset_file.text_of(news)))
         self.state = state
         self.versions.clear()
         return state

@@ -7,7 +7,10 @@ from collections.abc import Iterator
 from dataclasses import dataclass, field
 from typing import Any
 
-KINDS = ("node", "way", "relation")
+from from_gateway import KINDS
+
+COUNTED = (*KINDS, "changeset")
+DAY = 86_400  # seconds; no changeset is open for longer
 
 
 @dataclass(frozen=True, slots=True)
@@ -29,9 +32,9 @@ class Version:
 
 @dataclass
 class Counts:
-    """How many elements of each kind there ever were: new ones are numbered in turn."""
+    """How many elements of each kind and changesets there ever were: new ones are numbered in turn."""
 
-    ids: dict[str, int] = field(default_factory=lambda: dict.fromkeys(KINDS, 0))
+    ids: dict[str, int] = field(default_factory=lambda: dict.fromkeys(COUNTED, 0))
 
     def next(self, kind: str) -> int:
         self.ids[kind] += 1
@@ -82,3 +85,39 @@ def made_by(piece: Piece, counts: Counts) -> Made:
         version = Version(kind, named[kind, place] if place < 0 else place, element["version"] + 1)
         (perhaps if skips else sure)[version] = None
     return Made(tuple(sure), tuple(it for it in perhaps if it not in sure))
+
+
+@dataclass
+class Changesets:
+    """Which changesets pieces made or changed, and which may be open. They close by themselves too, of which no piece tells."""
+
+    open: set[int] = field(default_factory=set)
+    changed: set[int] = field(default_factory=set)
+    born: dict[int, int] = field(default_factory=dict)
+
+    def add(self, piece: Piece, counts: Counts) -> None:
+        if piece.command["act"] == "create_changeset":
+            number = counts.next("changeset")
+            self.open.add(number)
+            self.born[number] = piece.at
+        else:
+            number = piece.command.get("changeset", 0)
+        if number:
+            self.changed.add(number)
+
+    def forget(self, moment: int) -> None:
+        """What was told before that moment."""
+        self.open = {it for it in self.open if self.born[it] > moment - DAY}
+        self.changed.clear()
+        self.born.clear()
+
+    def to_look_at(self) -> list[int]:
+        return sorted(self.open | self.changed)
+
+    def told(self, rows: list[dict[str, Any]]) -> list[dict[str, Any]]:
+        """Which of their rows are to be told: those that were changed, and those that have closed meanwhile."""
+        news = [it for it in rows if it["id"] in self.changed or not it["open"]]
+        self.open = {it["id"] for it in rows if it["open"]}
+        self.changed.clear()
+        self.born.clear()
+        return news

@@ -11,7 +11,7 @@ import socket
 import subprocess
 import tempfile
 import time
-from collections.abc import Sequence
+from collections.abc import Iterator, Sequence
 from typing import Any
 
 from feed import Unusable
@@ -26,8 +26,9 @@ class Ended(Exception):
 
 
 def end_with_parent() -> None:
-    """In the child: whatever ends this program ends the mirror too (Linux)."""
+    """In the child: whatever ends this program ends the mirror too (Linux). What it keeps is for nobody else."""
     ctypes.CDLL(None).prctl(PR_SET_PDEATHSIG, signal.SIGTERM)
+    os.umask(0o077)
 
 
 def free_port() -> int:
@@ -37,35 +38,39 @@ def free_port() -> int:
 
 
 class OwnMirror:
-    """Starts an empty mirror on a free port of the loopback, with one user who may post pieces; `close` ends it.
+    """Starts a mirror on a free port of the loopback, with one user who may post pieces; `close` ends it. It begins with what the file
+    of its journal has, and keeps there what it is given; without one it is empty, and keeps nothing.
 
     A mirror that serves its standard streams would end behind 1,000 requests, so it listens.
     """
 
-    def __init__(self, words: Sequence[str]) -> None:
-        self.length, port, token = 0, free_port(), secrets.token_hex(16)
+    def __init__(self, words: Sequence[str], journal: str | None) -> None:
+        self.length, self.journal = 0, journal
+        port, token = free_port(), secrets.token_hex(16)
         self.site = Site(f"http://127.0.0.1:{port}", token)
         with tempfile.TemporaryDirectory() as folder:
             users = os.path.join(folder, "users.txt")
             with open(users, "w", encoding="utf-8") as file:
                 file.write(f"1 {token} moderator replication\n")
-            more = ("--users", users, "--listen", f"127.0.0.1:{port}", "--workers", "2")
+            more = ["--users", users, "--listen", f"127.0.0.1:{port}", "--workers", "2", *(["--journal", journal] if journal else [])]
             self.process = subprocess.Popen([*words, *more], stdin=subprocess.DEVNULL, preexec_fn=end_with_parent)
             try:
-                self.wait_for_it(words[0])
+                self.length = self.wait_for_it(words[0])
             except BaseException:
                 self.close()
                 raise
 
-    def wait_for_it(self, program: str) -> None:
+    def wait_for_it(self, program: str) -> int:
+        """Answers how many pieces it has."""
         until = time.monotonic() + WAIT
         while True:
             try:
-                self.site.ask(self.site.get("replication/state"))
-                return
+                return int(json.loads(self.site.ask(self.site.get("replication/state")).body)["sequenceNumber"])
             except Lost:
                 if self.process.poll() is not None:
-                    raise Unusable(f"the mirror's program {program} ended with status {self.process.returncode}") from None
+                    raise Unusable(
+                        f"the mirror's program {program} ended with status {self.process.returncode}; its journal: {self.journal or 'none'}"
+                    ) from None
                 if time.monotonic() > until:
                     raise Unusable(f"the mirror's program {program} doesn't answer") from None
                 time.sleep(0.02)
@@ -82,17 +87,25 @@ class OwnMirror:
         except Lost as why:
             raise Ended(str(why)) from why
 
-    def read(self, paths: Sequence[str]) -> list[dict[str, Any] | None]:
-        """The first element of each reply, with those that are redacted; none where there is no such element or version."""
-        found: list[dict[str, Any] | None] = []
+    def bodies(self, paths: Sequence[str]) -> Iterator[dict[str, Any] | None]:
+        """Of each read what it tells; none where there is no such thing."""
         try:
             for path, reply in zip(paths, self.site.exchange([self.site.get(it) for it in paths])):
                 if reply.status not in (200, 404):
                     raise Unusable(f"the mirror's reply to {path}: {reply.status} {reply.body[:200].decode(errors='replace')}")
-                found.append(json.loads(reply.body)["elements"][0] if reply.status == 200 else None)
+                yield json.loads(reply.body) if reply.status == 200 else None
         except Lost as why:
             raise Ended(str(why)) from why
-        return found
+
+    def read(self, paths: Sequence[str]) -> list[dict[str, Any] | None]:
+        """The first element of each reply, with those that are redacted; none where there is no such element or version."""
+        return [it and it["elements"][0] for it in self.bodies(paths)]
+
+    def changesets(self, ids: Sequence[int]) -> list[dict[str, Any]]:
+        found = list(self.bodies([f"changeset/{it}" for it in ids]))
+        if None in found:
+            raise Unusable(f"the mirror has no changeset {ids[found.index(None)]}, which the feed tells of")
+        return [it["changeset"] for it in found if it]
 
     def close(self) -> None:
         self.site.close()

@@ -103,6 +103,11 @@ class Database:
         whose = ["-d", "osm", "-H", self.folder, "-U", "postgres", "--prefix", "planet_osm"]
         run(["osm2pgsql-replication", command, *whose, *words, *(["--", *more] if more else [])])
 
+    def status(self) -> str:
+        """What `osm2pgsql-replication status` tells, as JSON."""
+        words = ["-q", "-d", "osm", "-H", self.folder, "-U", "postgres", "--prefix", "planet_osm", "--json"]
+        return run(["osm2pgsql-replication", "status", *words])
+
     def rows(self, table: str) -> list[str]:
         return sorted(self.ask(f"select t::text from {table} t").splitlines())
 

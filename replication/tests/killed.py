@@ -1,7 +1,7 @@
 #!/usr/bin/python3
 """replication/run, killed at a step of its writing: killed.py N WORDS..  ends with the Nth step half done, or as the words end.
 
-Each opening, writing, bringing to the disk and renaming of a file is a step, and each folder that is made.
+Each opening, writing, bringing to the disk, cutting and renaming of a file is a step, and each folder that is made.
 """
 
 from __future__ import annotations
@@ -18,6 +18,7 @@ TOP = os.path.dirname(HERE)
 sys.path.insert(0, TOP)
 
 import folder
+import kept_journal
 
 
 class Steps:
@@ -41,6 +42,10 @@ class Steps:
     def replace(self, source: str, target: str) -> None:
         self.step()
         os.replace(source, target)
+
+    def ftruncate(self, descriptor: int, length: int) -> None:
+        self.step()
+        os.ftruncate(descriptor, length)
 
     def mkdir(self, path: str) -> None:
         self.step()
@@ -69,6 +74,7 @@ class Halves(io.FileIO):
 if __name__ == "__main__":
     steps = Steps(int(sys.argv[1]))
     setattr(folder, "os", steps)
+    setattr(kept_journal, "os", steps)
     setattr(folder, "open", steps.open_file)
     sys.argv[:] = [os.path.join(TOP, "run"), *sys.argv[2:]]
     runpy.run_path(sys.argv[0], run_name="__main__")

@@ -53,8 +53,8 @@ def url(port: int) -> str:
 class Running:
     """replication/run on a server and a folder, until the end of a `with`."""
 
-    def __init__(self, programs: Programs, port: int, folder: str, *more: str, killed_at: int = 0) -> None:
-        command = [os.path.join(HERE, "killed.py"), str(killed_at)] if killed_at else [RUN]
+    def __init__(self, programs: Programs, port: int, folder: str, *more: str, killed_at: int = 0, script: str = RUN) -> None:
+        command = [os.path.join(HERE, "killed.py"), str(killed_at)] if killed_at else [script]
         words = ["--feed", url(port), "--token", "bobtoken", "--folder", folder, "--mirror", programs.mirror, "--every", "1", *more]
         self.folder, self.mark = Folder(folder), uuid.uuid4().hex
         self.process = subprocess.Popen(
@@ -174,7 +174,7 @@ def written(_: Programs, folder: str) -> str:
         {"type": "node", "id": 4, "version": 2, "visible": False, **who},
         {"type": "way", "id": 9, "version": 3, "visible": True, "nodes": [4, 4], "tags": {}, **who},
     ]
-    shown = """changeset="7" uid="2" user='Jo "&amp;" &lt;Al&gt;&#10;'"""
+    shown = 'changeset="7" uid="2" user="Jo &quot;&amp;&quot; &lt;Al&gt;&#10;"'
     moment = 'timestamp="2026-11-29T00:00:00Z"'
     wanted = f"""<?xml version="1.0" encoding="UTF-8"?>
 <osmChange version="0.6" generator="hegunsap">
@@ -195,7 +195,7 @@ def written(_: Programs, folder: str) -> str:
   </modify>
 </osmChange>
 """
-    found = gzip.decompress(b"".join(change_file.packed(elements))).decode()
+    found = gzip.decompress(b"".join(change_file.packed(change_file.text_of(elements)))).decode()
     if found != wanted:
         raise Wrong(f"it is {found}")
     state = State(1234567, 1700000000, 5, "")
@@ -206,36 +206,42 @@ def written(_: Programs, folder: str) -> str:
     return "a file of changes and a state are as OpenStreetMap's are"
 
 
+def edited(running: Running, session: Session, port: int, base: str, begun: str, address: str) -> tuple[State, State]:
+    """Edits of every kind: some before the file `base` is made, at the state `begun`, and some behind it; answers two states of then."""
+    edits.first_edits(session)
+    redaction = session.moderator.ask("POST", "redactions", {"title": "private"})
+    running.wait_for(session)
+    export(port, base, address)
+    shutil.copy(os.path.join(running.folder.path, "state.txt"), begun)
+    many = edits.several_versions(session)
+    edits.unless_used(session)
+    edits.at_once(session)
+    running.wait_for(session)
+    edits.brought_back(session)
+    hidden = edits.redacted(session, redaction)
+    edits.single_calls(session)
+    state = running.wait_for(session)
+    # One that is long in a file is hidden now, and one that never came out is shown again.
+    session.moderator.ask("POST", f"node/{many}/1/redact?redaction={redaction}")
+    session.moderator.ask("POST", f"node/{hidden}/1/redact")
+    edits.with_what_was_there(session)
+    edits.unless_used(session)
+    return state, running.wait_for(session)
+
+
 def followed(programs: Programs, folder: str) -> str:
     www, base, wanted = (os.path.join(folder, it) for it in ("www", "base.osm.pbf", "wanted.osm.pbf"))
-    with Server(programs.server, 8, USERS) as server, Running(programs, server.port, www) as running:
+    begun = os.path.join(folder, "begun.txt")
+    with Server(programs.server, 8, USERS) as server, followers.Files(www) as files:
         session = Session(url(server.port))
-        edits.first_edits(session)
-        redaction = session.moderator.ask("POST", "redactions", {"title": "private"})
-        running.wait_for(session)
-        with followers.Files(www) as files:
-            export(server.port, base, files.url)
-            begun = os.path.join(folder, "begun.txt")
-            shutil.copy(os.path.join(www, "state.txt"), begun)
-            many = edits.several_versions(session)
-            edits.unless_used(session)
-            edits.at_once(session)
-            running.wait_for(session)
-            edits.brought_back(session)
-            hidden = edits.redacted(session, redaction)
-            edits.single_calls(session)
-            state = running.wait_for(session)
-            # One that is long in a file is hidden now, and one that never came out is shown again.
-            session.moderator.ask("POST", f"node/{many}/1/redact?redaction={redaction}")
-            session.moderator.ask("POST", f"node/{hidden}/1/redact")
-            edits.with_what_was_there(session)
-            edits.unless_used(session)
-            last = running.wait_for(session)
-            export(server.port, wanted)
-            by = {name: os.path.join(folder, f"{name}.osm.pbf") for name in ("pyosmium", "osmosis", "nothing")}
-            followers.by_pyosmium(base, by["pyosmium"])
-            followers.by_osmosis(base, by["osmosis"], files.url, begun, os.path.join(folder, "osmosis"))
-            rows = followers.by_osm2pgsql(base, wanted, folder)
+        with Running(programs, server.port, www) as running:
+            state, last = edited(running, session, server.port, base, begun, files.url)
+        # No more files come, which a slow follower would go on after.
+        export(server.port, wanted)
+        by = {name: os.path.join(folder, f"{name}.osm.pbf") for name in ("pyosmium", "osmosis", "nothing")}
+        followers.by_pyosmium(base, by["pyosmium"])
+        followers.by_osmosis(base, by["osmosis"], files.url, begun, os.path.join(folder, "osmosis"))
+        rows = followers.by_osm2pgsql(base, wanted, folder)
         from_nothing(running.folder, by["nothing"])
         for name, path in by.items():
             compare(name, path, wanted)
