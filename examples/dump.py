@@ -26,7 +26,6 @@ TOP = os.path.dirname(os.path.dirname(os.path.abspath(__file__)))
 sys.path.append(os.path.join(TOP, "replication"))
 
 import changeset_file
-import osm_file
 from export_osm import read_kind, replication_headers
 from feed import Feed, OtherJournal, Unusable, entry_of
 from given_token import add_token, token_of

@@ -34,7 +34,7 @@ import tqdm
 import import_plan
 import osm_file
 from import_plan import Table, Upload
-from map_client import KINDS, Client, Key, Lost, Refused, key
+from map_client import KINDS, Client, Lost, Refused, key
 
 HOLDS = 10000  # changes of a changeset
 PAUSES = (0.5, 1, 2, 4, 8, 16, 30)  # seconds between tries while the server doesn't answer

@@ -27,7 +27,7 @@ import time
 from typing import NamedTuple
 
 import serving
-from serving import Link, Server, connect, family, request
+from serving import Link, Server, connect, family, free_port, request, takes_links, wait_for_answer
 
 TOKEN = "alicetoken"
 USERS = f"1 {TOKEN} user alice\n"
@@ -84,7 +84,7 @@ INSERT = (
 class Run(NamedTuple):
     """What came of a load: requests, those of them that weren't answered with 200, and times in microseconds."""
 
-    count: int
+    requests: int
     refused: int
     rate: float
     user: float = 0
@@ -135,7 +135,7 @@ def load(pid: int, words: list[str]) -> Run:
     before = seconds(pid)
     run = told(subprocess.run(words, capture_output=True, text=True, check=True).stdout)
     after = seconds(pid)
-    user, system = ((after[i] - before[i]) * 1e6 / max(run.count, 1) for i in (0, 1))
+    user, system = ((after[i] - before[i]) * 1e6 / max(run.requests, 1) for i in (0, 1))
     return run._replace(user=user, system=system)
 
 
@@ -149,7 +149,7 @@ def calls(pid: int, words: list[str], folder: str) -> float:
         strace.send_signal(signal.SIGINT)
     with open(path) as file:
         total = next(line for line in file if line.rstrip().endswith("total"))
-    return int(total.split()[3]) / max(run.count, 1)
+    return int(total.split()[3]) / max(run.requests, 1)
 
 
 class Bench:
@@ -229,13 +229,8 @@ class Bench:
 
     def started(self, words: list[str], port: int) -> subprocess.Popen[bytes]:
         process = subprocess.Popen(words, cwd=self.folder)
-        for _ in range(100):
-            try:
-                connect(port).close()
-                return process
-            except OSError:
-                time.sleep(0.05)
-        sys.exit(f"{words[0]} doesn't answer")
+        wait_for_answer(words[0], process, lambda: takes_links(port))
+        return process
 
     def rust(self, workers: int) -> None:
         program = os.path.join(self.folder, "baseline")
@@ -273,8 +268,8 @@ class Bench:
             subprocess.run([*user, f"{tools}/initdb", "-D", f"{data}/data", "-U", "postgres", "-A", "trust"], check=True, stdout=subprocess.DEVNULL)
         start = [*user, f"{tools}/postgres", "-D", f"{data}/data", "-k", data, "-c", "listen_addresses="]
         process = subprocess.Popen(start, stderr=subprocess.DEVNULL)
-        while subprocess.run([f"{tools}/pg_isready", *where], stdout=subprocess.DEVNULL).returncode:
-            time.sleep(0.1)
+        ready = [f"{tools}/pg_isready", *where]
+        wait_for_answer("PostgreSQL", process, lambda: not subprocess.run(ready, stdout=subprocess.DEVNULL).returncode)
         subprocess.run(["psql", "-q", *where, "-c", "drop table if exists nodes, ways;" + SCHEMA], check=True, stderr=subprocess.DEVNULL)
         before = seconds(process.pid)
         words = ["pgbench", "-n", "-M", "prepared", "-f", self.file("insert.sql", INSERT), "-T", str(self.it.seconds)]
@@ -316,12 +311,6 @@ class Bench:
         if max(self.it.workers) > 1:
             print("\n" + self.beside_an_upload(max(self.it.workers)))
         print("\n" + self.idle())
-
-
-def free_port() -> int:
-    with serving.socket.socket() as free:
-        free.bind(("127.0.0.1", 0))
-        return free.getsockname()[1]
 
 
 def main() -> None:

@@ -5,12 +5,13 @@ from __future__ import annotations
 import json
 import os
 import random
+import signal
 import socket
 import subprocess
-import sys
 import tempfile
 import time
-from collections.abc import Iterable, Iterator, Sequence
+from collections.abc import Callable, Iterable, Iterator, Sequence
+from contextlib import suppress
 from typing import Any, NamedTuple
 
 TICKS: int = os.sysconf("SC_CLK_TCK")
@@ -119,6 +120,32 @@ def family(pid: int) -> list[int]:
         return []
 
 
+class Unanswered(SystemExit):
+    """A program that was started ended before it answered, or took too long."""
+
+
+def takes_links(port: int) -> bool:
+    try:
+        connect(port).close()
+    except OSError:
+        return False
+    return True
+
+
+def wait_for_answer(name: str, process: subprocess.Popen[Any], answers: Callable[[], bool], seconds: float = 60) -> None:
+    """Waits until a program that was started answers. One that takes too long is ended, with all that it started."""
+    until = time.monotonic() + seconds
+    while not answers():
+        if process.poll() is not None:
+            raise Unanswered(f"{name} ended with status {process.returncode}")
+        if time.monotonic() > until:
+            for pid in family(process.pid):
+                with suppress(ProcessLookupError):
+                    os.kill(pid, signal.SIGKILL)
+            raise Unanswered(f"{name} doesn't answer within {seconds:g} seconds")
+        time.sleep(0.05)
+
+
 def seconds_of(pid: int) -> tuple[float, float]:
     """The processor time of a process so far, of the program itself and of the kernel for it."""
     with open(f"/proc/{pid}/stat") as file:
@@ -143,14 +170,7 @@ class Server:
         words = [*command, "--users", path, "--listen", f"127.0.0.1:{self.port}", "--workers", str(workers)]
         self.process = subprocess.Popen([program, *words], stdin=subprocess.DEVNULL)
         self.workers = workers
-        until = time.monotonic() + wait
-        while not self.answers():
-            if self.process.poll() is not None:
-                sys.exit(f"{program} ended with status {self.process.returncode}")
-            if time.monotonic() > until:
-                self.process.kill()
-                sys.exit(f"{program} doesn't answer on port {self.port}")
-            time.sleep(0.05)
+        wait_for_answer(f"{program}, on port {self.port},", self.process, self.answers, wait)
         self.pid: int = family(self.process.pid)[-1]
 
     def answers(self) -> bool:

@@ -14,15 +14,13 @@ from __future__ import annotations
 
 import argparse
 import os
-import socket
 import subprocess
 import sys
 import tempfile
-import time
 from typing import NamedTuple
 
 import serving
-from serving import Lost, Replies, Server, connect, free_port, request
+from serving import Lost, Replies, Server, connect, free_port, request, takes_links, wait_for_answer
 
 USERS = "1 alicetoken user alice\n"
 HIDDEN = b"GET /api/0.6/node/666 HTTP/1.1\r\nHost: localhost\r\n\r\n"
@@ -121,15 +119,8 @@ class Nginx:
         self.process = subprocess.Popen(words, stdin=subprocess.DEVNULL)
 
     def __enter__(self) -> Nginx:
-        until = time.monotonic() + 10
-        while time.monotonic() < until and self.process.poll() is None:
-            try:
-                connect(self.lax).close()
-                return self
-            except OSError:
-                time.sleep(0.02)
-        self.process.kill()
-        sys.exit("nginx doesn't answer")
+        wait_for_answer("nginx", self.process, lambda: takes_links(self.lax))
+        return self
 
     def __exit__(self, *_: object) -> None:
         self.process.terminate()

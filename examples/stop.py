@@ -23,7 +23,7 @@ import tempfile
 import threading
 import time
 
-from serving import Lost, Replies, connect, free_port, request, tell_faults
+from serving import Lost, Replies, connect, free_port, request, takes_links, tell_faults, wait_for_answer
 
 HERE = os.path.dirname(os.path.abspath(__file__))
 PROGRAM = os.path.join(HERE, "..", "crates", "osm", "out", "osm")
@@ -76,19 +76,7 @@ class Program:
         self.journal = os.path.join(folder, "journal")
         words = [*words, "serve", "--until-input-ends", "--users", users, "--listen", f"127.0.0.1:{self.port}"]
         self.process = subprocess.Popen([*words, "--workers", str(WORKERS), "--journal", self.journal], stdin=subprocess.PIPE)
-        until = time.monotonic() + wait
-        while not self.listens():
-            if self.process.poll() is not None or time.monotonic() > until:
-                self.process.kill()
-                raise SystemExit(f"{words[0]} takes no links, and has the status {self.process.wait()}")
-            time.sleep(0.05)
-
-    def listens(self) -> bool:
-        try:
-            connect(self.port).close()
-        except OSError:
-            return False
-        return True
+        wait_for_answer(words[0], self.process, lambda: takes_links(self.port), wait)
 
     def close_input(self) -> None:
         assert self.process.stdin
@@ -129,7 +117,7 @@ def try_stop(words: list[str], links: int, seconds: float, wait: float) -> list[
         wrong += [client.wrong for client in clients if client.wrong]
         if status != 0:
             wrong.append(f"the status is {status}, not 0, after {taken:.1f} seconds")
-        if program.listens():
+        if takes_links(program.port):
             wrong.append("links are still taken")
         created = sum(client.answered for client in clients if client.creates)
         kept = entries_of(program.journal)

@@ -13,7 +13,6 @@ import argparse
 import http.client
 import os
 import re
-import shutil
 import signal
 import socket
 import ssl
@@ -29,30 +28,14 @@ HERE = os.path.dirname(os.path.abspath(__file__))
 TOP = os.path.join(HERE, "..", "..")
 sys.path.insert(0, os.path.join(HERE, ".."))
 
-from serving import Replies, Server, connect, request
+from nginx import MAIN, words_of
+from serving import Replies, Server, Unanswered, connect, free_port, request, takes_links, wait_for_answer
 
 NAME = "map.example.org"
-NGINX = shutil.which("nginx", path=os.environ.get("PATH", "") + ":/usr/sbin") or "nginx"
 USERS = "1 alicetoken user alice\n"
 WORKERS = 4
 MOST = 33554432
 NODES = 9000
-MAIN = """
-worker_processes 2;
-daemon off;
-pid {folder}/nginx.pid;
-error_log {folder}/error.log;
-events {{ worker_connections 1024; }}
-http {{
-    access_log off;
-    client_body_temp_path {folder}/client;
-    proxy_temp_path {folder}/proxy;
-    fastcgi_temp_path {folder}/fastcgi;
-    uwsgi_temp_path {folder}/uwsgi;
-    scgi_temp_path {folder}/scgi;
-    include {folder}/site.conf;
-}}
-"""
 
 
 class Wrong(Exception):
@@ -62,12 +45,6 @@ class Wrong(Exception):
 def want(what: str, wanted: object, came: object) -> None:
     if wanted != came:
         raise Wrong(f"{what}: {came!r} in place of {wanted!r}")
-
-
-def free_port() -> int:
-    with socket.socket() as it:
-        it.bind(("127.0.0.1", 0))
-        return int(it.getsockname()[1])
 
 
 def run(*words: str) -> bytes:
@@ -118,29 +95,19 @@ def front(program: str, workers: int, kept: int) -> Iterator[Front]:
         name = ["-subj", f"/CN={NAME}", "-addext", f"subjectAltName=DNS:{NAME}"]
         run("openssl", "req", "-x509", "-newkey", "ec", "-pkeyopt", "ec_paramgen_curve:P-256", "-nodes", "-keyout", key, "-out", certificate, *name)
         it = Front(folder, server)
-        for path, text in (("site.conf", site(folder, server.port, it.port, kept)), ("main.conf", MAIN.format(folder=folder))):
+        for path, text in (("site.conf", site(folder, server.port, it.port, kept)), ("main.conf", MAIN.format(folder=folder, processes=2))):
             with open(os.path.join(folder, path), "w", encoding="utf-8") as file:
                 file.write(text)
-        run(NGINX, "-t", "-q", "-e", f"{folder}/error.log", "-c", f"{folder}/main.conf")
-        nginx = subprocess.Popen([NGINX, "-e", f"{folder}/error.log", "-c", f"{folder}/main.conf"])
+        run(*words_of(folder), "-t", "-q")
+        nginx = subprocess.Popen(words_of(folder))
         try:
-            wait_for(it.port)
+            wait_for_answer("nginx", nginx, lambda: takes_links(it.port))
             yield it
+        except Unanswered as why:
+            raise Wrong(str(why)) from None
         finally:
             nginx.send_signal(signal.SIGTERM)
             nginx.wait()
-
-
-def wait_for(port: int) -> None:
-    until = time.monotonic() + 10
-    while True:
-        try:
-            socket.create_connection(("127.0.0.1", port), 1).close()
-            return
-        except OSError:
-            if time.monotonic() > until:
-                raise
-            time.sleep(0.02)
 
 
 # ---- what is tried

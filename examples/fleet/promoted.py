@@ -8,14 +8,13 @@ import shlex
 import signal
 import subprocess
 import sys
-import time
 from collections.abc import Callable, Sequence
 from dataclasses import dataclass
 from typing import NamedTuple
 
 from promotion import Text
-from running import HERE, MIRROR_WORKERS, USERS, Wrong
-from serving import Link, Lost, Server
+from running import HERE, MIRROR_WORKERS, USERS, Wrong, answers
+from serving import Server, Unanswered, wait_for_answer
 
 SECONDS = 60  # for a server to answer
 
@@ -65,16 +64,11 @@ def command_of(folder: str, words: Sequence[str]) -> list[str]:
 
 
 def wait_for_answers(port: int, process: subprocess.Popen[bytes], told: str) -> None:
-    until = time.monotonic() + SECONDS
-    while True:
-        try:
-            Link(port, kept=1).ask("GET", "node/1")
-            return
-        except (OSError, Lost):
-            if process.poll() is not None or time.monotonic() > until:
-                with open(told, encoding="utf-8") as file:
-                    raise Wrong(f"no server behind promote: {file.read()}") from None
-            time.sleep(0.02)
+    try:
+        wait_for_answer("the server behind promote", process, lambda: answers(port), SECONDS)
+    except Unanswered as why:
+        with open(told, encoding="utf-8") as file:
+            raise Wrong(f"{why}: {file.read()}") from None
 
 
 def run_promote(

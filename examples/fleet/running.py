@@ -4,7 +4,6 @@ from __future__ import annotations
 
 import os
 import pwd
-import shutil
 import signal
 import subprocess
 import sys
@@ -16,28 +15,12 @@ from typing import Protocol
 HERE = os.path.dirname(os.path.abspath(__file__))
 sys.path.insert(1, os.path.join(HERE, ".."))
 
-from serving import Link, Lost, Server, free_port
+from nginx import MAIN, words_of
+from serving import Link, Lost, Server, Unanswered, free_port, wait_for_answer
 
 USERS = "1 alicetoken user alice\n2 bobtoken moderator bob\n"
-NGINX = shutil.which("nginx", path=os.environ.get("PATH", "") + ":/usr/sbin") or "nginx"
 POSTGRES = "/usr/lib/postgresql/15/bin"
 MIRROR_WORKERS = 24
-MAIN = """
-worker_processes {processes};
-daemon off;
-pid {folder}/nginx.pid;
-error_log {folder}/error.log;
-events {{ worker_connections 1024; }}
-http {{
-    access_log off;
-    client_body_temp_path {folder}/client;
-    proxy_temp_path {folder}/proxy;
-    fastcgi_temp_path {folder}/fastcgi;
-    uwsgi_temp_path {folder}/uwsgi;
-    scgi_temp_path {folder}/scgi;
-    include {folder}/site.conf;
-}}
-"""
 
 
 class Wrong(Exception):
@@ -51,6 +34,15 @@ def url(port: int) -> str:
 def number(port: int) -> int:
     reply = Link(port, kept=1).ask("GET", "replication/state")
     return int(reply.read()["sequenceNumber"])
+
+
+def answers(port: int) -> bool:
+    """Whether a server, or what stands before it, answers a read, whatever it tells."""
+    try:
+        Link(port, kept=1).ask("GET", "node/1")
+    except (OSError, Lost):
+        return False
+    return True
 
 
 def with_token() -> dict[str, str]:
@@ -197,20 +189,15 @@ class Front:
             with open(os.path.join(folder, path), "w", encoding="utf-8") as file:
                 file.write(what)
         os.chmod(folder, 0o755)
-        words = [NGINX, "-e", f"{folder}/error.log", "-c", f"{folder}/main.conf"]
-        subprocess.run([*words, "-t", "-q"], check=True)
-        self.process = subprocess.Popen(words)
+        subprocess.run([*words_of(folder), "-t", "-q"], check=True)
+        self.process = subprocess.Popen(words_of(folder))
 
     def __enter__(self) -> Front:
-        until = time.monotonic() + 10
-        while True:
-            try:
-                Link(self.port, kept=1).ask("GET", "node/1")
-                return self
-            except (OSError, Lost):
-                if time.monotonic() > until:
-                    raise
-                time.sleep(0.05)
+        try:
+            wait_for_answer("nginx", self.process, lambda: answers(self.port))
+        except Unanswered as why:
+            raise Wrong(str(why)) from None
+        return self
 
     def __exit__(self, *_: object) -> None:
         self.process.send_signal(signal.SIGTERM)

@@ -64,7 +64,7 @@ class Costs(load.Bench):
         with open(counts) as file:
             total = next(line for line in file if line.rstrip().endswith("total"))
         # Each of the requests that fill the map was kept by itself.
-        return (int(total.split()[3]) - 2 * (load.CHANGESETS + 2)) / run.count
+        return (int(total.split()[3]) - 2 * (load.CHANGESETS + 2)) / run.requests
 
     def reads(self, journal: str = "") -> tuple[load.Run, load.Run]:
         with self.server(4, journal) as server:

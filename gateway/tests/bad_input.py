@@ -36,7 +36,7 @@ def documents(changeset: int) -> Iterator[tuple[str, str, int, str]]:
     yield "an unknown entity", change(f'{node}><tag k="a" v="&b;"/></node>'), 400, "undefined entity"
     yield "entities in entities", f'{BOMB}{change(node + "/>")}', 400, "DOCTYPE"
     yield "a file", f"{FILE}<osm>&f;</osm>", 400, "DOCTYPE"
-    yield "a DOCTYPE alone", f"<!DOCTYPE osm SYSTEM 'http://127.0.0.1:1/x'><osmChange/>", 400, "DOCTYPE"
+    yield "a DOCTYPE alone", "<!DOCTYPE osm SYSTEM 'http://127.0.0.1:1/x'><osmChange/>", 400, "DOCTYPE"
     yield "the wrong root", "<osm><create/></osm>", 400, "Document element should be 'osmChange'."
     yield "an unknown action", "<osmChange><destroy/></osmChange>", 400, "Unknown action destroy, choices are create, modify, delete"
     yield "an unknown element", change("<area id='1'/>"), 400, "Unknown element type area"
@@ -60,6 +60,10 @@ def documents(changeset: int) -> Iterator[tuple[str, str, int, str]]:
     yield "a member of no kind", change(f'<relation id="-1" changeset="{changeset}"><member type="area" ref="1"/></relation>'), 400, "not allowed"
     yield "another changeset", change(f'<node id="-1" changeset="{changeset + 1}" lat="1" lon="1"/>'), 409, "Changeset mismatch: Provided"
     yield "a placeholder twice", change(f"{node}/>{node}/>"), 400, "must be unique"
+    yield from json_documents()
+
+
+def json_documents() -> Iterator[tuple[str, str, int, str]]:
     yield "JSON that is cut off", '{"osmChange":[{"create":[', 400, "JSON"
     yield "JSON without a change", "{}", 400, "osmChange"
     yield "JSON with a text for a place", json.dumps({"osmChange": [{"create": [{"type": "node", "id": -1, "lat": "1", "lon": 1}]}]}), 400, "lat not a number"

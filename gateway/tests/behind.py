@@ -9,7 +9,6 @@ import os
 import subprocess
 import sys
 import tempfile
-import time
 from collections.abc import Callable
 from dataclasses import dataclass, field
 from types import TracebackType
@@ -19,7 +18,7 @@ HERE = os.path.dirname(os.path.abspath(__file__))
 TOP = os.path.dirname(os.path.dirname(HERE))
 sys.path += [os.path.join(TOP, "examples"), os.path.join(TOP, "gateway")]
 
-from serving import Server, free_port  # noqa: E402
+from serving import Server, Unanswered, free_port, wait_for_answer  # noqa: E402
 
 USERS = "1 alicetoken user alice\n2 bobtoken moderator bob\n3 utoken user Ünï Cödé\n"
 RUN = os.path.join(TOP, "gateway", "run")
@@ -91,12 +90,16 @@ class Gateway:
         self.log = os.path.join(self.folder.name, "log")
         with open(self.told, "w") as told, open(self.log, "w") as log:
             self.process = subprocess.Popen(words, stdout=log, stderr=told, stdin=subprocess.DEVNULL)
-        until = time.monotonic() + 120
-        while not self.answers():
-            if self.process.poll() is not None or time.monotonic() > until:
-                raise Wrong(f"the gateway didn't start: {self.lines()}")
-            time.sleep(0.05)
+        try:
+            wait_for_answer("the gateway", self.process, self.has_begun, 120)
+        except Unanswered as why:
+            raise Wrong(f"{why}: {self.lines()}") from None
         return self
+
+    def has_begun(self) -> bool:
+        """Whether it answers, and each of its processes has told that it takes links at all its addresses: the first one that does so isn't all of it."""
+        processes = int(self.more[self.more.index("--processes") + 1]) if "--processes" in self.more else 1
+        return sum(" in front of " in line for line in self.lines()) >= processes and self.answers()
 
     def answers(self) -> bool:
         try:

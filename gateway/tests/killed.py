@@ -9,13 +9,15 @@ import subprocess
 import tempfile
 import threading
 import time
+from http.client import HTTPException
 
 from behind import ALICE, RUN, USERS, Came, Gateway, Wrong, has, want
 from large import BOX, map_of
 from rows import Standing
 from serving import Reply, Server, family
 
-NODES = 50_000
+NODES = 10_000
+"""Of a map that is written well within the gateway's twenty seconds for what is on its way, on a busy machine too."""
 
 
 def killed(server: Server) -> None:
@@ -52,24 +54,35 @@ def again(program: str) -> None:
             link.close()
 
 
+def read_map(gateway: Gateway, got: list[Came | Exception]) -> None:
+    """What came of it, or why nothing whole did."""
+    try:
+        got.append(gateway.api("GET", f"map?bbox={BOX}"))
+    except (OSError, HTTPException) as why:
+        got.append(why)
+
+
 def stopping() -> float:
     """A signal while a long reply is on its way: it comes whole, no new link is taken, and the status is 0."""
     with Standing() as standing:
         standing.paths = {"/api/0.6/map": Reply(200, map_of(NODES), False)}
         for number in (signal.SIGTERM, signal.SIGINT):
             with Gateway(standing.port) as gateway:
-                got: list[Came] = []
-                reader = threading.Thread(target=lambda: got.append(gateway.api("GET", f"map?bbox={BOX}")))  # noqa: B023
+                got: list[Came | Exception] = []
+                reader = threading.Thread(target=read_map, args=(gateway, got))
                 idle = socket.create_connection(("127.0.0.1", gateway.port))
                 reader.start()
-                while not standing.got:
+                while not standing.got and reader.is_alive():
                     time.sleep(0.01)
                 start = time.monotonic()
                 gateway.process.send_signal(number)
                 want(gateway.process.wait(30), 0, f"the status behind {number.name}")
                 took = time.monotonic() - start
                 reader.join()
-                want((got[0].status, got[0].text.count("<node ")), (200, NODES), f"a reply that {number.name} met")
+                came = got[0]
+                if isinstance(came, Exception):
+                    raise Wrong(f"a reply that {number.name} met isn't whole {took:.1f} s later: {came!r:.200}")
+                want((came.status, came.text.count("<node ")), (200, NODES), f"a reply that {number.name} met")
                 want((gateway.lines()[-2:], idle.recv(10)), (["gateway: ending", "gateway: ended"], b""), "what was told at the end")
                 idle.close()
                 standing.got.clear()
@@ -99,12 +112,12 @@ def refusals(program: str) -> None:
         for users, more, text in (("1 a b c\n", (), "line 1"), ("1 a user A\n", ("--links", "0"), "--links"), ("1 a user A\n", (), "can't listen")):
             gateway = Gateway(1, users=users, more=more, port=there.port if text == "can't listen" else 0)
             try:
-                gateway.answers = lambda: False  # type: ignore
                 gateway.__enter__()
-                raise Wrong(f"{text}: the gateway starts")
             except Wrong as why:
                 has(str(why), text, "why the gateway didn't start")
                 want(gateway.process.wait(10) != 0, True, "its status")
+            else:
+                raise Wrong(f"the gateway starts where it should tell {text!r}")
 
 
 def run(program: str) -> str:

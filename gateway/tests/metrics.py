@@ -7,6 +7,7 @@ import re
 import tempfile
 import threading
 import time
+from socket import create_connection
 from typing import Any
 
 from behind import ALICE, USERS, Came, Gateway, Wrong, ask, has, want
@@ -71,8 +72,6 @@ def in_use() -> None:
     with Standing() as standing:
         standing.paths = {"/api/0.6/map": Reply(200, map_of(30_000), False)}
         with Gateway(standing.port, more=("--metrics", f"127.0.0.1:{port}")) as gateway:
-            from socket import create_connection
-
             with create_connection(("127.0.0.1", gateway.port)) as slow:
                 slow.sendall(f"GET /api/0.6/map?bbox={BOX} HTTP/1.1\r\nHost: localhost\r\n\r\n".encode())
                 until = time.monotonic() + 60
@@ -81,7 +80,8 @@ def in_use() -> None:
                         raise Wrong("the room in use isn't told")
                     time.sleep(0.1)
             want(numbers(port)["map_server_up"], 0, "a server that doesn't tell its number")
-    with Behind(free_port(), None) as frozen:
+    # Somebody has to be behind it: it ends a link at once where it can't pass it on.
+    with Standing() as standing, Behind(standing.port, None) as frozen:
         frozen.is_frozen = True
         with Gateway(frozen.port, more=("--metrics", f"127.0.0.1:{port}", "--links", "2")) as gateway:
             asking = [threading.Thread(target=waiting, args=(gateway,), daemon=True) for _ in range(3)]
@@ -91,6 +91,7 @@ def in_use() -> None:
             while links(port) != (2, 2, 1):
                 if time.monotonic() > until:
                     raise Wrong(f"links, those in use, and who waits: {links(port)}")
+                time.sleep(0.05)
             frozen.__exit__()
             for it in asking:
                 it.join()

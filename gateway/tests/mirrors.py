@@ -18,7 +18,7 @@ import time
 from collections.abc import Iterator
 from concurrent.futures import ThreadPoolExecutor
 from dataclasses import dataclass, field
-from typing import Any
+from typing import Any, NamedTuple
 
 from behind import USERS, Came, Gateway, Wrong, basic, has, want
 from dropping import message
@@ -248,35 +248,51 @@ def several(program: str, mirror: str | None) -> None:
             play(gateway, FEWER)
 
 
-def absent(program: str) -> None:
-    """A mirror that goes, comes back empty, freezes, or has another journal: nobody sees less than before."""
+class Scene(NamedTuple):
+    """A server behind a proxy, a mirror that is level with it, the gateway before both, and one who reads and writes there."""
+
+    server: Server
+    counted: Behind
+    mirror: Behind
+    gateway: Gateway
+    client: Client
+
+
+@contextlib.contextmanager
+def one_mirror(program: str, creations: int) -> Iterator[Scene]:
     with Server(program, 24, USERS) as server, Behind(server.port, None) as counted, Behind(server.port, 0.01) as mirror:
         with before(counted.port, [mirror.port]) as gateway:
             client = Client(gateway, random.Random(SEED), ["192.0.2.1"])
-            client.run(20)
+            client.run(creations)
             mirror.level()
-            time.sleep(0.3)
-            mirror.__exit__()
-            client.look("192.0.2.1")
-            told(gateway, "is left out: it gave no answer")
-            with Behind(server.port, 3600.0, mirror.port) as empty:
-                empty.states = empty.states[:1]
-                for _ in range(100):
-                    client.look("192.0.2.1")
-                    time.sleep(0.06)
-                want(empty.reads, 0, "reads at an empty mirror")
-                told(gateway, "isn't level")
-            with Behind(server.port, 0.01, mirror.port) as full:
-                told(gateway, "answers reads")
-                returned(full, client)
-                frozen(gateway, full, client)
-                full.other = "2001-01-01T00:00:00Z"
-                told(gateway, "has another journal")
-                reads = full.reads
+            time.sleep(0.3)  # until the gateway has asked the mirror for its number again
+            yield Scene(server, counted, mirror, gateway, client)
+
+
+def absent(program: str) -> None:
+    """A mirror that goes, comes back empty, freezes, or has another journal: nobody sees less than before."""
+    with one_mirror(program, 20) as (server, counted, mirror, gateway, client):
+        mirror.__exit__()
+        client.look("192.0.2.1")
+        told(gateway, "is left out: it gave no answer")
+        with Behind(server.port, 3600.0, mirror.port) as empty:
+            empty.states = empty.states[:1]
+            for _ in range(100):
                 client.look("192.0.2.1")
-                want(full.reads, reads, "reads at a mirror of another journal")
-            counted.__exit__()
-            want(client.api("GET", "changeset/1", "192.0.2.1").status, 503, "a read with nobody there")
+                time.sleep(0.06)
+            want(empty.reads, 0, "reads at an empty mirror")
+            told(gateway, "isn't level")
+        with Behind(server.port, 0.01, mirror.port) as full:
+            told(gateway, "answers reads")
+            returned(full, client)
+            frozen(gateway, full, client)
+            full.other = "2001-01-01T00:00:00Z"
+            told(gateway, "has another journal")
+            reads = full.reads
+            client.look("192.0.2.1")
+            want(full.reads, reads, "reads at a mirror of another journal")
+        counted.__exit__()
+        want(client.api("GET", "changeset/1", "192.0.2.1").status, 503, "a read with nobody there")
 
 
 def returned(mirror: Behind, client: Client) -> None:
@@ -302,18 +318,13 @@ def frozen(gateway: Gateway, mirror: Behind, client: Client) -> None:
 
 def without_server(program: str) -> None:
     """Mirrors answer on where the server is gone."""
-    with Server(program, 24, USERS) as server, Behind(server.port, None) as counted, Behind(server.port, 0.01) as mirror:
-        with before(counted.port, [mirror.port]) as gateway:
-            client = Client(gateway, random.Random(SEED), ["192.0.2.1"])
-            client.run(5)
-            mirror.level()
-            time.sleep(0.3)
-            counted.__exit__()
-            for _ in range(12):
-                client.look("192.0.2.1")
-                time.sleep(1)
-            came = client.api("PUT", "changeset/create", "192.0.2.1", basic("alice", "alicetoken"))
-            want(came.status, 503, "a change without a server")
+    with one_mirror(program, 5) as scene:
+        scene.counted.__exit__()
+        for _ in range(12):
+            scene.client.look("192.0.2.1")
+            time.sleep(1)
+        came = scene.client.api("PUT", "changeset/create", "192.0.2.1", basic("alice", "alicetoken"))
+        want(came.status, 503, "a change without a server")
 
 
 def words(server: int) -> None:
@@ -338,7 +349,7 @@ def mirror_beside(program: str) -> str | None:
 def two(program: str | None, server: int) -> Iterator[list[int]]:
     """The ports of two mirrors, by their own program where it is there."""
     with contextlib.ExitStack() as stack:
-        yield [stack.enter_context(Carried(program, server) if program is not None else Behind(server)).port for _ in range(2)]
+        yield [stack.enter_context(Behind(server)).port if program is None else stack.enter_context(Carried(program, server)).port for _ in range(2)]
 
 
 def own_program(program: str, mirror: str) -> str:

@@ -13,7 +13,6 @@ from __future__ import annotations
 import argparse
 import configparser
 import os
-import shlex
 import shutil
 import subprocess
 import sys
@@ -21,13 +20,15 @@ import tempfile
 import time
 from collections.abc import Callable
 from contextlib import ExitStack
+from functools import partial
 
 HERE = os.path.dirname(os.path.abspath(__file__))
 DEPLOY = os.path.dirname(HERE)
 TOP = os.path.dirname(os.path.dirname(DEPLOY))
 sys.path[1:1] = [os.path.dirname(DEPLOY), os.path.join(TOP, "examples", "fleet")]
 
-from running import MAIN, NGINX, Redis, Wrong, wait_until
+from nginx import MAIN, words_of
+from running import Redis, Wrong, wait_until
 from serving import free_port
 
 LIB, UNITS = "usr/lib/hegunsap", "usr/lib/systemd/system"
@@ -184,10 +185,9 @@ class Front:
         main = MAIN.format(folder=root.path("nginx"), processes=2).replace(root.path("nginx/nginx.pid"), root.path("run/nginx.pid"))
         root.write("nginx/main.conf", main, 0o644)
         root.write("run/none", "", 0o644)
-        words = [NGINX, "-e", root.path("nginx/error.log"), "-c", root.path("nginx/main.conf")]
-        run(*words, "-t", "-q")
+        run(*words_of(root.path("nginx")), "-t", "-q")
         print("nginx -t takes the site")
-        self.process = subprocess.Popen(words)
+        self.process = subprocess.Popen(words_of(root.path("nginx")))
 
     def stop(self) -> None:
         self.process.terminate()
@@ -220,14 +220,17 @@ def is_in(root: Root, port: int) -> bool:
         return False
 
 
-def trial(root: Root, stack: ExitStack) -> None:
-    def begin(name: str, instance: str = "", more: str = "") -> Unit:
-        unit = Unit(root, name, instance)
-        unit.settings["ExecStart"] += more
-        unit.start()
-        stack.callback(unit.process.kill)
-        return unit
+def begun(root: Root, stack: ExitStack, name: str, instance: str = "", more: str = "") -> Unit:
+    """A unit that runs until the end of the stack."""
+    unit = Unit(root, name, instance)
+    unit.settings["ExecStart"] += more
+    unit.start()
+    stack.callback(unit.process.kill)
+    return unit
 
+
+def trial(root: Root, stack: ExitStack) -> None:
+    begin = partial(begun, root, stack)
     ports = [root.ports[it] for it in ("8083", "8084")]
     begin("hegunsap-map")
     begin("hegunsap-gateway", more=f" --public-url https://{NAMES[1]}")
