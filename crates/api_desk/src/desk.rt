@@ -30,6 +30,7 @@ use machine_law::{Machine, Tag};
 use map_machine::{Asked, MapMachine, book_law, commits_are_the_maps, next_call};
 use osm_base::{Memory, Steps};
 use osm_model::{Entry, Query};
+use osm_outside::Witness;
 use osm_world::World;
 use route_table::Routes;
 use std::alloc::Global;
@@ -189,12 +190,14 @@ impl<'a> OneDesk<'a> {
 }
 
 impl Desk for OneDesk<'_> {
-    ghost use Rattle.std.specs.Prelude.{⊤};
+    ghost use Rattle.std.specs.Prelude.{⊤, []};
     ghost use Rattle.api_desk.specs.Desk.{Allows};
 
     ghost allows = { λ old message moment reply new. Allows old message moment reply new };
 
     ghost tells = { λ _. ⊤ };
+
+    ghost shows = { λ _. [] };
 
     ghost withholds = { λ _ _. ⊥ };
 
@@ -202,7 +205,7 @@ impl Desk for OneDesk<'_> {
         self.answer_on::<Brand>(alloc, &message, moment, Blank::new(1))
     }
 
-    fn may_tell(&mut self) -> Result<(), Withheld> {
+    fn may_tell<L: Witness>(&mut self, _link: &mut L) -> Result<(), Withheld> {
         Ok(())
     }
 }

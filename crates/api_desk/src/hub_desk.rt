@@ -27,7 +27,7 @@ use http_wire::Message;
 use map_machine::{MapMachine, fronts_are_the_maps};
 use osm_base::{Bytes, Memory, Steps};
 use osm_model::Entry;
-use osm_outside::{Gate, Point};
+use osm_outside::{Gate, Point, Witness};
 use route_table::Routes;
 use session_desk::{HasSession, SessionDesk, behind, command_bytes, freshen, query_bytes};
 use shared_front::{Front, HubName};
@@ -175,12 +175,14 @@ impl<'a, N: HubName, G: Gate + Drop, R: Wait + Drop, W: Wait> HubDesk<'a, N, G, 
 }
 
 impl<'a, N: HubName, G: Gate + Drop, R: Wait + Drop, W: Wait> Desk for HubDesk<'a, N, G, R, W> {
-    ghost use Rattle.std.specs.Prelude.{⊤};
+    ghost use Rattle.std.specs.Prelude.{⊤, []};
     ghost use Rattle.api_desk.specs.HubDesk.{AllowsMap};
 
     ghost allows = { λ old message moment reply new. AllowsMap old message moment reply new };
 
     ghost tells = { λ _. ⊤ };
+
+    ghost shows = { λ _. [] };
 
     ghost withholds = { λ _ _. ⊥ };
 
@@ -188,7 +190,7 @@ impl<'a, N: HubName, G: Gate + Drop, R: Wait + Drop, W: Wait> Desk for HubDesk<'
         self.answer_on::<Brand>(alloc, &message, moment, Blank::new(1))
     }
 
-    fn may_tell(&mut self) -> Result<(), Withheld> {
+    fn may_tell<L: Witness>(&mut self, _link: &mut L) -> Result<(), Withheld> {
         Ok(())
     }
 }

@@ -1,10 +1,11 @@
 -- Serving a link by a desk that keeps before it tells.
 use Rattle.std.proofs.Common.{◌≡◌, ℕ, ◌≤◌, inl, inr, List, [], ◌∷◌, length, refl, ap, ◌∙◌, subst, arith}
+use Rattle.osm_outside.specs.Event.{Shown}
 use Rattle.osm_outside.specs.Told.{Told}
 use Rattle.http_wire.specs.declared.message.Message.{Message}
 use Rattle.http_link.specs.declared.desk.Reply.{Reply}
 use Rattle.http_link.specs.declared.desk.Withheld.{Withheld}
-use Rattle.http_link.specs.Exchange.{Exchange, Chain, Telling}
+use Rattle.http_link.specs.Exchange.{Exchange, ChainBy, Allowing, Telling}
 use Rattle.http_link.specs.Link.{AreTold}
 use Rattle.http_link.specs.declared.end.LinkEnd.{LinkEnd}
 use Rattle.http_link.specs.declared.end.LinkEnd.TheVariants.{Memory, Unkept}
@@ -12,7 +13,7 @@ use Rattle.machine_law.specs.Rules.{Rules}
 use Rattle.user_table.specs.Users.{Users}
 use Rattle.server_frame.specs.OnLink.{AnswersLinkTold}
 use Rattle.session_desk.specs.Answered.{AtDesk, RowOf, IsFresh, HasServed}
-use Rattle.kept_desk.specs.Kept.{AtKept, Tells, Withholds, HasWithheld, AllowsKept, Sending, sendings, exchanges_in, HasKeptAndTold}
+use Rattle.kept_desk.specs.Kept.{AtKept, Tells, shows_kept, Withholds, HasWithheld, AllowsKept, Sending, sendings, exchanges_in, HasKeptAndTold}
 use Rattle.kept_desk.proofs.Told.{none_told}
 use Rattle.desk_serve.specs.Link.{IsSound}
 use Rattle.desk_serve.specs.Kept.{KeepsLink}
@@ -21,44 +22,44 @@ use Rattle.desk_serve.proofs.Serving.{LinksLeftAlone, nothing_served}
 -- What is allowed is so of what is seen of it.
 module _ {D X : Type 0} (view : D → X) where
   -- one relation, seen as another
-  abbrev IsSeen : (D → Message → ℕ → Reply → D → Type 0) → (X → Message → ℕ → Reply → X → Type 0) → Type 0
-  IsSeen allows allows_seen = (old new : D) (message : Message) (moment : ℕ) (reply : Reply) → allows old message moment reply new
-      → allows_seen (view old) message moment reply (view new)
+  abbrev IsSeen : (D → Exchange → D → Type 0) → (X → Exchange → X → Type 0) → Type 0
+  IsSeen by by_seen = (old new : D) (e : Exchange) → by old e new → by_seen (view old) e (view new)
 
-  chain_seen : (allows : D → Message → ℕ → Reply → D → Type 0) (allows_seen : X → Message → ℕ → Reply → X → Type 0) → IsSeen allows allows_seen
-      → (old new : D) (exchanges : List Exchange) → Chain allows old exchanges new → Chain allows_seen (view old) exchanges (view new)
-  chain_seen allows allows_seen seen old new [] same = ap view same
-  chain_seen allows allows_seen seen old new (e ∷ exchanges) (mid, is, more) =
-      (view mid, seen old mid e.message e.moment e.answer is, chain_seen allows allows_seen seen mid new exchanges more)
+  chain_seen : (by : D → Exchange → D → Type 0) (by_seen : X → Exchange → X → Type 0) → IsSeen by by_seen
+      → (old new : D) (exchanges : List Exchange) → ChainBy by old exchanges new → ChainBy by_seen (view old) exchanges (view new)
+  chain_seen by by_seen seen old new [] same = ap view same
+  chain_seen by by_seen seen old new (e ∷ exchanges) (mid, is, more) =
+      (view mid, seen old mid e is, chain_seen by by_seen seen mid new exchanges more)
 
-  module _ (allows : D → Message → ℕ → Reply → D → Type 0) (tells : D → Type 0) (withholds : D → Withheld → Type 0)
-      (allows_seen : X → Message → ℕ → Reply → X → Type 0) (tells_seen : X → Type 0) (withholds_seen : X → Withheld → Type 0)
-      (seen : IsSeen allows allows_seen) (told : (it : D) → tells it → tells_seen (view it))
-      (withheld : (it : D) (why : Withheld) → withholds it why → withholds_seen (view it) why) where
-    telling_seen : IsSeen (Telling allows tells) (Telling allows_seen tells_seen)
-    telling_seen old new message moment reply h = (seen old new message moment reply h.0, told new h.1)
+  module _ (allows : D → Message → ℕ → Reply → D → Type 0) (tells : D → Type 0) (shows : D → List Shown) (withholds : D → Withheld → Type 0)
+      (allows_seen : X → Message → ℕ → Reply → X → Type 0) (tells_seen : X → Type 0) (shows_seen : X → List Shown) (withholds_seen : X → Withheld → Type 0)
+      (seen : IsSeen (Allowing allows) (Allowing allows_seen)) (told : (it : D) → tells it → tells_seen (view it))
+      (shown : (it : D) → shows it ≡ shows_seen (view it)) (withheld : (it : D) (why : Withheld) → withholds it why → withholds_seen (view it) why) where
+    telling_seen : IsSeen (Telling allows tells shows) (Telling allows_seen tells_seen shows_seen)
+    telling_seen old new e h = (seen old new e h.0, told new h.1, h.2 ∙ shown new)
 
-    told_seen : (old new : D) (exchanges : List Exchange) (end : LinkEnd) → AreTold allows tells withholds old exchanges new end
-        → AreTold allows_seen tells_seen withholds_seen (view old) exchanges (view new) end
-    told_seen old new exchanges (Unkept why) (front, last, mid, are, chain, is, cause) = (
+    told_seen : (old new : D) (exchanges : List Exchange) (end : LinkEnd) → AreTold allows tells shows withholds old exchanges new end
+        → AreTold allows_seen tells_seen shows_seen withholds_seen (view old) exchanges (view new) end
+    told_seen old new exchanges (Unkept why) (front, last, mid, are, chain, is, unshown, cause) = (
       front,
       last,
       view mid,
       are,
-      chain_seen (Telling allows tells) (Telling allows_seen tells_seen) telling_seen old mid front chain,
-      seen mid new last.message last.moment last.answer is,
+      chain_seen (Telling allows tells shows) (Telling allows_seen tells_seen shows_seen) telling_seen old mid front chain,
+      seen mid new last is,
+      unshown,
       withheld new why cause,
     )
-    told_seen old new exchanges other h = chain_seen (Telling allows tells) (Telling allows_seen tells_seen) telling_seen old new exchanges h
+    told_seen old new exchanges other h = chain_seen (Telling allows tells shows) (Telling allows_seen tells_seen shows_seen) telling_seen old new exchanges h
 
     -- a link that was answered
-    pub answers_seen : (old new : D) (before after : Told) (end : LinkEnd) → AnswersLinkTold allows tells withholds old new before after end
-        → AnswersLinkTold allows_seen tells_seen withholds_seen (view old) (view new) before after end
+    pub answers_seen : (old new : D) (before after : Told) (end : LinkEnd) → AnswersLinkTold allows tells shows withholds old new before after end
+        → AnswersLinkTold allows_seen tells_seen shows_seen withholds_seen (view old) (view new) before after end
     answers_seen old new before after end h = record {
       answers = record {
         exchanges = h.answers.exchanges;
         link = h.answers.link;
-        answered = chain_seen allows allows_seen seen old new h.answers.exchanges h.answers.answered;
+        answered = chain_seen (Allowing allows) (Allowing allows_seen) seen old new h.answers.exchanges h.answers.answered;
       };
       told = told_seen old new h.answers.exchanges end h.told;
     }
@@ -71,7 +72,7 @@ module _ {E : Type 0} (row : RowOf E) where
   -- what a desk's exchanges come to until a link's end
   abbrev pub ToldChain : Type 0
   ToldChain = (old new : AtKept E) (exchanges : List Exchange) (end : LinkEnd) (point : ℕ) → point ≤ length old.desk.known.front
-      → AreTold (AllowsKept row) Tells Withholds old exchanges new end
+      → AreTold (AllowsKept row) Tells shows_kept Withholds old exchanges new end
       → (new.desk.users ≡ old.desk.users) × HasKeptAndTold row old.desk.users old point (sendings end exchanges) new × HasWithheld end new
 
   -- what was told was answered
@@ -87,7 +88,7 @@ sound_at {E = E} rules desk other same h = subst (λ (d : AtDesk E). IsSound rul
 module _ {S C Q P E K : Type 0} (rules : Rules S C Q P E K) (row : RowOf E) where
   pub keeps_link : (old fresh new : AtKept E) (before after : Told) (end : LinkEnd) → ToldChain row → ToldIsServed row → SameExchanges
       → fresh.desk.users ≡ old.desk.users → IsFresh rules old.desk.known fresh.desk.known → fresh.receipts ≡ old.receipts → fresh.failed ≡ old.failed
-      → AnswersLinkTold (AllowsKept row) Tells Withholds fresh new before after end → IsSound rules new.desk.known.front
+      → AnswersLinkTold (AllowsKept row) Tells shows_kept Withholds fresh new before after end → IsSound rules new.desk.known.front
       → KeepsLink rules row old new before after end
   keeps_link old fresh new before after end chain is_served same users is_fresh receipts failed s sound =
       let exchanges = s.answers.exchanges in

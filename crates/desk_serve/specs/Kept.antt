@@ -9,7 +9,7 @@ use Rattle.desk_serve.specs.Link.{ServesLink}
 
 -- over the rules of a machine, and what one message may be answered
 module _ {S C Q P E K : Type 0} (rules : Rules S C Q P E K) (row : RowOf E) where
-  -- The link was served as by any desk, and each reply that was sent was sent with a receipt in hand for its point.
+  -- The link was served as by any desk, and before anything of a reply was sent it was shown a receipt for the reply's point.
   pub record KeepsLink (old new : AtKept E) (before after : Told) (end : LinkEnd) : Type 0 where
     pub serves : ServesLink rules row old.desk new.desk before after end
     -- what the desk kept before the first message: its session is that start, and its receipts are those that it had

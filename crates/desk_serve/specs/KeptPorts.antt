@@ -13,7 +13,7 @@ use Rattle.machine_law.specs.Rules.{Rules}
 use Rattle.hub_core.specs.Journal.{calls_of, is_numbered}
 use Rattle.snapshot_hub.specs.Known.{returner, seeing}
 use Rattle.kept_entries.specs.Receipts.{AreKept}
-use Rattle.kept_entries.specs.declared.receipts.Receipt.{Receipt}
+use Rattle.kept_entries.specs.Receipts.{Receipt}
 use Rattle.user_table.specs.Users.{Users}
 use Rattle.server_frame.specs.OnLink.{OnLink}
 use Rattle.session_desk.specs.Answered.{RowOf}
@@ -72,8 +72,8 @@ module _ {S C Q P E K : Type 0} (rules : Rules S C Q P E K) (row : RowOf E) wher
     pub calls : HasItsCalls rules one shift.stopped.desk.known
     pub exchanges : List (List Exchange)
     pub each : AllZip (λ visit exchanges. OnLink visit.came visit.went exchanges visit.end) links.links.visits exchanges
-    -- The messages of all these links, one link after another: each has a row at a point of the one list, and each reply that was sent was
-    -- sent with a receipt in hand for its point; neither the points nor the receipts ever go back, not even from one link to the next.
+    -- The messages of all these links, one link after another: each has a row at a point of the one list, and before anything of a reply was
+    -- sent its link was shown a receipt for its point; neither the points nor the receipts ever go back, not even from one link to the next.
     -- They begin where the journal J ends.
     pub joined : HasKeptAndTold row users (kept_returner rules users shift.number J (first ∷ [])) (length J) (all_sendings links.links.visits exchanges)
         (at_kept (at_desk users (seeing shift.stopped.desk.known one)) shift.stopped.tells_of receipts shift.stopped.failed)

@@ -12,9 +12,9 @@ use shared_front::HubName;
 use snapshot_hub::Snapshot;
 use std::alloc::Global;
 
-/// Serves a link as `serve_link` does, by a desk that keeps before it tells: each reply that is sent
-/// is sent with a receipt in hand for what it tells of. Where one can't be kept, it isn't sent, and
-/// the link ends.
+/// Serves a link as `serve_link` does, by a desk that keeps before it tells: before anything of a reply
+/// is sent, the link is shown a receipt for what it tells of. Where one can't be kept, it isn't sent,
+/// and the link ends.
 pub fn serve_kept_link<N: HubName, M: Machine, S: Snapshot<N, M>, Q: KeptSession<N, M, S>, L: Link>(
     alloc: Global,
     desk: &mut Q,

@@ -12,7 +12,7 @@ ghost use Rattle.hub_core.specs.Journal.{calls_of};
 ghost use Rattle.snapshot_hub.specs.Known.{Known, returner};
 ghost use Rattle.snapshot_hub.specs.Closed.{HasClosed};
 ghost use Rattle.kept_entries.specs.Receipts.{AreKept};
-ghost use Rattle.kept_entries.specs.declared.receipts.Receipt.{Receipt};
+ghost use Rattle.kept_entries.specs.Receipts.{Receipt};
 ghost use Rattle.kept_desk.specs.Kept.{AtKept};
 ghost use Rattle.desk_serve.specs.Link.{ServesPipe};
 ghost use Rattle.desk_serve.specs.Kept.{KeepsLink};

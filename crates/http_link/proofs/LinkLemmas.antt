@@ -3,14 +3,14 @@ use Rattle.std.proofs.Common.{◌≡◌, ℕ, ◌+◌, List, [], ◌∷◌, ◌+
 use Rattle.std.specs.List.{AllByRecursion, concat}
 use Rattle.std.proofs.KnownBytes.{Consumes-trans}
 use Rattle.std.proofs.lemmas.List.{map-append}
-use Rattle.osm_outside.specs.Event.{Gave, Took}
+use Rattle.osm_outside.specs.Event.{Shown, Gave, Took}
 use Rattle.osm_outside.specs.Told.{Told}
 use Rattle.osm_outside.specs.declared.outside.Failed.{Failed}
 use Rattle.http_wire.specs.declared.message.Message.{Message}
 use Rattle.http_wire.specs.declared.end.WireEnd.{WireEnd}
 use Rattle.http_wire.specs.Written.{Written}
 use Rattle.http_link.specs.declared.desk.Reply.{Reply}
-use Rattle.http_link.specs.Exchange.{Exchange, Chain, Telling, text_of}
+use Rattle.http_link.specs.Exchange.{Exchange, ChainBy, Allowing, Telling, text_of}
 use Rattle.http_link.specs.Turns.{Turn, Ending, no_ending, events_of, events_of_turn, exchanges_of, bytes_of, AreRead, AreWritten, ReadsTurn}
 use Rattle.http_link.specs.Turn.{Step, Stop}
 use Rattle.http_link.specs.Link.{Served, NoneCloses}
@@ -56,16 +56,15 @@ AreWritten-push count (t ∷ turns) turn before whole =
 
 -- ---- lists of exchanges
 
-Chain-push : {D : Type 0} (allows : D → Message → ℕ → Reply → D → Type 0) (start old new : D) (exchanges : List Exchange)
-    (e : Exchange) → Chain allows start exchanges old → allows old e.message e.moment e.answer new
-    → Chain allows start (exchanges ++ e ∷ []) new
-Chain-push allows start old new [] e c a = (new, rw c at a, refl)
-Chain-push allows start old new (f ∷ exchanges) e c a = (c.0, c.1, Chain-push allows c.0 old new exchanges e c.2 a)
+Chain-push : {D : Type 0} (by : D → Exchange → D → Type 0) (start old new : D) (exchanges : List Exchange)
+    (e : Exchange) → ChainBy by start exchanges old → by old e new → ChainBy by start (exchanges ++ e ∷ []) new
+Chain-push by start old new [] e c a = (new, rw c at a, refl)
+Chain-push by start old new (f ∷ exchanges) e c a = (c.0, c.1, Chain-push by c.0 old new exchanges e c.2 a)
 
-Chain-allowed : {D : Type 0} (allows : D → Message → ℕ → Reply → D → Type 0) (tells : D → Type 0) (start now : D)
-    (exchanges : List Exchange) → Chain (Telling allows tells) start exchanges now → Chain allows start exchanges now
-Chain-allowed allows tells start now [] c = c
-Chain-allowed allows tells start now (e ∷ exchanges) c = (c.0, c.1.0, Chain-allowed allows tells c.0 now exchanges c.2)
+Chain-allowed : {D : Type 0} (allows : D → Message → ℕ → Reply → D → Type 0) (tells : D → Type 0) (shows : D → List Shown) (start now : D)
+    (exchanges : List Exchange) → ChainBy (Telling allows tells shows) start exchanges now → ChainBy (Allowing allows) start exchanges now
+Chain-allowed allows tells shows start now [] c = c
+Chain-allowed allows tells shows start now (e ∷ exchanges) c = (c.0, c.1.0, Chain-allowed allows tells shows c.0 now exchanges c.2)
 
 pub NoneCloses-push : (exchanges : List Exchange) (e : Exchange) → NoneCloses exchanges → IsFalse e.message.close
     → NoneCloses (exchanges ++ e ∷ [])
@@ -94,14 +93,14 @@ module _ (body_limit : ℕ) where
 
   -- ---- what the desk let be sent was allowed
 
-  pub Served-allowed : {D : Type 0} (allows : D → Message → ℕ → Reply → D → Type 0) (tells : D → Type 0) (start now : D) (a b : Told)
+  pub Served-allowed : {D : Type 0} (allows : D → Message → ℕ → Reply → D → Type 0) (tells : D → Type 0) (shows : D → List Shown) (start now : D) (a b : Told)
       (left : List ℕ) (turns : List Turn) (ending : Ending)
-      → Served body_limit (Telling allows tells) start now a b left turns ending → Served body_limit allows start now a b left turns ending
-  Served-allowed allows tells start now a b left turns ending s = record {
+      → Served body_limit (Telling allows tells shows) start now a b left turns ending → Served body_limit (Allowing allows) start now a b left turns ending
+  Served-allowed allows tells shows start now a b left turns ending s = record {
     trace = s.trace;
     read = s.read;
     input = s.input;
-    answered = Chain-allowed allows tells start now (exchanges_of turns) s.answered;
+    answered = Chain-allowed allows tells shows start now (exchanges_of turns) s.answered;
     fixed = s.fixed;
     stays = s.stays;
     read_faults = s.read_faults;
@@ -110,11 +109,11 @@ module _ (body_limit : ℕ) where
 
   -- ---- a message was answered
 
-  pub Served-step : {D : Type 0} (allows : D → Message → ℕ → Reply → D → Type 0) (start old new : D) (a b c : Told)
+  pub Served-step : {D : Type 0} (by : D → Exchange → D → Type 0) (start old new : D) (a b c : Told)
       (kept left : List ℕ) (count : ℕ) (result : Result (Unit {0}) Failed) (turns : List Turn)
-      → Served body_limit allows start old a b kept turns no_ending → (s : Step body_limit allows old new b c kept left count result)
-      → Served body_limit allows start new a c left (turns ++ s.turn ∷ []) no_ending
-  Served-step allows start old new a b c kept left count result turns before s =
+      → Served body_limit by start old a b kept turns no_ending → (s : Step body_limit by old new b c kept left count result)
+      → Served body_limit by start new a c left (turns ++ s.turn ∷ []) no_ending
+  Served-step by start old new a b c kept left count result turns before s =
       let exchanges = exchanges_of turns in
       record {
         trace =
@@ -125,7 +124,7 @@ module _ (body_limit : ℕ) where
         input = rw (bytes_of-push turns s.turn)
             (Consumes-trans a.left b.left c.left (bytes_of turns no_ending) (concat s.turn.reads) before.input s.input);
         answered = rw (exchanges_of-push turns s.turn)
-            (Chain-push allows start old new exchanges s.turn.exchange before.answered s.allowed);
+            (Chain-push by start old new exchanges s.turn.exchange before.answered s.allowed);
         fixed = rw (exchanges_of-push turns s.turn)
             (fixed-push a.fixed b.fixed exchanges s.turn.exchange before.stays before.fixed s.fixed);
         stays = s.stays ∙ before.stays;
@@ -135,11 +134,11 @@ module _ (body_limit : ℕ) where
 
   -- ---- an end came, and its reply was written, whole or in part
 
-  pub Served-stop : {D : Type 0} (allows : D → Message → ℕ → Reply → D → Type 0) (start old new : D) (a b read c : Told)
+  pub Served-stop : {D : Type 0} (by : D → Exchange → D → Type 0) (start old new : D) (a b read c : Told)
       (kept : List ℕ) (why : WireEnd) (turns : List Turn) (writes : List (List ℕ))
-      → Served body_limit allows start old a b kept turns no_ending → (s : Stop body_limit old new b read kept why) → Written read c writes
-      → Served body_limit allows start new a c kept turns (record { reads = s.pieces; writes = writes })
-  Served-stop allows start old new a b read c kept why turns writes before s sent =
+      → Served body_limit by start old a b kept turns no_ending → (s : Stop body_limit old new b read kept why) → Written read c writes
+      → Served body_limit by start new a c kept turns (record { reads = s.pieces; writes = writes })
+  Served-stop by start old new a b read c kept why turns writes before s sent =
       let quiet = s.taken.others in
       let ending : Ending = record { reads = s.pieces; writes = writes } in
       let input = rw (← sent.others.left) at s.taken.input in

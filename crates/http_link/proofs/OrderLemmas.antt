@@ -4,7 +4,7 @@ use Rattle.std.specs.Prelude.{⊤}
 use Rattle.std.specs.List.{concat}
 use Rattle.std.proofs.lemmas.List.{length-map}
 use Rattle.osm_base.specs.declared.limits.TheConstants.{HEAD_LIMIT, REQUEST_LIMIT}
-use Rattle.osm_outside.specs.Event.{Event, Gave, Took, Answered, given, taken}
+use Rattle.osm_outside.specs.Event.{Event, Shown, Gave, Took, Answered, Showed, given, taken}
 use Rattle.osm_outside.specs.Told.{Told}
 use Rattle.http_wire.specs.Message.{BeginsWithin, HasMessages}
 use Rattle.http_wire.specs.End.{IsUnfinished}
@@ -12,7 +12,7 @@ use Rattle.http_wire.specs.Wire.{AreNeeded}
 use Rattle.http_link.specs.declared.end.LinkEnd.{LinkEnd}
 use Rattle.http_link.specs.declared.end.LinkEnd.TheVariants as ends
 use Rattle.http_link.specs.Exchange.{Exchange, messages_of, text_of, texts_from}
-use Rattle.http_link.specs.Turns.{Turn, Ending, no_ending, events_of, events_of_turn, exchanges_of, AreRead, AreWritten, ReadsTurn}
+use Rattle.http_link.specs.Turns.{Turn, Ending, no_ending, events_of, events_of_turn, sending, exchanges_of, AreRead, AreWritten, ReadsTurn}
 use Rattle.http_link.specs.Link.{NoneCloses, GoesOn, LinkEnds}
 use Rattle.http_link.specs.Order.{HasAnswered, HasNext}
 
@@ -76,12 +76,20 @@ no_read_written (w ∷ writes) (f ∷ front) post piece h =
     let tail : map Took writes ≡ front ++ (Gave piece ∷ post) = cc in
     no_read_written writes front post piece tail
 
-no_read_replied : (moment : ℕ) (writes : List (List ℕ)) (front post : List Event) (piece : List ℕ)
-    → ¬ (Answered moment ∷ map Took writes ≡ front ++ (Gave piece ∷ post))
-no_read_replied moment writes [] post piece h = absurd cc
-no_read_replied moment writes (f ∷ front) post piece h =
-    let tail : map Took writes ≡ front ++ (Gave piece ∷ post) = cc in
-    no_read_written writes front post piece tail
+no_read_sent : (shown : List Shown) (writes : List (List ℕ)) (front post : List Event) (piece : List ℕ)
+    → ¬ (sending shown writes ≡ front ++ (Gave piece ∷ post))
+no_read_sent [] writes front post piece h = no_read_written writes front post piece h
+no_read_sent (s ∷ shown) writes [] post piece h = absurd cc
+no_read_sent (s ∷ shown) writes (f ∷ front) post piece h =
+    let tail : sending shown writes ≡ front ++ (Gave piece ∷ post) = cc in
+    no_read_sent shown writes front post piece tail
+
+no_read_replied : (moment : ℕ) (shown : List Shown) (writes : List (List ℕ)) (front post : List Event) (piece : List ℕ)
+    → ¬ (Answered moment ∷ sending shown writes ≡ front ++ (Gave piece ∷ post))
+no_read_replied moment shown writes [] post piece h = absurd cc
+no_read_replied moment shown writes (f ∷ front) post piece h =
+    let tail : sending shown writes ≡ front ++ (Gave piece ∷ post) = cc in
+    no_read_sent shown writes front post piece tail
 
 no_moment_read : (reads : List (List ℕ)) (front post : List Event) (moment : ℕ) → ¬ (map Gave reads ≡ front ++ (Answered moment ∷ post))
 no_moment_read [] [] post moment h = absurd cc
@@ -99,6 +107,14 @@ no_moment_written (w ∷ writes) (f ∷ front) post moment h =
     let tail : map Took writes ≡ front ++ (Answered moment ∷ post) = cc in
     no_moment_written writes front post moment tail
 
+no_moment_sent : (shown : List Shown) (writes : List (List ℕ)) (front post : List Event) (moment : ℕ)
+    → ¬ (sending shown writes ≡ front ++ (Answered moment ∷ post))
+no_moment_sent [] writes front post moment h = no_moment_written writes front post moment h
+no_moment_sent (s ∷ shown) writes [] post moment h = absurd cc
+no_moment_sent (s ∷ shown) writes (f ∷ front) post moment h =
+    let tail : sending shown writes ≡ front ++ (Answered moment ∷ post) = cc in
+    no_moment_sent shown writes front post moment tail
+
 -- ---- what events give and take
 
 given-append : (xs ys : List Event) → given (xs ++ ys) ≡ given xs ++ given ys
@@ -107,6 +123,7 @@ given-append (Gave bytes ∷ xs) ys =
     ap (λ l. bytes ++ l) (given-append xs ys) ∙ sym (append_assoc bytes (given xs) (given ys))
 given-append (Took bytes ∷ xs) ys = given-append xs ys
 given-append (Answered moment ∷ xs) ys = given-append xs ys
+given-append (Showed front ∷ xs) ys = given-append xs ys
 
 taken-append : (xs ys : List Event) → taken (xs ++ ys) ≡ taken xs ++ taken ys
 taken-append [] ys = refl
@@ -114,6 +131,7 @@ taken-append (Gave bytes ∷ xs) ys = taken-append xs ys
 taken-append (Took bytes ∷ xs) ys =
     ap (λ l. bytes ++ l) (taken-append xs ys) ∙ sym (append_assoc bytes (taken xs) (taken ys))
 taken-append (Answered moment ∷ xs) ys = taken-append xs ys
+taken-append (Showed front ∷ xs) ys = taken-append xs ys
 
 given-reads : (reads : List (List ℕ)) → given (map Gave reads) ≡ concat reads
 given-reads [] = refl
@@ -131,16 +149,24 @@ taken-writes : (writes : List (List ℕ)) → taken (map Took writes) ≡ concat
 taken-writes [] = refl
 taken-writes (w ∷ writes) = ap (λ l. w ++ l) (taken-writes writes)
 
+given-sent : (shown : List Shown) (writes : List (List ℕ)) → given (sending shown writes) ≡ []
+given-sent [] writes = given-writes writes
+given-sent (s ∷ shown) writes = given-sent shown writes
+
+taken-sent : (shown : List Shown) (writes : List (List ℕ)) → taken (sending shown writes) ≡ concat writes
+taken-sent [] writes = taken-writes writes
+taken-sent (s ∷ shown) writes = taken-sent shown writes
+
 given-turn : (turn : Turn) → given (events_of_turn turn) ≡ concat turn.reads
 given-turn turn =
-    given-append (map Gave turn.reads) (Answered turn.exchange.moment ∷ map Took turn.writes)
-    ∙ ap (λ l. given (map Gave turn.reads) ++ l) (given-writes turn.writes) ∙ append-nil (given (map Gave turn.reads))
+    given-append (map Gave turn.reads) (Answered turn.exchange.moment ∷ sending turn.exchange.shown turn.writes)
+    ∙ ap (λ l. given (map Gave turn.reads) ++ l) (given-sent turn.exchange.shown turn.writes) ∙ append-nil (given (map Gave turn.reads))
     ∙ given-reads turn.reads
 
 taken-turn : (turn : Turn) → taken (events_of_turn turn) ≡ concat turn.writes
 taken-turn turn =
-    taken-append (map Gave turn.reads) (Answered turn.exchange.moment ∷ map Took turn.writes)
-    ∙ ap (λ l. l ++ taken (map Took turn.writes)) (taken-reads turn.reads) ∙ taken-writes turn.writes
+    taken-append (map Gave turn.reads) (Answered turn.exchange.moment ∷ sending turn.exchange.shown turn.writes)
+    ∙ ap (λ l. l ++ taken (sending turn.exchange.shown turn.writes)) (taken-reads turn.reads) ∙ taken-sent turn.exchange.shown turn.writes
 
 given-behind : (turn : Turn) (front later : List Event) (kept : List ℕ) → front ≡ events_of_turn turn ++ later
     → kept ++ given front ≡ (kept ++ concat turn.reads) ++ given later
@@ -305,12 +331,12 @@ module _ (body_limit : ℕ) where
 
   in_turn : (kept mid : List ℕ) (count : ℕ) (turn : Turn) (turns : List Turn) (front post : List Event) (piece : List ℕ)
       → count < REQUEST_LIMIT → ReadsTurn body_limit kept turn mid
-      → InOne (map Gave turn.reads) (Answered turn.exchange.moment ∷ map Took turn.writes) front post (Gave piece)
+      → InOne (map Gave turn.reads) (Answered turn.exchange.moment ∷ sending turn.exchange.shown turn.writes) front post (Gave piece)
       → Answers kept count (exchanges_of (turn ∷ turns)) front
   in_turn kept mid count turn turns front post piece few r (inl (after, same)) =
       at_reads kept count (exchanges_of (turn ∷ turns)) turn.reads front few r.needed (before turn.reads front after piece same)
   in_turn kept mid count turn turns front post piece few r (inr (later, front_is, rest)) =
-      absurd (no_read_replied turn.exchange.moment turn.writes later post piece rest)
+      absurd (no_read_replied turn.exchange.moment turn.exchange.shown turn.writes later post piece rest)
 
   -- in the turn, or as `behind_it` says behind it
   at_turn : (kept mid : List ℕ) (count : ℕ) (turn : Turn) (turns : List Turn) (ending : Ending) (front behind : List Event)
@@ -322,7 +348,7 @@ module _ (body_limit : ℕ) where
       → Answers kept count (exchanges_of (turn ∷ turns)) front
   at_turn kept mid count turn turns ending front behind piece behind_it few r follows (inl (post, same)) =
       in_turn kept mid count turn turns front post piece few r
-      (in_one (map Gave turn.reads) (Answered turn.exchange.moment ∷ map Took turn.writes) front post (Gave piece) same)
+      (in_one (map Gave turn.reads) (Answered turn.exchange.moment ∷ sending turn.exchange.shown turn.writes) front post (Gave piece) same)
   at_turn kept mid count turn turns ending front behind piece behind_it few r (inl (none, no_more)) (inr (later, front_is, rest)) =
       absurd (nothing_follows turns ending later behind (Gave piece) none no_more rest)
   at_turn kept mid count turn turns ending front behind piece behind_it few r (inr (still, room, whole, follows)) (inr (later, front_is, rest)) =
@@ -394,7 +420,7 @@ module _ (body_limit : ℕ) where
   -- the moment stands behind the reads
   at_clock : (kept mid : List ℕ) (count : ℕ) (turn : Turn) (turns : List Turn) (front later post : List Event) (moment : ℕ)
       → count < REQUEST_LIMIT → ReadsTurn body_limit kept turn mid → front ≡ map Gave turn.reads ++ later
-      → Answered turn.exchange.moment ∷ map Took turn.writes ≡ later ++ (Answered moment ∷ post)
+      → Answered turn.exchange.moment ∷ sending turn.exchange.shown turn.writes ≡ later ++ (Answered moment ∷ post)
       → Nexts kept count (exchanges_of (turn ∷ turns)) front moment
   at_clock kept mid count turn turns front [] post moment few r front_is rest =
       let same : turn.exchange.moment ≡ moment = cc in
@@ -418,12 +444,12 @@ module _ (body_limit : ℕ) where
         replies = ap taken reads ∙ taken-reads turn.reads;
       }
   at_clock kept mid count turn turns front (e ∷ later) post moment few r front_is rest =
-      let tail : map Took turn.writes ≡ later ++ (Answered moment ∷ post) = cc in
-      absurd (no_moment_written turn.writes later post moment tail)
+      let tail : sending turn.exchange.shown turn.writes ≡ later ++ (Answered moment ∷ post) = cc in
+      absurd (no_moment_sent turn.exchange.shown turn.writes later post moment tail)
 
   clock_in_turn : (kept mid : List ℕ) (count : ℕ) (turn : Turn) (turns : List Turn) (front post : List Event) (moment : ℕ)
       → count < REQUEST_LIMIT → ReadsTurn body_limit kept turn mid
-      → InOne (map Gave turn.reads) (Answered turn.exchange.moment ∷ map Took turn.writes) front post (Answered moment)
+      → InOne (map Gave turn.reads) (Answered turn.exchange.moment ∷ sending turn.exchange.shown turn.writes) front post (Answered moment)
       → Nexts kept count (exchanges_of (turn ∷ turns)) front moment
   clock_in_turn kept mid count turn turns front post moment few r (inl (after, same)) =
       absurd (no_moment_read turn.reads front after moment same)
@@ -439,7 +465,7 @@ module _ (body_limit : ℕ) where
       → Nexts kept count (exchanges_of (turn ∷ turns)) front moment
   clock_at_turn kept mid count turn turns ending front behind moment behind_it few r follows (inl (post, same)) =
       clock_in_turn kept mid count turn turns front post moment few r
-      (in_one (map Gave turn.reads) (Answered turn.exchange.moment ∷ map Took turn.writes) front post (Answered moment) same)
+      (in_one (map Gave turn.reads) (Answered turn.exchange.moment ∷ sending turn.exchange.shown turn.writes) front post (Answered moment) same)
   clock_at_turn kept mid count turn turns ending front behind moment behind_it few r (inl (none, no_more)) (inr (later, front_is, rest)) =
       absurd (nothing_follows turns ending later behind (Answered moment) none no_more rest)
   clock_at_turn kept mid count turn turns ending front behind moment behind_it few r (inr (still, room, whole, follows)) (inr (later, front_is, rest)) =

@@ -3,6 +3,7 @@ use Rattle.std.specs.Prelude.{◌≡◌, ℕ, ◌+◌, ◌<◌, ◌≤◌, ◌�
 use Rattle.std.specs.List.{AllByRecursion, concat}
 use Rattle.std.specs.Io.KnownBytes.{Consumes}
 use Rattle.osm_base.specs.declared.limits.TheConstants.{HEAD_LIMIT, REQUEST_LIMIT}
+use Rattle.osm_outside.specs.Event.{Shown}
 use Rattle.osm_outside.specs.Told.{Told, Rose}
 use Rattle.http_wire.specs.declared.message.Message.{Message}
 use Rattle.http_wire.specs.declared.end.WireEnd.{WireEnd}
@@ -14,7 +15,7 @@ use Rattle.http_link.specs.declared.desk.Reply.{Reply}
 use Rattle.http_link.specs.declared.desk.Withheld.{Withheld}
 use Rattle.http_link.specs.declared.end.LinkEnd.{LinkEnd}
 use Rattle.http_link.specs.declared.end.LinkEnd.TheVariants.{Ended, Closed, Budget, Refused, ReadFault, WriteFault, Unkept, Memory}
-use Rattle.http_link.specs.Exchange.{Exchange, Chain, Telling, messages_of, text_of}
+use Rattle.http_link.specs.Exchange.{Exchange, ChainBy, Allowing, Telling, messages_of, text_of}
 use Rattle.http_link.specs.Input.{EndsByInput}
 use Rattle.http_link.specs.Refusal.{refusal, IsRefusal}
 use Rattle.http_link.specs.Turns.{Turn, Ending, no_ending, events_of, exchanges_of, bytes_of, AreRead, AreWritten, ReadsEnd}
@@ -43,13 +44,15 @@ pub record IsUnkept (turns : List Turn) (ending : Ending) : Type 0 where
   pub lacks : LacksReply turns ending
   pub unsent : lacks.last.writes ≡ []
 
--- From start the desk came to now by these exchanges, and before each reply was sent, the desk let it. Where the link ended as
--- unkept, the last one was allowed and not sent, and the desk had that cause to withhold it.
-abbrev pub AreTold : {D : Type 0} → (D → Message → ℕ → Reply → D → Type 0) → (D → Type 0) → (D → Withheld → Type 0) → D → List Exchange → D → LinkEnd → Type 0
-AreTold {D} allows tells withholds start exchanges now (Unkept why) =
+-- From start the desk came to now by these exchanges; before anything of a reply was sent, the desk let it be, and the link was shown what
+-- the desk shows then. Where the link ended as unkept, the last one was allowed and not sent, nothing was shown for it, and the desk had that
+-- cause to withhold it.
+abbrev pub AreTold : {D : Type 0} → (D → Message → ℕ → Reply → D → Type 0) → (D → Type 0) → (D → List Shown) → (D → Withheld → Type 0) → D → List Exchange → D → LinkEnd → Type 0
+AreTold {D} allows tells shows withholds start exchanges now (Unkept why) =
     (front : List Exchange) × (last : Exchange) × (mid : D) × (exchanges ≡ front ++ last ∷ [])
-    × Chain (Telling allows tells) start front mid × allows mid last.message last.moment last.answer now × withholds now why
-AreTold allows tells withholds start exchanges now other = Chain (Telling allows tells) start exchanges now
+    × ChainBy (Telling allows tells shows) start front mid × allows mid last.message last.moment last.answer now
+    × (last.shown ≡ []) × withholds now why
+AreTold allows tells shows withholds start exchanges now other = ChainBy (Telling allows tells shows) start exchanges now
 
 -- no reply was withheld
 abbrev pub TellsAll : LinkEnd → Type 0
@@ -82,13 +85,13 @@ pub record IsUnserved (before after : Told) (turns : List Turn) (ending : Ending
 -- `body_limit` is the most bytes that a body may have.
 module _ (body_limit : ℕ) where
   -- These turns were taken, and then came this ending: nothing else happened on the link.
-  pub record Served {D : Type 0} (allows : D → Message → ℕ → Reply → D → Type 0)
+  pub record Served {D : Type 0} (by : D → Exchange → D → Type 0)
       (start now : D) (before after : Told) (left : List ℕ) (turns : List Turn) (ending : Ending) : Type 0 where
     pub trace : after.trace ≡ before.trace ++ events_of turns ending
     -- each message was read in its own turn, and this is left behind the last
     pub read : AreRead body_limit [] turns left
     pub input : Consumes before.left after.left (bytes_of turns ending)
-    pub answered : Chain allows start (exchanges_of turns) now
+    pub answered : ChainBy by start (exchanges_of turns) now
     -- a clock that was fixed gave that moment each time
     pub fixed : IfSome before.fixed (λ at. AllByRecursion (λ e. e.moment ≡ at) (exchanges_of turns))
     pub stays : after.fixed ≡ before.fixed
@@ -150,15 +153,19 @@ module _ (body_limit : ℕ) where
     pub by_input : IfSome before.left (λ input. EndsByInput body_limit input exchanges end)
 
   -- What serving a link does, from its beginning to that end.
-  pub record Serves {D : Type 0} (allows : D → Message → ℕ → Reply → D → Type 0)
+  pub record ServesBy {D : Type 0} (by : D → Exchange → D → Type 0)
       (start now : D) (before after : Told) (end : LinkEnd) : Type 0 where
     pub turns : List Turn
     pub few : length turns ≤ REQUEST_LIMIT
     pub left : List ℕ
     pub ending : Ending
-    pub served : Served allows start now before after left turns ending
+    pub served : Served by start now before after left turns ending
     pub ends : LinkEnds before after turns left ending end
     pub agrees : AgreesWithBytes before (bytes_of turns ending) (left ++ concat ending.reads) (exchanges_of turns) end
+
+  -- The same, each exchange as a relation allows it.
+  abbrev pub Serves : {D : Type 0} → (D → Message → ℕ → Reply → D → Type 0) → D → D → Told → Told → LinkEnd → Type 0
+  Serves allows = ServesBy (Allowing allows)
 
   -- The same, and no reply was withheld.
   pub record ServesTelling {D : Type 0} (allows : D → Message → ℕ → Reply → D → Type 0)
@@ -166,8 +173,8 @@ module _ (body_limit : ℕ) where
     pub serves : Serves allows start now before after end
     pub tells : TellsAll end
 
-  -- The same, and the desk let each reply be sent before it was, or had a cause to withhold the last one.
-  pub record ServesTold {D : Type 0} (allows : D → Message → ℕ → Reply → D → Type 0) (tells : D → Type 0) (withholds : D → Withheld → Type 0)
+  -- The same, and the desk let each reply be sent and showed what it shows before it was, or had a cause to withhold the last one.
+  pub record ServesTold {D : Type 0} (allows : D → Message → ℕ → Reply → D → Type 0) (tells : D → Type 0) (shows : D → List Shown) (withholds : D → Withheld → Type 0)
       (start now : D) (before after : Told) (end : LinkEnd) : Type 0 where
     pub serves : Serves allows start now before after end
-    pub told : AreTold allows tells withholds start (exchanges_of serves.turns) now end
+    pub told : AreTold allows tells shows withholds start (exchanges_of serves.turns) now end

@@ -2,7 +2,7 @@
 use Rattle.std.specs.Prelude.{◌≡◌, ℕ, ◌≤◌, ◌⊎◌, List, ◌∷◌, ◌++◌, [], map, Result, Ok, Err, IsErr, IfSome, if◌then◌else◌}
 use Rattle.std.specs.List.{concat}
 use Rattle.std.specs.Io.KnownBytes.{Consumes}
-use Rattle.osm_outside.specs.Event.{Answered, Took}
+use Rattle.osm_outside.specs.Event.{Shown, Answered}
 use Rattle.osm_outside.specs.Told.{Told, Rose}
 use Rattle.osm_outside.specs.declared.outside.Failed.{Failed}
 use Rattle.http_wire.specs.declared.message.Message.{Message}
@@ -17,24 +17,29 @@ use Rattle.http_link.specs.declared.turn.Next.{Next}
 use Rattle.http_link.specs.declared.turn.Next.TheVariants.{GoesOn, Over}
 use Rattle.http_link.specs.declared.desk.Reply.{Reply}
 use Rattle.http_link.specs.declared.desk.Withheld.{Withheld}
-use Rattle.http_link.specs.Exchange.{Telling, closes, text_of}
+use Rattle.http_link.specs.Exchange.{Exchange, Allowing, Telling, closes, text_of}
 use Rattle.http_link.specs.Refusal.{refusal, end_of}
-use Rattle.http_link.specs.Turns.{Turn, events_of_turn, ReadsTurn, ReadsEnd}
+use Rattle.http_link.specs.Turns.{Turn, events_of_turn, sending, ReadsTurn, ReadsEnd}
 
 -- The pieces are all of the text, or at a fault a beginning of it.
 abbrev pub Sends : List (List ℕ) → List ℕ → Result (Unit {0}) Failed → Type 0
 Sends pieces text (Ok done) = concat pieces ≡ text
 Sends pieces text (Err fault) = (missing : List ℕ) × (text ≡ concat pieces ++ missing)
 
--- The clock answered a moment, the desk gave the message a reply, and it was sent.
-pub record Replies {D : Type 0} (allows : D → Message → ℕ → Reply → D → Type 0)
+-- an exchange of that message
+abbrev pub exchange_of : Message → ℕ → Reply → List Shown → Exchange
+exchange_of message moment answer shown = record { message = message; moment = moment; answer = answer; shown = shown }
+
+-- The clock answered a moment, the desk gave the message a reply, receipts were shown, and it was sent.
+pub record Replies {D : Type 0} (by : D → Exchange → D → Type 0)
     (old new : D) (before after : Told) (count : ℕ) (message : Message) (result : Result (Unit {0}) Failed)
     : Type 0 where
   pub moment : ℕ
   pub answer : Reply
+  pub shown : List Shown
   pub pieces : List (List ℕ)
-  pub allowed : allows old message moment answer new
-  pub trace : after.trace ≡ before.trace ++ (Answered moment ∷ map Took pieces)
+  pub allowed : by old (exchange_of message moment answer shown) new
+  pub trace : after.trace ≡ before.trace ++ (Answered moment ∷ sending shown pieces)
   pub fixed : IfSome before.fixed (λ at. moment ≡ at)
   pub stays : after.fixed ≡ before.fixed
   pub sends : Sends pieces (reply answer.status answer.body (closes count message)) result
@@ -52,11 +57,11 @@ pub record Holds {D : Type 0} (allows : D → Message → ℕ → Reply → D �
   pub fixed : IfSome before.fixed (λ at. moment ≡ at)
 
 -- The desk let the reply be sent, which it was; or it had that cause to withhold it, and nothing was sent.
-abbrev pub RepliesOrHolds : {D : Type 0} → (D → Message → ℕ → Reply → D → Type 0) → (D → Type 0) → (D → Withheld → Type 0) → D → D → Told → Told → ℕ → Message
+abbrev pub RepliesOrHolds : {D : Type 0} → (D → Message → ℕ → Reply → D → Type 0) → (D → Type 0) → (D → List Shown) → (D → Withheld → Type 0) → D → D → Told → Told → ℕ → Message
     → Result (Result (Unit {0}) Failed) Withheld → Type 0
-RepliesOrHolds allows tells withholds old new before after count message (Ok result) =
-    Replies (Telling allows tells) old new before after count message result
-RepliesOrHolds allows tells withholds old new before after count message (Err why) = Holds allows old new before after message × withholds new why
+RepliesOrHolds allows tells shows withholds old new before after count message (Ok result) =
+    Replies (Telling allows tells shows) old new before after count message result
+RepliesOrHolds allows tells shows withholds old new before after count message (Err why) = Holds allows old new before after message × withholds new why
 
 -- The reply to an end was written, or a fault came.
 abbrev pub Refuses : Told → Told → WireEnd → LinkEnd → Type 0
@@ -72,14 +77,14 @@ next_after message (Err fault) = Over ends.WriteFault
 -- `body_limit` is the most bytes that a body may have.
 module _ (body_limit : ℕ) where
   -- A message was read and answered.
-  pub record Step {D : Type 0} (allows : D → Message → ℕ → Reply → D → Type 0)
+  pub record Step {D : Type 0} (by : D → Exchange → D → Type 0)
       (old new : D) (before after : Told) (kept left : List ℕ) (count : ℕ) (result : Result (Unit {0}) Failed)
       : Type 0 where
     pub turn : Turn
     pub reads : ReadsTurn body_limit kept turn left
     pub trace : after.trace ≡ before.trace ++ events_of_turn turn
     pub input : Consumes before.left after.left (concat turn.reads)
-    pub allowed : allows old turn.exchange.message turn.exchange.moment turn.exchange.answer new
+    pub allowed : by old turn.exchange new
     pub fixed : IfSome before.fixed (λ at. turn.exchange.moment ≡ at)
     pub stays : after.fixed ≡ before.fixed
     pub sends : Sends turn.writes (text_of count turn.exchange) result
@@ -90,7 +95,8 @@ module _ (body_limit : ℕ) where
   pub record Held {D : Type 0} (allows : D → Message → ℕ → Reply → D → Type 0)
       (old new : D) (before after : Told) (kept left : List ℕ) (count : ℕ) : Type 0 where
     pub in_place : Failed
-    pub step : Step allows old new before after kept left count (Err in_place)
+    pub step : Step (Allowing allows) old new before after kept left count (Err in_place)
+    pub unshown : step.turn.exchange.shown ≡ []
     pub unsent : step.turn.writes ≡ []
 
   -- What came in the place of a message was an end, and the desk wasn't asked.
@@ -102,9 +108,9 @@ module _ (body_limit : ℕ) where
     pub unasked : new ≡ old
 
   -- What one turn does: a reply is sent where the desk lets it, and else the desk has a cause to withhold it.
-  abbrev pub TakesTurn : {D : Type 0} → (D → Message → ℕ → Reply → D → Type 0) → (D → Type 0) → (D → Withheld → Type 0) → D → D → Told → Told → List ℕ → List ℕ → ℕ → Next → Type 0
-  TakesTurn allows tells withholds old new before after kept left count next =
-      ((result : Result (Unit {0}) Failed) × (s : Step (Telling allows tells) old new before after kept left count result)
+  abbrev pub TakesTurn : {D : Type 0} → (D → Message → ℕ → Reply → D → Type 0) → (D → Type 0) → (D → List Shown) → (D → Withheld → Type 0) → D → D → Told → Told → List ℕ → List ℕ → ℕ → Next → Type 0
+  TakesTurn allows tells shows withholds old new before after kept left count next =
+      ((result : Result (Unit {0}) Failed) × (s : Step (Telling allows tells shows) old new before after kept left count result)
       × (next ≡ next_after s.turn.exchange.message result) × (IsErr result → Rose before.write_faults after.write_faults))
       ⊎ ((read : Told) × (why : WireEnd) × (end : LinkEnd) × Stop old new before read kept why
       × Refuses read after why end × (next ≡ Over end))

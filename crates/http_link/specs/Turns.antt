@@ -2,7 +2,7 @@
 use Rattle.std.specs.Prelude.{◌≡◌, ℕ, ◌+◌, ◌≤◌, List, [], ◌∷◌, ◌++◌, length, map, Option, ⊤}
 use Rattle.std.specs.List.{concat}
 use Rattle.osm_base.specs.declared.limits.TheConstants.{HEAD_LIMIT}
-use Rattle.osm_outside.specs.Event.{Event, Gave, Took, Answered}
+use Rattle.osm_outside.specs.Event.{Event, Shown, Gave, Took, Answered, Showed}
 use Rattle.http_wire.specs.declared.end.WireEnd.{WireEnd}
 use Rattle.http_wire.specs.Received.{HaveBytes, AgreesWithInput}
 use Rattle.http_wire.specs.Message.{BeginsWithin}
@@ -10,7 +10,8 @@ use Rattle.http_wire.specs.End.{EndsAs}
 use Rattle.http_wire.specs.Wire.{AreNeeded, end_limit}
 use Rattle.http_link.specs.Exchange.{Exchange, text_of}
 
--- one turn: what each read gave until the message was whole, then the exchange with its moment, then what each write of its reply took
+-- one turn: what each read gave until the message was whole, then the exchange with its moment and what was shown, then what each write
+-- of its reply took
 pub record Turn : Type 0 where
   pub reads : List (List ℕ)
   pub exchange : Exchange
@@ -25,9 +26,13 @@ pub record Ending : Type 0 where
 abbrev pub no_ending : Ending
 no_ending = record { reads = []; writes = [] }
 
--- the reads, the clock, the writes
+-- the receipts that were shown, each time, and then the writes
+abbrev pub sending : List Shown → List (List ℕ) → List Event
+sending shown writes = map Showed shown ++ map Took writes
+
+-- the reads, the clock, what was shown, the writes
 abbrev pub events_of_turn : Turn → List Event
-events_of_turn turn = map Gave turn.reads ++ (Answered turn.exchange.moment ∷ map Took turn.writes)
+events_of_turn turn = map Gave turn.reads ++ (Answered turn.exchange.moment ∷ sending turn.exchange.shown turn.writes)
 
 -- all that happened, in order
 abbrev pub events_of : List Turn → Ending → List Event

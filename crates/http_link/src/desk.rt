@@ -1,9 +1,10 @@
 //! What answers messages.
-ghost use Rattle.std.specs.Prelude.{IfOk, IfErr, OnOk};
+ghost use Rattle.std.specs.Prelude.{◌≡◌, IfOk, IfErr, OnOk, OnErr};
 ghost use Rattle.osm_base.specs.Status.{IsStatus};
 
 use http_wire::Message;
 use osm_base::{Bytes, Memory};
+use osm_outside::{Outside, Witness};
 use std::alloc::Global;
 
 /// A reply: a status and a JSON body.
@@ -24,17 +25,21 @@ pub enum Withheld {
 
 /// What answers messages.
 pub trait Desk {
-    ghost use Rattle.std.specs.Prelude.{ℕ};
+    ghost use Rattle.std.specs.Prelude.{ℕ, List};
     ghost use Rattle.http_link.specs.declared.desk.Reply.{Reply};
     ghost use Rattle.http_link.specs.declared.desk.Withheld.{Withheld};
     ghost use Rattle.http_wire.specs.declared.message.Message.{Message};
-    ghost use Rattle.http_link.specs.Desk.{counted_reply};
+    ghost use Rattle.osm_outside.specs.Event.{Shown};
+    ghost use Rattle.http_link.specs.Desk.{counted_reply, showing};
 
     /// Which reply a message may get at a moment, from what the desk was to what it is then.
     ghost allows: { Self → Message → ℕ → Reply → Self → Type 0 };
 
     // What a desk is that lets its last reply be sent.
     ghost tells: { Self → Type 0 };
+
+    // By which receipts it lets its last reply be sent, which the link is shown.
+    ghost shows: { Self → List Shown };
 
     // What a desk is that withholds its last reply, by why it does. A desk that never does holds nothing here.
     ghost withholds: { Self → Withheld → Type 0 };
@@ -45,13 +50,16 @@ pub trait Desk {
         ensures allowed { allows self.old message moment (counted_reply result) self.new }
         ensures status { IfOk result (λ reply. IsStatus reply.status) };
 
-    /// Lets the reply that it gave last be sent, or says why not. It is asked once behind each answer and before anything is
-    /// sent; where it withholds the reply nothing is sent, and the link ends. Whatever reply was allowed is so still.
-    fn may_tell(&mut self) -> Result<(), Withheld>
+    /// Lets the reply that it gave last be sent, once the link was shown by which receipts; or says why not. It is asked once behind
+    /// each answer and before anything is sent; where it withholds the reply nothing is sent, and the link ends. Whatever reply was
+    /// allowed is so still.
+    fn may_tell<L: Witness>(&mut self, link: &mut L) -> Result<(), Withheld>
         ensures allowed { (before : Self) (message : Message) (moment : ℕ) (reply : Reply)
             → allows before message moment reply self.old → allows before message moment reply self.new }
         ensures tells { OnOk result (tells self.new) }
-        ensures withheld { IfErr result (λ why. withholds self.new why) };
+        ensures shown { OnOk result (L.told link.new ≡ showing (shows self.new) (L.told link.old)) }
+        ensures withheld { IfErr result (λ why. withholds self.new why) }
+        ensures unshown { OnErr result (L.told link.new ≡ L.told link.old) };
 }
 
 /// A desk that never withholds a reply.

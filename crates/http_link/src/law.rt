@@ -53,5 +53,5 @@ pub fn clock_is_read_between()
 /// No link ends with a reply withheld whose desk never withholds one.
 pub fn always_tells<D: AlwaysTells>()
     ensures { (start now : D) (exchanges : List Exchange) (end : LinkEnd)
-        → AreTold D.allows D.tells D.withholds start exchanges now end → TellsAll end }
+        → AreTold D.allows D.tells D.shows D.withholds start exchanges now end → TellsAll end }
 {}

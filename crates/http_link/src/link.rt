@@ -22,7 +22,7 @@ pub fn serve_desk<D: Desk, L: Link>(
     body_limit: usize,
 ) -> LinkEnd
     ensures serves { Serves body_limit D.allows desk.old desk.new (L.told link.old) (L.told link.new) result }
-    ensures told { ServesTold body_limit D.allows D.tells D.withholds desk.old desk.new (L.told link.old) (L.told link.new) result }
+    ensures told { ServesTold body_limit D.allows D.tells D.shows D.withholds desk.old desk.new (L.told link.old) (L.told link.new) result }
 {
     // What the turns tell of the bytes is the same for every end.
     bytes_tell_the_end();

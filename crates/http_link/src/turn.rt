@@ -69,13 +69,13 @@ pub fn answer_message<D: Desk, L: Link>(
     count: usize,
 ) -> Result<Result<(), Failed>, Withheld>
     requires { count < REQUEST_LIMIT }
-    ensures replies { RepliesOrHolds D.allows D.tells D.withholds desk.old desk.new (L.told link.old) (L.told link.new) count message result }
+    ensures replies { RepliesOrHolds D.allows D.tells D.shows D.withholds desk.old desk.new (L.told link.old) (L.told link.new) count message result }
     ensures failed { IfOk result (λ sent. IsErr sent → Rose (L.told link.old).write_faults (L.told link.new).write_faults) }
 {
     let close = closes(&message, count);
     let moment = link.now();
     let answer = desk.answer(alloc, message, moment);
-    match desk.may_tell() {
+    match desk.may_tell(link) {
         Ok(()) => Ok(send(alloc, link, &answer, close)),
         Err(why) => Err(why),
     }
@@ -134,7 +134,7 @@ pub fn take_turn<D: Desk, L: Link>(
 ) -> Next
     requires few { count < REQUEST_LIMIT }
     requires going_on { IsFalse wire.old.ended }
-    ensures turn { TakesTurn wire.old.body_limit D.allows D.tells D.withholds desk.old desk.new (L.told link.old) (L.told link.new)
+    ensures turn { TakesTurn wire.old.body_limit D.allows D.tells D.shows D.withholds desk.old desk.new (L.told link.old) (L.told link.new)
         wire.old.kept wire.new.kept count result }
     ensures going_on { result ≡ Next.GoesOn → IsFalse wire.new.ended }
     ensures body_limit { wire.new.body_limit ≡ wire.old.body_limit }

@@ -3,19 +3,19 @@ use Rattle.std.proofs.Common.{◌≡◌, ℕ, ◌≤◌, Bool, true, false, List
 use Rattle.std.specs.Prelude.{IsTrue}
 use Rattle.std.proofs.Math.Seq.{take-length}
 use mathlib.Core.List.{IsPrefix}
-use Rattle.http_link.specs.Exchange.{Exchange, Chain, Telling}
+use Rattle.http_link.specs.Exchange.{Exchange, ChainBy, Telling}
 use Rattle.http_link.specs.Link.{AreTold}
 use Rattle.http_link.specs.declared.desk.Withheld.{Withheld}
 use Rattle.http_link.specs.declared.end.LinkEnd.{LinkEnd}
 use Rattle.http_link.specs.declared.end.LinkEnd.TheVariants.{Unkept}
 use Rattle.kept_entries.specs.Receipts.{last_count}
-use Rattle.kept_entries.specs.declared.receipts.Receipt.{Receipt}
+use Rattle.kept_entries.specs.Receipts.{Receipt}
 use Rattle.session_desk.specs.Rows.{Place}
 use Rattle.session_desk.specs.Steps.{place_at}
 use Rattle.session_desk.specs.Answered.{RowOf, RowsStay, AreAnswered, HasServed}
 use Rattle.session_desk.proofs.Lists.{prefix_self, prefix_trans, prefix_length, prefix_take}
 use Rattle.user_table.specs.Users.{Users}
-use Rattle.kept_desk.specs.Kept.{AtKept, Tells, Withholds, HasWithheld, AllowsKept, Sending, exchanges_in, sent_ones, sent_but_last, sendings, AreKeptAndTold, HasKeptAndTold}
+use Rattle.kept_desk.specs.Kept.{AtKept, Tells, shows_kept, Withholds, HasWithheld, AllowsKept, Sending, exchanges_in, sent_ones, sent_but_last, sendings, AreKeptAndTold, HasKeptAndTold}
 use Rattle.kept_desk.proofs.Sendings.{sent_but_last-next}
 
 module _ {E : Type 0} (row : RowOf E) where
@@ -45,7 +45,7 @@ module _ {E : Type 0} (row : RowOf E) where
   receipt_for it point within tells = rw (take-length it.receipts) (omega (arith, within, tells))
 
   one_told : (old new : AtKept E) (e : Exchange) (sent : Bool) (point : ℕ) → point ≤ length old.desk.known.front
-      → AllowsKept row old e.message e.moment e.answer new → (IsTrue sent → Tells new)
+      → AllowsKept row old e.message e.moment e.answer new → (IsTrue sent → Tells new × (e.shown ≡ shows_kept new))
       → HasKeptAndTold row old.desk.users old point (record { exchange = e; sent = sent } ∷ []) new
   one_told old new e sent point le allowed tells =
       let step = allowed.answers point le in
@@ -62,7 +62,7 @@ module _ {E : Type 0} (row : RowOf E) where
           prefix_length old.receipts new.receipts allowed.receipts,
           omega arith,
           inside,
-          λ is_sent. receipt_for new step.0 step.1 (tells is_sent),
+          λ is_sent. (rw (take-length new.receipts) (tells is_sent).1, receipt_for new step.0 step.1 (tells is_sent).0),
           step.2,
           (refl, inside),
         );
@@ -165,21 +165,21 @@ module _ {E : Type 0} (row : RowOf E) (stay : RowsStay row) where
   )
 
   all_told : (old new : AtKept E) (exchanges : List Exchange) (point : ℕ) → point ≤ length old.desk.known.front
-      → Chain (Telling (AllowsKept row) Tells) old exchanges new
+      → ChainBy (Telling (AllowsKept row) Tells shows_kept) old exchanges new
       → (new.desk.users ≡ old.desk.users) × HasKeptAndTold row old.desk.users old point (sent_ones exchanges) new
   all_told old new [] point le same =
       subst (λ (d : AtKept E). (d.desk.users ≡ old.desk.users) × HasKeptAndTold row old.desk.users old point [] d) (sym same)
       (refl, none_told row old.desk.users old point le)
-  all_told old new (e ∷ exchanges) point le (mid, (allowed, tells), more) =
-      let first = one_told row old mid e true point le allowed (λ sent. tells) in
+  all_told old new (e ∷ exchanges) point le (mid, (allowed, tells, shown), more) =
+      let first = one_told row old mid e true point le allowed (λ sent. (tells, shown)) in
       then_told old mid new point (record { exchange = e; sent = true } ∷ []) (sent_ones exchanges) allowed.users first
       (all_told mid new exchanges first.last first.within more)
 
   -- the last reply was held back
   held_told : (old new : AtKept E) (exchanges : List Exchange) (why : Withheld) (point : ℕ) → point ≤ length old.desk.known.front
-      → AreTold (AllowsKept row) Tells Withholds old exchanges new (Unkept why)
+      → AreTold (AllowsKept row) Tells shows_kept Withholds old exchanges new (Unkept why)
       → (new.desk.users ≡ old.desk.users) × HasKeptAndTold row old.desk.users old point (sent_but_last exchanges) new
-  held_told old new exchanges why point le (front, last, mid, is, chain, allowed, cause) =
+  held_told old new exchanges why point le (front, last, mid, is, chain, allowed, unshown, cause) =
       let sent = all_told old mid front point le chain in
       let held = one_told row mid new last false sent.1.last sent.1.within allowed (λ never. absurd (cc never)) in
       subst (λ (l : List Sending). (new.desk.users ≡ old.desk.users) × HasKeptAndTold row old.desk.users old point l new)
@@ -187,13 +187,13 @@ module _ {E : Type 0} (row : RowOf E) (stay : RowsStay row) where
       (then_told old mid new point (sent_ones front) (record { exchange = last; sent = false } ∷ []) sent.0 sent.1 (allowed.users, held))
 
   all_withheld : (old new : AtKept E) (exchanges : List Exchange) (point : ℕ) → point ≤ length old.desk.known.front
-      → Chain (Telling (AllowsKept row) Tells) old exchanges new
+      → ChainBy (Telling (AllowsKept row) Tells shows_kept) old exchanges new
       → (new.desk.users ≡ old.desk.users) × HasKeptAndTold row old.desk.users old point (sent_ones exchanges) new × Unit {0}
   all_withheld old new exchanges point le h = let all = all_told old new exchanges point le h in (all.0, all.1, tt)
 
   pub told_chain : (old new : AtKept E) (exchanges : List Exchange) (end : LinkEnd) (point : ℕ) → point ≤ length old.desk.known.front
-      → AreTold (AllowsKept row) Tells Withholds old exchanges new end
+      → AreTold (AllowsKept row) Tells shows_kept Withholds old exchanges new end
       → (new.desk.users ≡ old.desk.users) × HasKeptAndTold row old.desk.users old point (sendings end exchanges) new × HasWithheld end new
-  told_chain old new exchanges (Unkept why) point le (front, last, mid, is, chain, allowed, cause) =
-      let held = held_told old new exchanges why point le (front, last, mid, is, chain, allowed, cause) in (held.0, held.1, cause)
+  told_chain old new exchanges (Unkept why) point le (front, last, mid, is, chain, allowed, unshown, cause) =
+      let held = held_told old new exchanges why point le (front, last, mid, is, chain, allowed, unshown, cause) in (held.0, held.1, cause)
   told_chain old new exchanges other point le h = all_withheld old new exchanges point le h

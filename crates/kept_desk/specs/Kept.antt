@@ -2,6 +2,7 @@
 use Rattle.std.specs.Prelude.{◌≡◌, ℕ, ◌≤◌, Bool, true, false, IsTrue, ⊤, List, [], ◌∷◌, length, map, take}
 use Rattle.std.proofs.Common.{inl, refl, arith}
 use mathlib.Core.List.{IsPrefix}
+use Rattle.osm_outside.specs.Event.{Shown}
 use Rattle.http_wire.specs.declared.message.Message.{Message}
 use Rattle.http_link.specs.declared.desk.Reply.{Reply}
 use Rattle.http_link.specs.declared.desk.Withheld.{Withheld}
@@ -10,7 +11,7 @@ use Rattle.http_link.specs.Exchange.{Exchange}
 use Rattle.http_link.specs.declared.end.LinkEnd.{LinkEnd}
 use Rattle.http_link.specs.declared.end.LinkEnd.TheVariants.{Unkept}
 use Rattle.kept_entries.specs.Receipts.{last_count}
-use Rattle.kept_entries.specs.declared.receipts.Receipt.{Receipt}
+use Rattle.kept_entries.specs.Receipts.{Receipt}
 use Rattle.session_desk.specs.Rows.{Place}
 use Rattle.session_desk.specs.Steps.{place_at}
 use Rattle.machine_law.specs.Rules.{Rules}
@@ -41,6 +42,10 @@ kept_by desk keeper = at_kept desk keeper.tells_of keeper.receipts keeper.failed
 -- Its last receipt in hand is for all that its last reply may tell of.
 abbrev pub Tells : {E : Type 0} → AtKept E → Type 0
 Tells it = it.tells_of ≤ last_count it.receipts
+
+-- by what it lets its last reply be sent: the receipts that it has in hand, which the link is shown once
+abbrev pub shows_kept : {E : Type 0} → AtKept E → List Shown
+shows_kept it = it.receipts ∷ []
 
 -- why it may withhold its last reply: keeping failed, which it notes; or there was no memory, of which nothing is said
 abbrev pub Withholds : {E : Type 0} → AtKept E → Withheld → Type 0
@@ -108,14 +113,14 @@ module _ {E : Type 0} (row : RowOf E) where
     };
   }
 
-  -- The messages were answered so, one after the other, at points within the entries. Each reply that was sent was sent with receipts in
-  -- hand, of which the last is for its point at least. They are the first ones of these receipts, so many of them, and never fewer than
-  -- before.
+  -- The messages were answered so, one after the other, at points within the entries. Before anything of a reply was sent, the link was shown
+  -- the receipts in hand, of which the last is for its point at least. They are the first ones of these receipts, so many of them, and never
+  -- fewer than before.
   abbrev pub AreKeptAndTold : Users → ℕ → List E → List Receipt → Place → ℕ → List Sending → Place → Type 0
   AreKeptAndTold users session F receipts before had [] after = (after ≡ before) × (before.point ≤ length F)
   AreKeptAndTold users session F receipts before had (s ∷ sendings) after =
       (mid : Place) × (in_hand : ℕ) × (had ≤ in_hand) × (in_hand ≤ length receipts) × (mid.point ≤ length F)
-      × (IsTrue s.sent → mid.point ≤ last_count (take in_hand receipts))
+      × (IsTrue s.sent → (s.exchange.shown ≡ take in_hand receipts ∷ []) × (mid.point ≤ last_count (take in_hand receipts)))
       × row users session F before s.exchange.message s.exchange.moment s.exchange.answer mid
       × AreKeptAndTold users session F receipts mid in_hand sendings after
 

@@ -1,5 +1,6 @@
 //! What has replies wait until the file holds what they tell of.
-ghost use Rattle.std.specs.Prelude.{◌≡◌, ◌≤◌, true, false, OnOk, IsErrOf};
+ghost use Rattle.std.specs.Prelude.{◌≡◌, ◌≤◌, ◌∷◌, [], true, false, OnOk, OnErr, IsErrOf};
+ghost use Rattle.http_link.specs.Desk.{showing};
 ghost use Rattle.http_link.specs.declared.desk.Withheld.{Withheld};
 ghost use mathlib.Core.List.{IsPrefix};
 ghost use Rattle.kept_entries.specs.Receipts.{last_count};
@@ -10,6 +11,7 @@ use http_link::Withheld;
 use journal_file::Device;
 use kept_entries::{Behind, Board, KeepFault, Lines, Receipt, Shelf, receipts_for};
 use machine_law::Machine;
+use osm_outside::{Outside, Witness};
 use session_desk::SessionDesk;
 use shared_front::{Front, HubName};
 use snapshot_hub::Snapshot;
@@ -83,6 +85,13 @@ impl<'a, N: HubName, K: HubName, E, T: Lines<E>, V: Device, W: Wait> Keeper<'a, 
         self.receipts.again()
     }
 
+    /// Shows a link the receipts that it has in hand.
+    fn show<L: Witness>(&self, link: &mut L)
+        ensures { L.told link.new ≡ showing (self.now.receipts ∷ []) (L.told link.old) }
+    {
+        link.show(&self.receipts);
+    }
+
     /// Whether a reply was withheld because keeping failed.
     pub fn has_failed(&self) -> bool
         ensures { result ≡ self.now.failed }
@@ -112,7 +121,7 @@ impl<'a, N: HubName, K: HubName, E, T: Lines<E>, V: Device, W: Wait> Keeper<'a, 
 /// takes the receipt for it, unless one in hand is for as much. Where a call of the device has failed
 /// it notes that. Receipts that are older than those in hand are none for it, and count as want of
 /// memory; no run has shown them.
-pub fn keep_from<N: HubName, K: HubName, E: Drop, T: Lines<E>, V: Device, B: Behind<N, E>, W: Wait>(
+fn keep_for<N: HubName, K: HubName, E: Drop, T: Lines<E>, V: Device, B: Behind<N, E>, W: Wait>(
     keeper: &mut Keeper<'_, N, K, E, T, V, W>,
     source: &mut B,
 ) -> Result<(), Withheld>
@@ -146,6 +155,31 @@ pub fn keep_from<N: HubName, K: HubName, E: Drop, T: Lines<E>, V: Device, B: Beh
     }
 }
 
+/// The same, and shows the link the receipts that are in hand then. Where it fails, the link is shown nothing.
+pub fn keep_from<
+    N: HubName,
+    K: HubName,
+    E: Drop,
+    T: Lines<E>,
+    V: Device,
+    B: Behind<N, E>,
+    W: Wait,
+    L: Witness,
+>(keeper: &mut Keeper<'_, N, K, E, T, V, W>, source: &mut B, link: &mut L) -> Result<(), Withheld>
+    ensures source { B.becomes source.old source.new }
+    ensures stays { keeper.new.tells_of ≡ keeper.old.tells_of }
+    ensures receipts { IsPrefix keeper.old.receipts keeper.new.receipts }
+    ensures tells { OnOk result (keeper.new.tells_of ≤ last_count keeper.new.receipts) }
+    ensures shown { OnOk result (L.told link.new ≡ showing (keeper.new.receipts ∷ []) (L.told link.old)) }
+    ensures unshown { OnErr result (L.told link.new ≡ L.told link.old) }
+    ensures noted { IsErrOf result Withheld.Failed → keeper.new.failed ≡ true }
+    ensures failed { keeper.old.failed ≡ true → keeper.new.failed ≡ true }
+{
+    keep_for(keeper, source)?;
+    keeper.show(link);
+    Ok(())
+}
+
 /// The same by the desk itself, which has the entries of its session.
 pub fn keep<
     N: HubName,
@@ -156,11 +190,18 @@ pub fn keep<
     V: Device,
     D: SessionDesk<N, M, S>,
     W: Wait,
->(keeper: &mut Keeper<'_, N, K, M::Entry, T, V, W>, desk: &mut D) -> Result<(), Withheld>
+    L: Witness,
+>(
+    keeper: &mut Keeper<'_, N, K, M::Entry, T, V, W>,
+    desk: &mut D,
+    link: &mut L,
+) -> Result<(), Withheld>
     ensures session { StaysOrFreshens M.rules (D.keeps desk.old) (D.keeps desk.new) }
     ensures stays { keeper.new.tells_of ≡ keeper.old.tells_of }
     ensures receipts { IsPrefix keeper.old.receipts keeper.new.receipts }
     ensures tells { OnOk result (keeper.new.tells_of ≤ last_count keeper.new.receipts) }
+    ensures shown { OnOk result (L.told link.new ≡ showing (keeper.new.receipts ∷ []) (L.told link.old)) }
+    ensures unshown { OnErr result (L.told link.new ≡ L.told link.old) }
     ensures noted { IsErrOf result Withheld.Failed → keeper.new.failed ≡ true }
     ensures failed { keeper.old.failed ≡ true → keeper.new.failed ≡ true }
 {
@@ -168,5 +209,5 @@ pub fn keep<
         desk,
         of: PhantomData,
     };
-    keep_from(keeper, &mut source)
+    keep_from(keeper, &mut source, link)
 }

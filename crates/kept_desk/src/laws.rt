@@ -4,11 +4,11 @@ ghost use mathlib.Core.List.{IsPrefix};
 ghost use Rattle.http_link.specs.Exchange.{Exchange};
 ghost use Rattle.http_link.specs.Link.{AreTold};
 ghost use Rattle.http_link.specs.declared.end.LinkEnd.{LinkEnd};
-ghost use Rattle.kept_entries.specs.declared.receipts.Receipt.{Receipt};
+ghost use Rattle.kept_entries.specs.Receipts.{Receipt};
 ghost use Rattle.session_desk.specs.Answered.{HasServed};
 ghost use Rattle.session_desk.specs.Steps.{place_at};
 ghost use Rattle.user_table.specs.Users.{Users};
-ghost use Rattle.kept_desk.specs.Kept.{AtKept, Tells, Withholds, HasWithheld, AllowsKept, Sending, sendings, exchanges_in, AreKeptAndTold, HasKeptAndTold};
+ghost use Rattle.kept_desk.specs.Kept.{AtKept, Tells, shows_kept, Withholds, HasWithheld, AllowsKept, Sending, sendings, exchanges_in, AreKeptAndTold, HasKeptAndTold};
 
 use machine_law::Machine;
 use session_desk::SessionDesk;
@@ -16,11 +16,11 @@ use shared_front::HubName;
 use snapshot_hub::Snapshot;
 
 /// A law: whatever exchanges a desk goes through until a link's end, from any point of the front that
-/// its session had, each reply that was sent was sent with a receipt in hand that is for its point; and
+/// its session had, the link was shown a receipt that is for a reply's point before it was sent; and
 /// where the last one was withheld, there was a cause.
 pub fn told_chain<N: HubName, M: Machine, S: Snapshot<N, M>, D: SessionDesk<N, M, S>>()
     ensures { (old new : AtKept M.Entry) (exchanges : List Exchange) (end : LinkEnd) (point : ℕ) → point ≤ length old.desk.known.front
-        → AreTold (AllowsKept D.answers) Tells Withholds old exchanges new end
+        → AreTold (AllowsKept D.answers) Tells shows_kept Withholds old exchanges new end
         → (new.desk.users ≡ old.desk.users) × HasKeptAndTold D.answers old.desk.users old point (sendings end exchanges) new × HasWithheld end new }
 {}
 

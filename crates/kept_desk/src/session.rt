@@ -19,7 +19,7 @@ pub trait KeptSession<N: HubName, M: Machine, S: Snapshot<N, M>>: SessionDesk<N,
     ghost use Rattle.http_link.specs.declared.desk.Reply.{Reply};
     ghost use Rattle.http_link.specs.declared.desk.Withheld.{Withheld};
     ghost use Rattle.http_wire.specs.declared.message.Message.{Message};
-    ghost use Rattle.kept_desk.specs.Kept.{AtKept, Tells, Withholds, AllowsKept};
+    ghost use Rattle.kept_desk.specs.Kept.{AtKept, Tells, shows_kept, Withholds, AllowsKept};
 
     // What its session has, how many entries its last reply may tell of, the receipts in hand, and whether keeping failed.
     ghost kept: { Self → AtKept M.Entry };
@@ -42,6 +42,9 @@ pub trait KeptSession<N: HubName, M: Machine, S: Snapshot<N, M>>: SessionDesk<N,
 
     // Where it lets its last reply be sent, the last receipt in hand is for all that the reply may tell of.
     ghost tells_kept: { (it : Self) → Self.tells it → Tells (kept it) };
+
+    // It shows the receipts that it has in hand.
+    ghost shows_receipts: { (it : Self) → Self.shows it ≡ shows_kept (kept it) };
 
     // Where it withholds its last reply, it has a cause.
     ghost withholds_kept: { (it : Self) (why : Withheld) → Self.withholds it why → Withholds (kept it) why };

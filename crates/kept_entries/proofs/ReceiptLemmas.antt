@@ -4,7 +4,7 @@ use Rattle.std.proofs.lemmas.Bool.{cases_Bool}
 use Rattle.std.specs.List.{AllByRecursion}
 use Rattle.kept_entries.specs.Held.{Holds, HoldsFrom}
 use Rattle.kept_entries.specs.Receipts.{last_count, IsKept, AreKept}
-use Rattle.kept_entries.specs.declared.receipts.Receipt.{Receipt}
+use Rattle.receipts.specs.declared.receipt.Receipt.{Receipt}
 
 pub last_pushed : (receipts : List Receipt) (r : Receipt) → last_count (receipts ++ r ∷ []) ≡ r.count
 last_pushed [] r = refl

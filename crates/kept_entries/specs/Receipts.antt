@@ -2,7 +2,7 @@
 use Rattle.std.specs.Prelude.{ℕ, ◌≤◌, Bool, List, [], ◌∷◌, length}
 use Rattle.std.specs.List.{AllByRecursion}
 use Rattle.kept_entries.specs.Held.{HoldsFrom}
-use Rattle.kept_entries.specs.declared.receipts.Receipt.{Receipt}
+pub use Rattle.receipts.specs.declared.receipt.Receipt.{Receipt}
 
 -- the entries that the last one is for, or none
 abbrev pub last_count : List Receipt → ℕ

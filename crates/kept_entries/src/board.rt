@@ -3,12 +3,12 @@ ghost use Rattle.std.specs.Prelude.{◌≡◌, ◌≤◌, IfOk, IfSome};
 ghost use Rattle.kept_entries.specs.Receipts.{last_count};
 
 use crate::keeping::KeepFault;
-use crate::receipts::Receipt;
 use crate::shelf::Shelf;
 use crate::told::Told;
 use crate::writing::Lines;
 use journal_file::Device;
 use osm_base::Memory;
+use receipts::Receipt;
 use shared_front::{Front, HubName};
 use std::alloc::Global;
 use std::sync::{Condvar, Mutex, Wait};

@@ -4,16 +4,13 @@
 
 mod board;
 mod keeping;
-mod moment;
-mod receipts;
 mod shelf;
 mod told;
 mod writing;
 
 pub use board::{Behind, Board, receipts_for};
 pub use keeping::{KeepFault, keep};
-pub use moment::Moment;
-pub use receipts::Receipt;
+pub use receipts::{Moment, Receipt};
 pub use shelf::{Shelf, receipts_stay};
 pub use told::Told;
 pub use writing::Lines;

@@ -3,13 +3,12 @@ ghost use Rattle.std.specs.Prelude.{◌≡◌, ◌≤◌, ◌<◌, ◌^◌, ◌+
 ghost use mathlib.Core.List.{IsPrefix};
 ghost use Rattle.kept_entries.specs.Receipts.{AreKept, last_count, shelved};
 ghost use Rattle.kept_entries.specs.declared.keeping.KeepFault.{KeepFault};
-ghost use Rattle.kept_entries.specs.declared.receipts.Receipt.{Receipt};
+ghost use Rattle.receipts.specs.declared.receipt.Receipt.{Receipt};
 
 use crate::keeping::{KeepFault, keep};
-use crate::moment::Moment;
-use crate::receipts::Receipt;
 use crate::writing::Lines;
 use journal_file::{Device, JournalFile};
+use receipts::{Moment, Receipt};
 use shared_front::{Front, HubName, Tail};
 use std::alloc::Global;
 use std::marker::{Model, PhantomData};

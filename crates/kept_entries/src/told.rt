@@ -2,7 +2,7 @@
 ghost use Rattle.std.specs.Prelude.{◌≡◌, []};
 ghost use Rattle.kept_entries.specs.Receipts.{last_count};
 
-use crate::receipts::Receipt;
+use receipts::Receipt;
 use shared_front::{Front, HubName};
 use std::marker::Model;
 
@@ -16,7 +16,7 @@ pub struct Told<K: HubName> {
 impl<K: HubName> Model for Told<K> {
     ghost use Rattle.std.specs.Prelude.{◌≡◌, List};
     ghost use Rattle.kept_entries.specs.Receipts.{last_count};
-    ghost use Rattle.kept_entries.specs.declared.receipts.Receipt.{Receipt};
+    ghost use Rattle.receipts.specs.declared.receipt.Receipt.{Receipt};
 
     ghost Value = { List Receipt };
 

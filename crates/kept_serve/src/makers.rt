@@ -17,7 +17,7 @@ pub trait KeptMaker<E, K: HubName, Q> {
     ghost use Rattle.user_table.specs.Users.{Users};
     ghost use Rattle.snapshot_hub.specs.Known.{Known};
     ghost use Rattle.session_desk.specs.Answered.{RowOf};
-    ghost use Rattle.kept_entries.specs.declared.receipts.Receipt.{Receipt};
+    ghost use Rattle.kept_entries.specs.Receipts.{Receipt};
     ghost use Rattle.kept_desk.specs.Kept.{AtKept, at_kept};
     ghost use Rattle.desk_serve.specs.Desks.{at_desk};
 

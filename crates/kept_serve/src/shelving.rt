@@ -1,6 +1,6 @@
 //! The shelf of a file that holds a whole journal.
 ghost use Rattle.std.specs.Prelude.{◌≡◌, ◌∷◌, [], length, IfOk, IfErr};
-ghost use Rattle.kept_entries.specs.declared.receipts.Receipt.{Receipt};
+ghost use Rattle.kept_entries.specs.Receipts.{Receipt};
 
 use journal_file::{Device, JournalFile};
 use kept_entries::{Lines, Receipt, Shelf};

@@ -16,10 +16,10 @@ use Rattle.link_workers.specs.Port.{ServesPort}
 use Rattle.link_workers.specs.Seats.{seated, sessions_of, ports_of}
 use Rattle.link_workers.specs.Workers.{AllWork}
 use Rattle.kept_entries.specs.Receipts.{AreKept}
-use Rattle.kept_entries.specs.declared.receipts.Receipt.{Receipt}
+use Rattle.kept_entries.specs.Receipts.{Receipt}
 use Rattle.kept_serve.specs.Ports.{EndsSo}
 use Rattle.desk_serve.specs.KeptPorts.{all_sendings}
-use Rattle.kept_steps.specs.Kept.{AtKeptFront, at_kept_front, Tells, Withholds, AllowsKept}
+use Rattle.kept_steps.specs.Kept.{AtKeptFront, at_kept_front, Tells, shows_kept, Withholds, AllowsKept}
 use Rattle.kept_steps.specs.KeptPorts.{KeptWork, HasKeptPort, HasWorkedKept, ServesKept, HaveKept, AreMatched, ServesKeptPorts}
 use Rattle.kept_steps.proofs.Told.{Joins, joined, are_told, causes}
 
@@ -60,7 +60,7 @@ module _ {C E : Type 0} (steps : C → List E → Message → ℕ → Reply → 
     work_of port w = record { stopped = w.session; before = told port; after = told w.port; failed = w.failed }
 
     more_kept : (port : P) (ports : List P) (w : Worker (AtKeptFront C E) P) (new : List (Worker (AtKeptFront C E) P))
-        → ServesPort (ServesTold PIECE_LIMIT (AllowsKept steps) Tells Withholds) begun w.session (told port) (told w.port) w.failed
+        → ServesPort (ServesTold PIECE_LIMIT (AllowsKept steps) Tells shows_kept Withholds) begun w.session (told port) (told w.port) w.failed
         → HaveKept steps setting J had (sessions_of new) (map told ports) (map told (ports_of new)) (list_any (λ w. w.failed) new)
         → HaveKept steps setting J had (sessions_of (w ∷ new)) (map told (port ∷ ports)) (map told (ports_of (w ∷ new))) (list_any (λ w. w.failed) (w ∷ new))
     more_kept port ports w new h rest = record {
@@ -73,7 +73,7 @@ module _ {C E : Type 0} (steps : C → List E → Message → ℕ → Reply → 
     }
 
     all_kept : (ports : List P) (new : List (Worker (AtKeptFront C E) P))
-        → AllWork (ServesTold PIECE_LIMIT (AllowsKept steps) Tells Withholds) told (seated (replicate (length ports) begun) ports) new
+        → AllWork (ServesTold PIECE_LIMIT (AllowsKept steps) Tells shows_kept Withholds) told (seated (replicate (length ports) begun) ports) new
         → HaveKept steps setting J had (sessions_of new) (map told ports) (map told (ports_of new)) (list_any (λ w. w.failed) new)
     all_kept [] [] h = record { works = []; served = tt; stopped_are = refl; handed = refl; back = refl; some_failed = refl }
     all_kept [] (w ∷ new) h = absurd h
@@ -82,12 +82,12 @@ module _ {C E : Type 0} (steps : C → List E → Message → ℕ → Reply → 
 
     pub have_kept : (ports back : List P) (desks stopped : List (AtKeptFront C E)) (new : List (Worker (AtKeptFront C E) P)) (count : ℕ) (failed : Bool)
         → desks ≡ replicate count begun → length ports ≡ count
-        → AllWork (ServesTold PIECE_LIMIT (AllowsKept steps) Tells Withholds) told (seated desks ports) new
+        → AllWork (ServesTold PIECE_LIMIT (AllowsKept steps) Tells shows_kept Withholds) told (seated desks ports) new
         → stopped ≡ sessions_of new → back ≡ ports_of new → failed ≡ list_any (λ w. w.failed) new
         → HaveKept steps setting J had stopped (map told ports) (map told back) failed
     have_kept ports back desks stopped new count failed fresh counted works stopped_is back_is failed_is =
         let same : desks ≡ replicate (length ports) begun = fresh ∙ ap (λ (n : ℕ). replicate n begun) (sym counted) in
-        let all = all_kept ports new (subst (λ (ds : List (AtKeptFront C E)). AllWork (ServesTold PIECE_LIMIT (AllowsKept steps) Tells Withholds) told (seated ds ports) new) same works) in record {
+        let all = all_kept ports new (subst (λ (ds : List (AtKeptFront C E)). AllWork (ServesTold PIECE_LIMIT (AllowsKept steps) Tells shows_kept Withholds) told (seated ds ports) new) same works) in record {
           works = all.works;
           served = all.served;
           stopped_are = all.stopped_are ∙ sym stopped_is;

@@ -1,12 +1,13 @@
 -- What a desk over a list is answered that keeps before it tells.
-use Rattle.std.specs.Prelude.{◌≡◌, ℕ, ◌≤◌, true, false, ⊤, List, length}
+use Rattle.std.specs.Prelude.{◌≡◌, ℕ, ◌≤◌, true, false, ⊤, List, [], ◌∷◌, length}
 use mathlib.Core.List.{IsPrefix}
+use Rattle.osm_outside.specs.Event.{Shown}
 use Rattle.http_wire.specs.declared.message.Message.{Message}
 use Rattle.http_link.specs.declared.desk.Reply.{Reply}
 use Rattle.http_link.specs.declared.desk.Withheld.{Withheld}
 use Rattle.http_link.specs.declared.desk.Withheld.TheVariants.{Failed, Memory}
 use Rattle.kept_entries.specs.Receipts.{last_count}
-use Rattle.kept_entries.specs.declared.receipts.Receipt.{Receipt}
+use Rattle.kept_entries.specs.Receipts.{Receipt}
 use Rattle.kept_desk.specs.Kept.{InHand}
 use Rattle.step_hub.specs.Steps.{AtFront, at_front, Allows}
 
@@ -27,6 +28,10 @@ at_kept_front setting front receipts = kept_front (at_front setting front 0) (re
 -- Its last receipt in hand is for all that its last reply may tell of.
 abbrev pub Tells : {C E : Type 0} → AtKeptFront C E → Type 0
 Tells it = it.keeper.tells_of ≤ last_count it.keeper.receipts
+
+-- by what it lets its last reply be sent: the receipts that it has in hand, which the link is shown once
+abbrev pub shows_kept : {C E : Type 0} → AtKeptFront C E → List Shown
+shows_kept it = it.keeper.receipts ∷ []
 
 -- why it may withhold its last reply: keeping failed, which it notes; or there was no memory, of which nothing is said
 abbrev pub Withholds : {C E : Type 0} → AtKeptFront C E → Withheld → Type 0

@@ -3,6 +3,7 @@ use Rattle.std.specs.Prelude.{◌≡◌, ℕ, ◌+◌, ◌<◌, ◌≤◌, Bool,
 use Rattle.std.specs.List.{AllByRecursion, AllZip, list_any, sum_by}
 use mathlib.Core.List.{IsPrefix}
 use Rattle.osm_base.specs.declared.limits.TheConstants.{PIECE_LIMIT}
+use Rattle.osm_outside.specs.Event.{Shown}
 use Rattle.osm_outside.specs.Port.{PortTold}
 use Rattle.http_wire.specs.declared.message.Message.{Message}
 use Rattle.http_link.specs.declared.desk.Reply.{Reply}
@@ -14,21 +15,21 @@ use Rattle.link_workers.specs.Port.{Visit, ServesPort}
 use Rattle.link_workers.specs.declared.outcome.Outcome.{Outcome}
 use Rattle.link_workers.specs.declared.outcome.Outcome.TheVariants.{Served, Failed, Unkept, LacksMemory}
 use Rattle.kept_entries.specs.Receipts.{last_count, AreKept}
-use Rattle.kept_entries.specs.declared.receipts.Receipt.{Receipt}
+use Rattle.kept_entries.specs.Receipts.{Receipt}
 use Rattle.kept_desk.specs.Kept.{Sending}
 use Rattle.desk_serve.specs.KeptPorts.{HasCause, all_sendings}
 use Rattle.step_hub.specs.ServePorts.{IsStepOf}
-use Rattle.kept_steps.specs.Kept.{AtKeptFront, at_kept_front, Tells, Withholds, AllowsKept}
+use Rattle.kept_steps.specs.Kept.{AtKeptFront, at_kept_front, Tells, shows_kept, Withholds, AllowsKept}
 
--- The message was answered by a step of the list, which stands at that next point then, and is counted where it added an entry. Where the
--- reply was sent, it was with receipts in hand, of which the last is for that point at least. They are the first ones of these receipts, so
--- many, and no fewer than before.
+-- The message was answered by a step of the list, which stands at that next point then, and is counted where it added an entry. Before
+-- anything of the reply was sent, the link was shown the receipts in hand, of which the last is for that point at least. They are the first
+-- ones of these receipts, so many, and no fewer than before.
 pub record IsToldStep {E : Type 0} (steps : List E → Message → ℕ → Reply → List E → Type 0)
     (list : List E) (receipts : List Receipt) (point grown had : ℕ) (sending : Sending) (next count in_hand : ℕ) : Type 0 where
   pub step : IsStepOf steps list point grown sending.exchange next count
   pub later : had ≤ in_hand
   pub within : in_hand ≤ length receipts
-  pub kept : IsTrue sending.sent → next ≤ last_count (take in_hand receipts)
+  pub kept : IsTrue sending.sent → (sending.exchange.shown ≡ take in_hand receipts ∷ []) × (next ≤ last_count (take in_hand receipts))
 
 -- All of these were, one after another, from the one point of the list to the other, and from the one count of entries that such steps added
 -- to the other. Neither the points nor the receipts ever go back.
@@ -38,13 +39,13 @@ AreToldSteps steps list receipts point grown had (s ∷ sendings) last total =
     (next : ℕ) × (count : ℕ) × (in_hand : ℕ) × IsToldStep steps list receipts point grown had s next count in_hand
     × AreToldSteps steps list receipts next count in_hand sendings last total
 
--- The link was served to its end by the desk, which let each reply be sent before it was or had a cause to withhold the last one, and these
--- are its messages with their moments and replies.
-pub record IsServedTold {D : Type 0} (allows : D → Message → ℕ → Reply → D → Type 0) (tells : D → Type 0) (withholds : D → Withheld → Type 0)
-    (visit : Visit) (exchanges : List Exchange) : Type 0 where
+-- The link was served to its end by the desk, which let each reply be sent and showed what it shows before it was or had a cause to withhold
+-- the last one, and these are its messages with their moments and replies.
+pub record IsServedTold {D : Type 0} (allows : D → Message → ℕ → Reply → D → Type 0) (tells : D → Type 0) (shows : D → List Shown)
+    (withholds : D → Withheld → Type 0) (visit : Visit) (exchanges : List Exchange) : Type 0 where
   pub old : D
   pub new : D
-  pub serves : ServesTold PIECE_LIMIT allows tells withholds old new visit.came visit.went visit.end
+  pub serves : ServesTold PIECE_LIMIT allows tells shows withholds old new visit.came visit.went visit.end
   pub exchanges_are : exchanges ≡ exchanges_of serves.serves.turns
 
 -- What a worker did: what its desk had behind its last link, its port as it was handed out and as it came back, and whether accepting failed.
@@ -59,7 +60,7 @@ module _ {C E : Type 0} (steps : C → List E → Message → ℕ → Reply → 
   -- Each link that the port handed out was served once, to an end, and given back; where accepting didn't fail, no known link is to come.
   abbrev pub HasKeptPort : List Receipt → KeptWork C E → Type 0
   HasKeptPort had work =
-      ServesPort (ServesTold PIECE_LIMIT (AllowsKept steps) Tells Withholds) (at_kept_front setting J had) work.stopped work.before work.after work.failed
+      ServesPort (ServesTold PIECE_LIMIT (AllowsKept steps) Tells shows_kept Withholds) (at_kept_front setting J had) work.stopped work.before work.after work.failed
 
   -- A worker that had seen J of the list served the links of its port, with that receipt in hand at first. These are all receipts that were
   -- given, and so many calls of the device have failed.
@@ -68,11 +69,11 @@ module _ {C E : Type 0} (steps : C → List E → Message → ℕ → Reply → 
     pub front : IsPrefix work.stopped.desk.front list
     -- those in hand behind its last link are the first ones that were given
     pub in_hand : IsPrefix work.stopped.keeper.receipts receipts
-    -- The messages of all these links, one link after another: each reply is a step on a beginning of the list, and each one that was sent
-    -- was sent with a receipt in hand for all that it may tell of. The points never go back, from one link to the next neither, and no more
-    -- do the receipts. They begin where J ends. So many of these steps added an entry.
+    -- The messages of all these links, one link after another: each reply is a step on a beginning of the list, and before anything of one
+    -- was sent its link was shown a receipt for all that it may tell of. The points never go back, from one link to the next neither, and no
+    -- more do the receipts. They begin where J ends. So many of these steps added an entry.
     pub exchanges : List (List Exchange)
-    pub each : AllZip (IsServedTold (AllowsKept steps) Tells Withholds) links.links.visits exchanges
+    pub each : AllZip (IsServedTold (AllowsKept steps) Tells shows_kept Withholds) links.links.visits exchanges
     pub told : AreToldSteps (steps setting) list receipts (length J) 0 1 (all_sendings links.links.visits exchanges)
         (length work.stopped.desk.front) work.stopped.desk.grown
     -- a reply was withheld because keeping failed only where a call of the device has failed

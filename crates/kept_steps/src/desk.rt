@@ -1,6 +1,7 @@
 //! A desk of one worker that keeps before it tells.
-ghost use Rattle.std.specs.Prelude.{◌≡◌, ◌≤◌, true, OnOk, IsErrOf};
+ghost use Rattle.std.specs.Prelude.{◌≡◌, ◌≤◌, ◌∷◌, [], true, OnOk, OnErr, IsErrOf};
 ghost use Rattle.http_link.specs.declared.desk.Withheld.{Withheld};
+ghost use Rattle.http_link.specs.Desk.{showing};
 ghost use mathlib.Core.List.{IsPrefix};
 ghost use Rattle.kept_entries.specs.Receipts.{last_count};
 ghost use Rattle.kept_steps.specs.Kept.{kept_front};
@@ -12,6 +13,7 @@ use journal_file::Device;
 use kept_desk::{Keeper, keep_from};
 use kept_entries::{Lines, Receipt};
 use osm_base::Memory;
+use osm_outside::{Outside, Witness};
 use shared_front::{Front, HubName};
 use std::alloc::Global;
 use std::marker::Model;
@@ -102,29 +104,43 @@ impl<
     }
 }
 
-/// Has the file hold what the desk's last reply may tell of, by the entries of its list.
-fn keep_list<N: HubName, K: HubName, S: Stepped + Drop, T: Lines<S::Entry>, V: Device, R: Wait>(
+/// Has the file hold what the desk's last reply may tell of, by the entries of its list, and shows the
+/// link the receipts that are in hand then.
+fn keep_list<
+    N: HubName,
+    K: HubName,
+    S: Stepped + Drop,
+    T: Lines<S::Entry>,
+    V: Device,
+    R: Wait,
+    L: Witness,
+>(
     alloc: Global,
     keeper: &mut Keeper<'_, N, K, S::Entry, T, V, R>,
     desk: &StepDesk<'_, N, S, R>,
+    link: &mut L,
 ) -> Result<(), Withheld>
     ensures stays { keeper.new.tells_of ≡ keeper.old.tells_of }
     ensures receipts { IsPrefix keeper.old.receipts keeper.new.receipts }
     ensures tells { OnOk result (keeper.new.tells_of ≤ last_count keeper.new.receipts) }
+    ensures shown { OnOk result (L.told link.new ≡ showing (keeper.new.receipts ∷ []) (L.told link.old)) }
+    ensures unshown { OnErr result (L.told link.new ≡ L.told link.old) }
     ensures noted { IsErrOf result Withheld.Failed → keeper.new.failed ≡ true }
     ensures failed { keeper.old.failed ≡ true → keeper.new.failed ≡ true }
 {
     let mut source = Source { alloc, desk };
-    keep_from(keeper, &mut source)
+    keep_from(keeper, &mut source, link)
 }
 
 impl<'a, N: HubName, K: HubName, S: Stepped + Drop, T: Lines<S::Entry>, V: Device, R: Wait> Desk
     for KeptStepDesk<'a, N, K, S, T, V, R> {
-    ghost use Rattle.kept_steps.specs.Kept.{AllowsKept, Tells, Withholds};
+    ghost use Rattle.kept_steps.specs.Kept.{AllowsKept, Tells, shows_kept, Withholds};
 
     ghost allows = { λ old message moment reply new. AllowsKept S.steps old message moment reply new };
 
     ghost tells = { λ desk. Tells desk };
+
+    ghost shows = { λ desk. shows_kept desk };
 
     ghost withholds = { λ desk why. Withholds desk why };
 
@@ -135,7 +151,7 @@ impl<'a, N: HubName, K: HubName, S: Stepped + Drop, T: Lines<S::Entry>, V: Devic
         reply
     }
 
-    fn may_tell(&mut self) -> Result<(), Withheld> {
-        keep_list(self.alloc, &mut self.keeper, &self.desk)
+    fn may_tell<L: Witness>(&mut self, link: &mut L) -> Result<(), Withheld> {
+        keep_list(self.alloc, &mut self.keeper, &self.desk, link)
     }
 }

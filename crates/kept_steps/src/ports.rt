@@ -122,7 +122,7 @@ fn serve_desks<D: Desk + Send + Sync, R: Threads + Wait + Sync, P: Port + Send>(
     alloc: Global,
     workers: &mut [Worker<D, P>],
 )
-    ensures { AllWork (ServesTold PIECE_LIMIT D.allows D.tells D.withholds) P.told workers.old workers.new }
+    ensures { AllWork (ServesTold PIECE_LIMIT D.allows D.tells D.shows D.withholds) P.told workers.old workers.new }
 {
     serve_all(rt, alloc, &DeskService::<D>::new(PIECE_LIMIT), workers);
 }

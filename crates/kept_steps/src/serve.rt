@@ -1,7 +1,7 @@
 //! Serving ports over one list that is kept in a file.
 ghost use Rattle.std.specs.Prelude.{◌≡◌, true, map, vec_len, IsTrue};
 ghost use Rattle.kept_serve.specs.Ports.{EndsSo};
-ghost use Rattle.kept_entries.specs.declared.receipts.Receipt.{Receipt};
+ghost use Rattle.kept_entries.specs.Receipts.{Receipt};
 ghost use Rattle.kept_steps.specs.KeptPorts.{AreMatched, ServesKeptPorts};
 
 use crate::ports::{KeptBack, KeptDesks, serve_by};

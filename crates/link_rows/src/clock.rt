@@ -3,7 +3,9 @@ use crate::desks::MomentDesk;
 use crate::link_of;
 use http_link::{LinkEnd, serve_desk};
 use osm_base::{BODY_LIMIT, Memory};
-use osm_outside::{Clock, Failed, Link, MemLink, Outside, Sink, Source, Trace};
+use osm_outside::{Clock, Failed, Link, MemLink, Outside, Sink, Source, Trace, Witness};
+use receipts::Receipt;
+use shared_front::{Front, HubName};
 use std::alloc::Global;
 
 /// A link whose clock says how many reads there were.
@@ -47,6 +49,12 @@ impl Clock for CountedLink {
 
     fn fix(&mut self, seconds: u64) {
         self.fixed = Some(seconds);
+    }
+}
+
+impl Witness for CountedLink {
+    fn show<K: HubName>(&mut self, receipts: &Front<K, Receipt>) {
+        self.trace = self.trace.shown(receipts);
     }
 }
 

@@ -5,6 +5,7 @@ ghost use Rattle.osm_base.specs.Status.{IsStatus};
 use http_link::{Desk, Reply, Withheld};
 use http_wire::Message;
 use osm_base::{Bytes, Memory};
+use osm_outside::Witness;
 use std::alloc::Global;
 
 /// The last digit of a number.
@@ -23,11 +24,13 @@ fn digit(alloc: Global, number: u64) -> Result<Reply, Memory>
 pub struct LengthDesk;
 
 impl Desk for LengthDesk {
-    ghost use Rattle.std.specs.Prelude.{⊤};
+    ghost use Rattle.std.specs.Prelude.{⊤, []};
 
     ghost allows = { λ _ _ _ _ _. ⊤ };
 
     ghost tells = { λ _. ⊤ };
+
+    ghost shows = { λ _. [] };
 
     ghost withholds = { λ _ _. ⊥ };
 
@@ -35,7 +38,7 @@ impl Desk for LengthDesk {
         digit(alloc, message.body.as_slice().len() as u64)
     }
 
-    fn may_tell(&mut self) -> Result<(), Withheld> {
+    fn may_tell<L: Witness>(&mut self, _link: &mut L) -> Result<(), Withheld> {
         Ok(())
     }
 }
@@ -45,11 +48,13 @@ impl Desk for LengthDesk {
 pub struct MomentDesk;
 
 impl Desk for MomentDesk {
-    ghost use Rattle.std.specs.Prelude.{⊤};
+    ghost use Rattle.std.specs.Prelude.{⊤, []};
 
     ghost allows = { λ _ _ _ _ _. ⊤ };
 
     ghost tells = { λ _. ⊤ };
+
+    ghost shows = { λ _. [] };
 
     ghost withholds = { λ _ _. ⊥ };
 
@@ -57,7 +62,7 @@ impl Desk for MomentDesk {
         digit(alloc, moment)
     }
 
-    fn may_tell(&mut self) -> Result<(), Withheld> {
+    fn may_tell<L: Witness>(&mut self, _link: &mut L) -> Result<(), Withheld> {
         Ok(())
     }
 }

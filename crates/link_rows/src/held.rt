@@ -3,7 +3,9 @@ use crate::desks::LengthDesk;
 use crate::link_of;
 use http_link::{LinkEnd, serve_desk};
 use osm_base::{BODY_LIMIT, Memory};
-use osm_outside::{Clock, Failed, Link, MemLink, Outside, Sink, Source};
+use osm_outside::{Clock, Failed, Link, MemLink, Outside, Sink, Source, Witness};
+use receipts::Receipt;
+use shared_front::{Front, HubName};
 use std::alloc::Global;
 
 /// A link that gives one request a read, and fails where a read comes before so many bytes of replies were taken.
@@ -49,6 +51,12 @@ impl Clock for HeldLink {
 
     fn fix(&mut self, seconds: u64) {
         self.link.fix(seconds);
+    }
+}
+
+impl Witness for HeldLink {
+    fn show<K: HubName>(&mut self, receipts: &Front<K, Receipt>) {
+        self.link.show(receipts);
     }
 }
 

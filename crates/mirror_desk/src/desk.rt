@@ -9,6 +9,7 @@ use http_link::{AlwaysTells, Desk, Reply, Withheld};
 use http_wire::Message;
 use journal_follower::Follower;
 use osm_base::Memory;
+use osm_outside::Witness;
 use route_table::Routes;
 use std::alloc::Global;
 use std::marker::Model;
@@ -50,12 +51,14 @@ impl<'a> MirrorDesk<'a> {
 }
 
 impl<'a> Desk for MirrorDesk<'a> {
-    ghost use Rattle.std.specs.Prelude.{⊤};
+    ghost use Rattle.std.specs.Prelude.{⊤, []};
     ghost use Rattle.mirror_desk.specs.Desk.{Allows};
 
     ghost allows = { λ old message moment reply new. Allows old message moment reply new };
 
     ghost tells = { λ _. ⊤ };
+
+    ghost shows = { λ _. [] };
 
     ghost withholds = { λ _ _. ⊥ };
 
@@ -70,7 +73,7 @@ impl<'a> Desk for MirrorDesk<'a> {
         )
     }
 
-    fn may_tell(&mut self) -> Result<(), Withheld> {
+    fn may_tell<L: Witness>(&mut self, _link: &mut L) -> Result<(), Withheld> {
         Ok(())
     }
 }

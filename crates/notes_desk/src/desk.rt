@@ -18,7 +18,7 @@ use http_link::{AlwaysTells, Desk, Reply, Withheld};
 use http_wire::Message;
 use notes_core::{NoteEntry, NotesMachine};
 use osm_base::{Bytes, Memory, Steps};
-use osm_outside::{Gate, Point};
+use osm_outside::{Gate, Point, Witness};
 use session_desk::{HasSession, SessionDesk, behind, command_bytes, freshen, query_bytes};
 use shared_front::{Front, HubName};
 use snapshot_hub::{Hub, Session, Shown};
@@ -156,12 +156,14 @@ impl<'a, N: HubName, G: Gate + Drop, R: Wait + Drop, W: Wait> NotesDesk<'a, N, G
 }
 
 impl<'a, N: HubName, G: Gate + Drop, R: Wait + Drop, W: Wait> Desk for NotesDesk<'a, N, G, R, W> {
-    ghost use Rattle.std.specs.Prelude.{⊤};
+    ghost use Rattle.std.specs.Prelude.{⊤, []};
     ghost use Rattle.notes_desk.specs.Desk.{AllowsNotes};
 
     ghost allows = { λ old message moment reply new. AllowsNotes old message moment reply new };
 
     ghost tells = { λ _. ⊤ };
+
+    ghost shows = { λ _. [] };
 
     ghost withholds = { λ _ _. ⊥ };
 
@@ -169,7 +171,7 @@ impl<'a, N: HubName, G: Gate + Drop, R: Wait + Drop, W: Wait> Desk for NotesDesk
         self.answer_on::<Brand>(alloc, &message, moment, Blank::new(1))
     }
 
-    fn may_tell(&mut self) -> Result<(), Withheld> {
+    fn may_tell<L: Witness>(&mut self, _link: &mut L) -> Result<(), Withheld> {
         Ok(())
     }
 }

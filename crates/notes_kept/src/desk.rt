@@ -10,7 +10,7 @@ use kept_entries::{Lines, Receipt};
 use notes_core::{NoteEntry, NotesMachine};
 use notes_desk::{NotesDesk, NotesSession};
 use osm_base::Memory;
-use osm_outside::NoGate;
+use osm_outside::{NoGate, Witness};
 use session_desk::{HasSession, SessionDesk};
 use shared_front::{Front, HubName};
 use snapshot_hub::Shown;
@@ -83,11 +83,13 @@ impl<
 impl<'a, N: HubName, K: HubName, T: Lines<NoteEntry>, V: Device, R: Wait + Drop, W: Wait> Desk
     for NotesKeptDesk<'a, N, K, T, V, R, W> {
     ghost use Rattle.notes_desk.specs.Desk.{note_row};
-    ghost use Rattle.kept_desk.specs.Kept.{AllowsKept, Tells, Withholds};
+    ghost use Rattle.kept_desk.specs.Kept.{AllowsKept, Tells, shows_kept, Withholds};
 
     ghost allows = { λ old message moment reply new. AllowsKept note_row old message moment reply new };
 
     ghost tells = { λ desk. Tells desk };
+
+    ghost shows = { λ desk. shows_kept desk };
 
     ghost withholds = { λ desk why. Withholds desk why };
 
@@ -98,11 +100,18 @@ impl<'a, N: HubName, K: HubName, T: Lines<NoteEntry>, V: Device, R: Wait + Drop,
         reply
     }
 
-    fn may_tell(&mut self) -> Result<(), Withheld> {
-        keep::<N, K, NotesMachine, Shown<N, NotesMachine>, T, V, NotesDesk<'a, N, NoGate, R, W>, W>(
-            &mut self.keeper,
-            &mut self.desk,
-        )
+    fn may_tell<L: Witness>(&mut self, link: &mut L) -> Result<(), Withheld> {
+        keep::<
+            N,
+            K,
+            NotesMachine,
+            Shown<N, NotesMachine>,
+            T,
+            V,
+            NotesDesk<'a, N, NoGate, R, W>,
+            W,
+            L,
+        >(&mut self.keeper, &mut self.desk, link)
     }
 }
 
@@ -161,6 +170,8 @@ impl<
     ghost allowed_kept = { λ old new message moment reply h. h };
 
     ghost tells_kept = { λ it h. h };
+
+    ghost shows_receipts = { λ _. refl };
 
     ghost withholds_kept = { λ it why h. h };
 

@@ -12,7 +12,7 @@ use kept_entries::Receipt;
 use map_machine::MapMachine;
 use osm_base::Memory;
 use osm_model::Entry;
-use osm_outside::NoGate;
+use osm_outside::{NoGate, Witness};
 use session_desk::{HasSession, SessionDesk};
 use shared_front::{Front, HubName};
 use snapshot_hub::Shown;
@@ -76,11 +76,13 @@ impl<'a, N: HubName, K: HubName, V: Device, R: Wait + Drop, W: Wait> MapKeptDesk
 impl<'a, N: HubName, K: HubName, V: Device, R: Wait + Drop, W: Wait> Desk
     for MapKeptDesk<'a, N, K, V, R, W> {
     ghost use Rattle.api_desk.specs.HubDesk.{map_row};
-    ghost use Rattle.kept_desk.specs.Kept.{AllowsKept, Tells, Withholds};
+    ghost use Rattle.kept_desk.specs.Kept.{AllowsKept, Tells, shows_kept, Withholds};
 
     ghost allows = { λ old message moment reply new. AllowsKept map_row old message moment reply new };
 
     ghost tells = { λ desk. Tells desk };
+
+    ghost shows = { λ desk. shows_kept desk };
 
     ghost withholds = { λ desk why. Withholds desk why };
 
@@ -91,7 +93,7 @@ impl<'a, N: HubName, K: HubName, V: Device, R: Wait + Drop, W: Wait> Desk
         reply
     }
 
-    fn may_tell(&mut self) -> Result<(), Withheld> {
+    fn may_tell<L: Witness>(&mut self, link: &mut L) -> Result<(), Withheld> {
         keep::<
             N,
             K,
@@ -101,7 +103,8 @@ impl<'a, N: HubName, K: HubName, V: Device, R: Wait + Drop, W: Wait> Desk
             V,
             HubDesk<'a, N, NoGate, R, W>,
             W,
-        >(&mut self.keeper, &mut self.desk)
+            L,
+        >(&mut self.keeper, &mut self.desk, link)
     }
 }
 
@@ -152,6 +155,8 @@ impl<'a, N: HubName, K: HubName, V: Device, R: Wait + Drop, W: Wait> KeptSession
     ghost allowed_kept = { λ old new message moment reply h. h };
 
     ghost tells_kept = { λ it h. h };
+
+    ghost shows_receipts = { λ _. refl };
 
     ghost withholds_kept = { λ it why h. h };
 

@@ -4,7 +4,9 @@ ghost use Rattle.osm_outside.specs.Told.{AddsWrite, OnlyWrites, Rose};
 ghost use Rattle.osm_outside.specs.Memory.{IsBad, TakesNone, after_taking, called, faulted, sink_told_of, taken_count};
 
 use crate::memory::MemLink;
-use crate::outside::{Clock, Failed, Link, Outside, Sink, Source};
+use crate::outside::{Clock, Failed, Link, Outside, Sink, Source, Witness};
+use receipts::Receipt;
+use shared_front::{Front, HubName};
 use std::marker::Model;
 
 /// A link in memory, one of whose writes takes nothing.
@@ -81,6 +83,12 @@ impl Clock for BadSink {
 
     fn fix(&mut self, seconds: u64) {
         self.link.fix(seconds);
+    }
+}
+
+impl Witness for BadSink {
+    fn show<K: HubName>(&mut self, receipts: &Front<K, Receipt>) {
+        self.link.show(receipts);
     }
 }
 

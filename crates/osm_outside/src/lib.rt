@@ -21,5 +21,7 @@ pub use host_trace::HostTrace;
 pub use lent_links::LinksLent;
 pub use mem_port::MemPort;
 pub use memory::MemLink;
-pub use outside::{Clock, Failed, Host, HostFault, Link, Outside, Port, PortOutside, Sink, Source};
+pub use outside::{
+    Clock, Failed, Host, HostFault, Link, Outside, Port, PortOutside, Sink, Source, Witness,
+};
 pub use trace::Trace;

@@ -1,5 +1,5 @@
 //! The traits of the outside. Each counts its faults, and a call fails only where its count rose.
-//! A link keeps for contracts, in one list, what its calls gave, took and told.
+//! A link keeps for contracts, in one list, what its calls gave, took and told and were shown.
 //!
 //! Counts of faults are numbers of 64 bits that stand still at their end. "Rose" is the word of
 //! every contract: `min (before + 1) (2^64 - 1) ≤ now`.
@@ -11,13 +11,15 @@
 ghost use Rattle.std.specs.Prelude.{◌≡◌, ◌+◌, ◌<◌, ◌≤◌, ◌∷◌, ◌++◌, [], length, map, take, vec_len, IfOk, IfSome, IsErr, OnErr, Some, Err};
 ghost use Rattle.std.specs.Io.KnownBytes.{ReadConsumes};
 ghost use Rattle.osm_base.specs.declared.limits.TheConstants.{USERS_LIMIT};
-ghost use Rattle.osm_outside.specs.Event.{Answered};
+ghost use Rattle.osm_outside.specs.Event.{Answered, Showed};
 ghost use Rattle.osm_outside.specs.Told.{Told, Rose, AddsRead, AddsWrite, OnlyReads, OnlyWrites};
 ghost use Rattle.osm_outside.specs.Lent.{IsOut, hand_out, take_back};
 ghost use Rattle.osm_outside.specs.Port.{PortTold, Accepts};
 ghost use Rattle.osm_outside.specs.Host.{HostTold, OnlyAsked, OnlyPorts};
 
 use osm_base::{Bytes, Memory};
+use receipts::Receipt;
+use shared_front::{Front, HubName};
 use std::alloc::Global;
 
 /// A read or a write failed.
@@ -68,8 +70,17 @@ pub trait Clock: Outside {
         ensures told { Self.told self.new ≡ record (Self.told self.old) { fixed = Some seconds } };
 }
 
+/// What is shown by which receipts a reply is sent. It is told to contracts alone.
+pub trait Witness: Outside {
+    /// Is shown the receipts of that front, all that were given by then as far as it has seen them.
+    fn show<K: HubName>(&mut self, receipts: &Front<K, Receipt>)
+        ensures trace { Self.told self.new ≡ record (Self.told self.old) {
+          trace = (Self.told self.old).trace ++ Showed receipts.now ∷ [];
+        } };
+}
+
 /// A connection to one client.
-pub trait Link: Source + Sink + Clock {}
+pub trait Link: Source + Sink + Clock + Witness {}
 
 /// What a port tells contracts of itself.
 pub trait PortOutside {

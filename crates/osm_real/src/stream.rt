@@ -6,7 +6,9 @@ ghost use Rattle.osm_outside.specs.Told.{AddsRead, AddsWrite, OnlyReads, OnlyWri
 ghost use Rattle.osm_real.specs.Stream.{link_stream, stream_told, unused};
 
 use crate::duplex::{Duplex, Pair};
-use osm_outside::{Clock, Failed, Link, Outside, Sink, Source, Trace};
+use osm_outside::{Clock, Failed, Link, Outside, Sink, Source, Trace, Witness};
+use receipts::Receipt;
+use shared_front::{Front, HubName};
 use std::io::{Read, Write};
 use std::time::{SystemTime, UNIX_EPOCH};
 
@@ -139,6 +141,12 @@ fn seconds_since_1970(clock: &impl std::rt::Clock) -> u64 {
     match time.duration_since(UNIX_EPOCH) {
         Ok(since) => since.as_secs(),
         Err(_) => 0,
+    }
+}
+
+impl<S: Duplex, C> Witness for StreamLink<S, C> {
+    fn show<K: HubName>(&mut self, receipts: &Front<K, Receipt>) {
+        self.trace = self.trace.shown(receipts);
     }
 }
 

@@ -4,7 +4,7 @@ use Rattle.std.specs.Prelude.{IfSome}
 use Rattle.std.specs.List.{AllByRecursion, concat}
 use Rattle.std.specs.Io.KnownBytes.{Consumes}
 use Rattle.std.proofs.lemmas.List.{length-map}
-use Rattle.osm_outside.specs.Event.{Event, Gave, Took, Answered, given, answered}
+use Rattle.osm_outside.specs.Event.{Event, Shown, Gave, Took, Answered, Showed, given, answered}
 use Rattle.osm_outside.specs.Told.{Told}
 use Rattle.http_wire.specs.declared.message.Message.{Message}
 use Rattle.http_wire.specs.declared.end.WireEnd.{WireEnd}
@@ -16,7 +16,7 @@ use Rattle.http_link.specs.declared.end.LinkEnd.{LinkEnd}
 use Rattle.http_link.specs.declared.end.LinkEnd.TheVariants.{Memory}
 use Rattle.http_link.specs.Input.{IsByInput, EndsByInput}
 use Rattle.http_link.specs.Exchange.{Exchange, moments_of}
-use Rattle.http_link.specs.Turns.{Turn, Ending, no_ending, events_of, events_of_turn, exchanges_of, bytes_of}
+use Rattle.http_link.specs.Turns.{Turn, Ending, no_ending, events_of, events_of_turn, sending, exchanges_of, bytes_of}
 use Rattle.http_link.specs.Link.{Serves, ServesTold}
 use Rattle.server_frame.specs.OnLink.{AnswersLinkWithin, AnswersLinkToldWithin, OnLinkWithin}
 
@@ -28,12 +28,14 @@ given-append (Gave bytes ∷ xs) ys =
     ap (λ l. bytes ++ l) (given-append xs ys) ∙ sym (append_assoc bytes (given xs) (given ys))
 given-append (Took bytes ∷ xs) ys = given-append xs ys
 given-append (Answered moment ∷ xs) ys = given-append xs ys
+given-append (Showed front ∷ xs) ys = given-append xs ys
 
 answered-append : (xs ys : List Event) → answered (xs ++ ys) ≡ answered xs ++ answered ys
 answered-append [] ys = refl
 answered-append (Gave bytes ∷ xs) ys = answered-append xs ys
 answered-append (Took bytes ∷ xs) ys = answered-append xs ys
 answered-append (Answered moment ∷ xs) ys = ap (λ l. moment ∷ l) (answered-append xs ys)
+answered-append (Showed front ∷ xs) ys = answered-append xs ys
 
 given-reads : (reads : List (List ℕ)) → given (map Gave reads) ≡ concat reads
 given-reads [] = refl
@@ -51,6 +53,14 @@ answered-writes : (writes : List (List ℕ)) → answered (map Took writes) ≡ 
 answered-writes [] = refl
 answered-writes (w ∷ writes) = answered-writes writes
 
+given-sent : (shown : List Shown) (writes : List (List ℕ)) → given (sending shown writes) ≡ []
+given-sent [] writes = given-writes writes
+given-sent (s ∷ shown) writes = given-sent shown writes
+
+answered-sent : (shown : List Shown) (writes : List (List ℕ)) → answered (sending shown writes) ≡ []
+answered-sent [] writes = answered-writes writes
+answered-sent (s ∷ shown) writes = answered-sent shown writes
+
 given-parts : (reads writes : List (List ℕ)) → given (map Gave reads ++ map Took writes) ≡ concat reads
 given-parts reads writes =
     given-append (map Gave reads) (map Took writes)
@@ -62,13 +72,13 @@ answered-parts reads writes =
 
 given-turn : (turn : Turn) → given (events_of_turn turn) ≡ concat turn.reads
 given-turn turn =
-    given-append (map Gave turn.reads) (Answered turn.exchange.moment ∷ map Took turn.writes)
-    ∙ (λ i. given-reads turn.reads i ++ given-writes turn.writes i) ∙ append-nil (concat turn.reads)
+    given-append (map Gave turn.reads) (Answered turn.exchange.moment ∷ sending turn.exchange.shown turn.writes)
+    ∙ (λ i. given-reads turn.reads i ++ given-sent turn.exchange.shown turn.writes i) ∙ append-nil (concat turn.reads)
 
 answered-turn : (turn : Turn) → answered (events_of_turn turn) ≡ turn.exchange.moment ∷ []
 answered-turn turn =
-    answered-append (map Gave turn.reads) (Answered turn.exchange.moment ∷ map Took turn.writes)
-    ∙ (λ i. answered-reads turn.reads i ++ (turn.exchange.moment ∷ answered-writes turn.writes i))
+    answered-append (map Gave turn.reads) (Answered turn.exchange.moment ∷ sending turn.exchange.shown turn.writes)
+    ∙ (λ i. answered-reads turn.reads i ++ (turn.exchange.moment ∷ answered-sent turn.exchange.shown turn.writes i))
 
 given-turns : (turns : List Turn) (ending : Ending) → given (events_of turns ending) ≡ bytes_of turns ending
 given-turns [] ending = given-parts ending.reads ending.writes
@@ -120,9 +130,9 @@ module _ (body_limit : ℕ) where
     answered = s.served.answered;
   }
 
-  pub answers_told : {D : Type 0} (allows : D → Message → ℕ → Reply → D → Type 0) (tells : D → Type 0) (withholds : D → Withheld → Type 0) (old new : D) (before after : Told) (end : LinkEnd)
-      → ServesTold body_limit allows tells withholds old new before after end → AnswersLinkToldWithin body_limit allows tells withholds old new before after end
-  answers_told allows tells withholds old new before after end s = record {
+  pub answers_told : {D : Type 0} (allows : D → Message → ℕ → Reply → D → Type 0) (tells : D → Type 0) (shows : D → List Shown) (withholds : D → Withheld → Type 0) (old new : D) (before after : Told) (end : LinkEnd)
+      → ServesTold body_limit allows tells shows withholds old new before after end → AnswersLinkToldWithin body_limit allows tells shows withholds old new before after end
+  answers_told allows tells shows withholds old new before after end s = record {
     answers = record {
       exchanges = exchanges_of s.serves.turns;
       link = on_link allows old new before after end s.serves;

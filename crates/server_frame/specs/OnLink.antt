@@ -3,7 +3,7 @@ use Rattle.std.specs.Prelude.{◌≡◌, ℕ, ◌+◌, ◌≤◌, List, [], ◌+
 use Rattle.std.specs.List.{AllByRecursion}
 use Rattle.std.specs.Io.KnownBytes.{Consumes}
 use Rattle.osm_base.specs.declared.limits.TheConstants.{BODY_LIMIT, REQUEST_LIMIT}
-use Rattle.osm_outside.specs.Event.{given, answered}
+use Rattle.osm_outside.specs.Event.{Shown, given, answered}
 use Rattle.osm_outside.specs.Told.{Told}
 use Rattle.http_wire.specs.declared.message.Message.{Message}
 use Rattle.http_wire.specs.Message.{HasMessages}
@@ -19,8 +19,8 @@ use Rattle.http_link.specs.Link.{LinkEnds, AreTold, rest_limit}
 module _ (body_limit : ℕ) where
   -- What happened on the link until that end, for these messages with their moments and replies, at most 1,000.
   pub record OnLinkWithin (before after : Told) (exchanges : List Exchange) (end : LinkEnd) : Type 0 where
-    -- one turn for each message, in order: what was read of it, its moment, and what was written of its reply; then what an
-    -- end was read of, and what was written of its answer. Nothing else happened
+    -- one turn for each message, in order: what was read of it, its moment, which receipts were shown, and what was written of its reply; then
+    -- what an end was read of, and what was written of its answer. Nothing else happened
     pub turns : List Turn
     pub ending : Ending
     pub trace : after.trace ≡ before.trace ++ events_of turns ending
@@ -61,11 +61,11 @@ module _ (body_limit : ℕ) where
     pub link : OnLinkWithin before after exchanges end
     pub answered : Chain allows old exchanges new
 
-  -- The same, and the desk let each reply be sent before it was, or had a cause to withhold the last one.
-  pub record AnswersLinkToldWithin {D : Type 0} (allows : D → Message → ℕ → Reply → D → Type 0) (tells : D → Type 0) (withholds : D → Withheld → Type 0)
+  -- The same, and the desk let each reply be sent and showed what it shows before it was, or had a cause to withhold the last one.
+  pub record AnswersLinkToldWithin {D : Type 0} (allows : D → Message → ℕ → Reply → D → Type 0) (tells : D → Type 0) (shows : D → List Shown) (withholds : D → Withheld → Type 0)
       (old new : D) (before after : Told) (end : LinkEnd) : Type 0 where
     pub answers : AnswersLinkWithin allows old new before after end
-    pub told : AreTold allows tells withholds old answers.exchanges new end
+    pub told : AreTold allows tells shows withholds old answers.exchanges new end
 
 -- The same, where a body has no more bytes than a server reads.
 abbrev pub OnLink : Told → Told → List Exchange → LinkEnd → Type 0
@@ -74,5 +74,5 @@ OnLink = OnLinkWithin BODY_LIMIT
 abbrev pub AnswersLink : {D : Type 0} → (D → Message → ℕ → Reply → D → Type 0) → D → D → Told → Told → LinkEnd → Type 0
 AnswersLink = AnswersLinkWithin BODY_LIMIT
 
-abbrev pub AnswersLinkTold : {D : Type 0} → (D → Message → ℕ → Reply → D → Type 0) → (D → Type 0) → (D → Withheld → Type 0) → D → D → Told → Told → LinkEnd → Type 0
+abbrev pub AnswersLinkTold : {D : Type 0} → (D → Message → ℕ → Reply → D → Type 0) → (D → Type 0) → (D → List Shown) → (D → Withheld → Type 0) → D → D → Told → Told → LinkEnd → Type 0
 AnswersLinkTold = AnswersLinkToldWithin BODY_LIMIT

@@ -18,7 +18,7 @@ pub fn answer_link_within<D: Desk, L: Link>(
     body_limit: usize,
 ) -> LinkEnd
     ensures answers { AnswersLinkWithin body_limit D.allows desk.old desk.new (L.told link.old) (L.told link.new) result }
-    ensures told { AnswersLinkToldWithin body_limit D.allows D.tells D.withholds desk.old desk.new (L.told link.old) (L.told link.new) result }
+    ensures told { AnswersLinkToldWithin body_limit D.allows D.tells D.shows D.withholds desk.old desk.new (L.told link.old) (L.told link.new) result }
 {
     serve_desk(alloc, desk, link, body_limit)
 }
@@ -26,7 +26,7 @@ pub fn answer_link_within<D: Desk, L: Link>(
 /// The same by a server's limit on bodies.
 pub fn answer_link<D: Desk, L: Link>(alloc: Global, desk: &mut D, link: &mut L) -> LinkEnd
     ensures answers { AnswersLink D.allows desk.old desk.new (L.told link.old) (L.told link.new) result }
-    ensures told { AnswersLinkTold D.allows D.tells D.withholds desk.old desk.new (L.told link.old) (L.told link.new) result }
+    ensures told { AnswersLinkTold D.allows D.tells D.shows D.withholds desk.old desk.new (L.told link.old) (L.told link.new) result }
 {
     answer_link_within(alloc, desk, link, BODY_LIMIT)
 }

@@ -8,6 +8,7 @@ use crate::stepped::Stepped;
 use http_link::{AlwaysTells, Desk, Reply, Withheld};
 use http_wire::Message;
 use osm_base::Memory;
+use osm_outside::Witness;
 use shared_front::{Front, HubName};
 use std::alloc::Global;
 use std::marker::Model;
@@ -79,12 +80,14 @@ impl<'a, N: HubName, S: Stepped + Drop, R: Wait> FrontDesk<N, S> for StepDesk<'a
 }
 
 impl<'a, N: HubName, S: Stepped + Drop, R: Wait> Desk for StepDesk<'a, N, S, R> {
-    ghost use Rattle.std.specs.Prelude.{⊤};
+    ghost use Rattle.std.specs.Prelude.{⊤, []};
     ghost use Rattle.step_hub.specs.Steps.{Allows};
 
     ghost allows = { λ old message moment reply new. Allows S.steps old message moment reply new };
 
     ghost tells = { λ _. ⊤ };
+
+    ghost shows = { λ _. [] };
 
     ghost withholds = { λ _ _. ⊥ };
 
@@ -100,7 +103,7 @@ impl<'a, N: HubName, S: Stepped + Drop, R: Wait> Desk for StepDesk<'a, N, S, R> 
         )
     }
 
-    fn may_tell(&mut self) -> Result<(), Withheld> {
+    fn may_tell<L: Witness>(&mut self, _link: &mut L) -> Result<(), Withheld> {
         Ok(())
     }
 }

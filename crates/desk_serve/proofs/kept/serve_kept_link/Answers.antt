@@ -1,4 +1,4 @@
-use Rattle.kept_desk.specs.Kept.{Tells, Withholds, AllowsKept}
+use Rattle.kept_desk.specs.Kept.{Tells, shows_kept, Withholds, AllowsKept}
 use Rattle.desk_serve.proofs.Keeping.{keeps_link, unkept_start, answers_seen, sound_at}
 use Rattle.desk_serve.proofs.Sound.{sound_of}
 use Rattle.desk_serve.proofs.kept.serve_kept_link.Goals as goal
@@ -18,7 +18,8 @@ returns-in-Ok g c =
     keeps_link rules row (kept c.args.desk.now) (kept fresh) (kept new) before after end
     c.told_chain.ensures c.kept_is_served.ensures.served c.kept_is_served.ensures.same
     c.in-Ok.ensures.users c.in-Ok.ensures.ok c.in-Ok.ensures.receipts c.in-Ok.ensures.failed
-    (answers_seen kept g.Q.Desk.allows g.Q.Desk.tells g.Q.Desk.withholds (AllowsKept row) Tells Withholds laws.allowed_kept laws.tells_kept laws.withholds_kept
+    (answers_seen kept g.Q.Desk.allows g.Q.Desk.tells g.Q.Desk.shows g.Q.Desk.withholds (AllowsKept row) Tells shows_kept Withholds
+    (λ old new e. laws.allowed_kept old new e.message e.moment e.answer) laws.tells_kept laws.shows_receipts laws.withholds_kept
     fresh new before after end c.answer_link-end.ensures.told)
     (sound_at rules (keeps new) (kept new).desk (laws.same_session new)
     (sound_of rules c.points_are_consistent.ensures (keeps new).known.front c.law.ensures))

@@ -18,7 +18,7 @@ returns-in-Ok-Err-clause-turn g c =
     let reads = c.in-Ok.ensures.reads in
     inl (
       c.in-Ok-Err.field-0,
-      Step-from_parts c.args.wire.now.body_limit (Telling g.D.Desk.allows g.D.Desk.tells) _ _ _ _ _ _ _ c.args.count c.in-Ok.message c.in-Ok-Err.field-0 reads
+      Step-from_parts c.args.wire.now.body_limit (Telling g.D.Desk.allows g.D.Desk.tells g.D.Desk.shows) _ _ _ _ _ _ _ c.args.count c.in-Ok.message c.in-Ok-Err.field-0 reads
           (rw c.in-Ok-Err.is at c.answer_message.ensures.replies),
       rw c.in-Ok-Err.field-0-is refl,
       λ fails. omega (arith, (rw c.in-Ok-Err.is at c.answer_message.ensures.failed) fails, reads.taken.others.write_faults),
@@ -29,7 +29,7 @@ returns-then-close-clause-turn g c =
     let reads = c.in-Ok.ensures.reads in
     inl (
       c.in-Ok-Ok.field-0,
-      Step-from_parts c.args.wire.now.body_limit (Telling g.D.Desk.allows g.D.Desk.tells) _ _ _ _ _ _ _ c.args.count c.in-Ok.message c.in-Ok-Ok.field-0 reads
+      Step-from_parts c.args.wire.now.body_limit (Telling g.D.Desk.allows g.D.Desk.tells g.D.Desk.shows) _ _ _ _ _ _ _ c.args.count c.in-Ok.message c.in-Ok-Ok.field-0 reads
           (rw c.in-Ok-Ok.is at c.answer_message.ensures.replies),
       rw (c.in-Ok-Ok.field-0-is, c.if-close.true) refl,
       λ fails. omega (arith, (rw c.in-Ok-Ok.is at c.answer_message.ensures.failed) fails, reads.taken.others.write_faults),
@@ -40,7 +40,7 @@ returns-else-close-clause-turn g c =
     let reads = c.in-Ok.ensures.reads in
     inl (
       c.in-Ok-Ok.field-0,
-      Step-from_parts c.args.wire.now.body_limit (Telling g.D.Desk.allows g.D.Desk.tells) _ _ _ _ _ _ _ c.args.count c.in-Ok.message c.in-Ok-Ok.field-0 reads
+      Step-from_parts c.args.wire.now.body_limit (Telling g.D.Desk.allows g.D.Desk.tells g.D.Desk.shows) _ _ _ _ _ _ _ c.args.count c.in-Ok.message c.in-Ok-Ok.field-0 reads
           (rw c.in-Ok-Ok.is at c.answer_message.ensures.replies),
       rw (c.in-Ok-Ok.field-0-is, c.if-close.false) refl,
       λ fails. omega (arith, (rw c.in-Ok-Ok.is at c.answer_message.ensures.failed) fails, reads.taken.others.write_faults),

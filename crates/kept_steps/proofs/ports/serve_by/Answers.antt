@@ -8,7 +8,7 @@ use Rattle.http_link.specs.Link.{ServesTold}
 use Rattle.link_workers.specs.Seats.{sessions_of}
 use Rattle.link_workers.specs.Workers.{Works, AllWork}
 use Rattle.desk_serve.proofs.Working.{sessions_back, ports_back}
-use Rattle.kept_steps.specs.Kept.{Tells, Withholds, AllowsKept}
+use Rattle.kept_steps.specs.Kept.{Tells, shows_kept, Withholds, AllowsKept}
 use Rattle.kept_steps.proofs.Working.{have_kept}
 use Rattle.kept_steps.proofs.ports.serve_by.Goals as goal
 
@@ -20,7 +20,7 @@ returns-clause-served g c =
     let list = c.longest-list.result in
     let new = c.serve_desks.new.workers in
     let stopped = c.unseat_all.new.sessions.items in
-    let long : length new ≡ length c.as_mut_slice.result.now = AllZip-long (Works (ServesTold PIECE_LIMIT (AllowsKept steps) Tells Withholds) told) _ _ c.serve_desks.ensures in
+    let long : length new ≡ length c.as_mut_slice.result.now = AllZip-long (Works (ServesTold PIECE_LIMIT (AllowsKept steps) Tells shows_kept Withholds) told) _ _ c.serve_desks.ensures in
     let same : length c.as_mut_slice.result.now ≡ length c.in_ok-workers.workers.items = ap (λ l. length l) c.as_mut_slice.ensures.value in
     let count : length new ≡ c.in_ok-workers.workers.len = omega (arith, long, same, c.in_ok-workers.workers.ok) in
     let desks : stopped ≡ sessions_of new =
@@ -33,7 +33,7 @@ returns-clause-served g c =
       subst (λ l. length list ≡ length maker.first.now + sum_by (λ it. it.desk.grown) l) c.as_slice-5.ensures.value c.await_growth.ensures,
       have_kept steps maker.setting.now maker.first.now told maker.had.now c.args.ports.now.items c.unseat_all.new.ports.items c.in_ok-desks.desks.items stopped new
           c.len-count.result c.any_failed-failed.result c.in_ok-desks.ensures (omega (arith, c.len-count.ensures, c.args.ports.now.ok))
-          (subst (λ l. AllWork (ServesTold PIECE_LIMIT (AllowsKept steps) Tells Withholds) told l new) (c.as_mut_slice.ensures.value ∙ c.in_ok-workers.ensures.workers) c.serve_desks.ensures)
+          (subst (λ l. AllWork (ServesTold PIECE_LIMIT (AllowsKept steps) Tells shows_kept Withholds) told l new) (c.as_mut_slice.ensures.value ∙ c.in_ok-workers.ensures.workers) c.serve_desks.ensures)
           desks (ports_back _ _ _ new c.unseat_all.ensures.ports c.in_ok-workers.ensures.emptied.1 (take_at new _ _ count))
           (c.any_failed-failed.ensures ∙ ap (λ l. list_any (λ w. w.failed) l) (c.as_slice.ensures.value ∙ take_at new _ _ count)),
     )

@@ -2,7 +2,7 @@ use Rattle.std.proofs.Common.{◌≡◌, ◌+◌, ◌<◌, List, length, map, sy
 use mathlib.Core.List.{IsPrefix}
 use Rattle.std.specs.List.{sum_by}
 use Rattle.kept_entries.specs.Receipts.{AreKept}
-use Rattle.kept_entries.specs.declared.receipts.Receipt.{Receipt}
+use Rattle.kept_entries.specs.Receipts.{Receipt}
 use Rattle.kept_steps.specs.KeptPorts.{HaveKept, AreMatched}
 use Rattle.kept_steps.proofs.Working.{ports_kept}
 use Rattle.kept_steps.proofs.serve.serve_kept_ports.Goals as goal

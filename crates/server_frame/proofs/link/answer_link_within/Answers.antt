@@ -8,5 +8,5 @@ returns-clause-answers g c =
 
 pub returns-clause-told : goal.returns-clause-told
 returns-clause-told g c =
-    answers_told c.args.body_limit g.D.Desk.allows g.D.Desk.tells g.D.Desk.withholds c.args.desk.now c.serve_desk.new.desk (g.L.Outside.told c.args.link.now) (g.L.Outside.told c.serve_desk.new.link)
+    answers_told c.args.body_limit g.D.Desk.allows g.D.Desk.tells g.D.Desk.shows g.D.Desk.withholds c.args.desk.now c.serve_desk.new.desk (g.L.Outside.told c.args.link.now) (g.L.Outside.told c.serve_desk.new.link)
     c.serve_desk.result c.serve_desk.ensures.told

@@ -21,11 +21,11 @@ use denote.Triple.Spec.{Meets, triple_of}
 use denote.Triple.Table.{entered}
 use denote.Triple.Walked.{says, Stays, walk_of, Walks, ends_at, walked, walk_Meets}
 use Rattle.std.proofs.Common.{ℕ}
-use Rattle.kept_entries.specs.contracts.moment.Moment.of.Key.{name as key}
-use Rattle.kept_entries.specs.contracts.moment.Moment.of as f
-use Rattle.kept_entries.proofs.moment.Moment.of.Statement as stated
-use Rattle.kept_entries.proofs.moment.Moment.of.Code as code
-use Rattle.kept_entries.specs.contracts.moment.Moment as made
+use Rattle.receipts.specs.contracts.moment.Moment.of.Key.{name as key}
+use Rattle.receipts.specs.contracts.moment.Moment.of as f
+use Rattle.receipts.proofs.moment.Moment.of.Statement as stated
+use Rattle.receipts.proofs.moment.Moment.of.Code as code
+use Rattle.receipts.specs.contracts.moment.Moment as made
 
 abbrev stayed : Stays (f.ended).signature.params (f.ended).kept
 stayed = tt

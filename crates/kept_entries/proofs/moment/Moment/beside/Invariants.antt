@@ -1,4 +1,0 @@
-use Rattle.kept_entries.proofs.moment.Moment.beside.Given as goal
-
-abbrev pub ghost-of : goal.ghost-of
-ghost-of g a = g.at
