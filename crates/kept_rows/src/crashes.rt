@@ -1,46 +1,28 @@
-//! A crash at each call of a script, in drawn outcomes, recovery, and recovery that crashes.
+//! A crash at each call of a script, in drawn outcomes, the start behind it, and one that crashes itself.
 use crate::drawn::left_by;
 use crate::roomy::RoomyFile;
+use crate::starts::{found_in, recovers_after};
 use crate::texts::{FIRST, HEADER, SECOND, THIRD, joined};
-use journal_file::{AppendFault, Device, JournalFile, MemFile, OpenFault, kept_text};
+use journal_file::{AppendFault, Device, JournalFile, MemFile, kept_text};
 use osm_base::Memory;
 use row_tally::Tally;
 use std::alloc::Global;
+use std::thread::Threads;
 
 /// How many outcomes are drawn for each crash.
 const SEEDS: u64 = 40;
 
-/// Whether opening what a crash left finds this text, where so many calls are done and then it crashes
-/// itself.
-fn recovers_after(
+/// Whether a start from what a crash left finds this text, also where it crashes itself after each of
+/// its calls.
+fn recovers<R: Threads + Sync>(
+    rt: &R,
     alloc: Global,
     file: &[u8],
-    whole: &[u8],
-    left: u64,
+    text: &[u8],
     seed: u64,
 ) -> Result<bool, Memory> {
-    let device = MemFile::new(alloc, file.to_vec(alloc)?, left);
-    match JournalFile::open(device, file, HEADER) {
-        Ok(open) => {
-            let again = left_by(alloc, file, open.device().deeds(), seed)?;
-            Ok(
-                kept_text(open.device().bytes()) == whole
-                    && open.len() == whole.len()
-                    && kept_text(&again) == whole,
-            )
-        }
-        Err((why, device)) => {
-            let again = left_by(alloc, file, device.deeds(), seed)?;
-            Ok(why == OpenFault::Failed && kept_text(&again) == whole)
-        }
-    }
-}
-
-/// Whether opening what a crash left finds its text, also where it crashes itself after each of its calls.
-fn recovers(alloc: Global, file: &[u8], seed: u64) -> Result<bool, Memory> {
-    let whole = kept_text(file).to_vec(alloc)?;
     for left in 0..6_u64 {
-        if !recovers_after(alloc, file, &whole, left, seed)? {
+        if !recovers_after(rt, alloc, file, text, left, seed)? {
             return Ok(false);
         }
     }
@@ -95,14 +77,25 @@ impl Script {
     }
 }
 
-/// Whether what a crash left has the lines that were acknowledged, and of the next ones all or none, and is recovered.
-fn stands(alloc: Global, crashed: &[u8], script: &Script, seed: u64) -> Result<bool, Memory> {
-    let is_known = script.has(kept_text(crashed));
-    Ok(is_known && recovers(alloc, crashed, seed.wrapping_add(1))?)
+/// Whether a start takes up what a crash left, finds the lines that were acknowledged and of the next
+/// ones all or none, and finds the same where it crashes itself.
+fn stands<R: Threads + Sync>(
+    rt: &R,
+    alloc: Global,
+    crashed: &[u8],
+    script: &Script,
+    seed: u64,
+) -> Result<bool, Memory> {
+    let Some(found) = found_in(rt, alloc, crashed)? else {
+        return Ok(false);
+    };
+    let is_known = script.has(&found) && kept_text(crashed) == found.as_slice();
+    Ok(is_known && recovers(rt, alloc, crashed, &found, seed.wrapping_add(1))?)
 }
 
 /// Adds the lines of the script to a file, and has it crash.
-fn crash<const ROOM: usize>(
+fn crash<R: Threads + Sync, const ROOM: usize>(
+    rt: &R,
     alloc: Global,
     first: &[u8],
     file: &mut JournalFile<RoomyFile<ROOM>>,
@@ -113,23 +106,32 @@ fn crash<const ROOM: usize>(
         return Ok(false);
     }
     let crashed = left_by(alloc, first, file.device().file().deeds(), seed)?;
-    stands(alloc, &crashed, &script, seed)
+    stands(rt, alloc, &crashed, &script, seed)
 }
 
 /// The lines of the script are added to a file in memory that fails from a call on: what a crash may
 /// leave then has the lines that were acknowledged, and of the next ones all or none.
-fn script_crashes<const ROOM: usize>(alloc: Global, left: u64, seed: u64) -> Result<bool, Memory> {
+fn script_crashes<R: Threads + Sync, const ROOM: usize>(
+    rt: &R,
+    alloc: Global,
+    left: u64,
+    seed: u64,
+) -> Result<bool, Memory> {
     let first = joined(alloc, &[HEADER, b"#"])?;
     match fresh::<ROOM>(alloc, &first, left)? {
-        Some(mut file) => crash(alloc, &first, &mut file, seed),
+        Some(mut file) => crash(rt, alloc, &first, &mut file, seed),
         None => Ok(false),
     }
 }
 
 /// A crash behind so many calls of the script, in each outcome that is drawn.
-fn crashes_after<const ROOM: usize>(alloc: Global, left: u64) -> Result<bool, Memory> {
+fn crashes_after<R: Threads + Sync, const ROOM: usize>(
+    rt: &R,
+    alloc: Global,
+    left: u64,
+) -> Result<bool, Memory> {
     for seed in 0..SEEDS {
-        if !script_crashes::<ROOM>(alloc, left, seed.wrapping_mul(1_000_003))? {
+        if !script_crashes::<R, ROOM>(rt, alloc, left, seed.wrapping_mul(1_000_003))? {
             return Ok(false);
         }
     }
@@ -137,7 +139,7 @@ fn crashes_after<const ROOM: usize>(alloc: Global, left: u64) -> Result<bool, Me
 }
 
 /// Notes the row of a crash behind so many calls.
-fn note_crash<R: Print, const ROOM: usize>(
+fn note_crash<R: Threads + Sync + Print, const ROOM: usize>(
     rt: &R,
     alloc: Global,
     tally: &mut Tally,
@@ -146,12 +148,17 @@ fn note_crash<R: Print, const ROOM: usize>(
     let name = format!(in alloc;
         "a crash behind {left} calls of the script, by {ROOM} bytes of room"
     )?;
-    tally.note(rt, name.as_str(), crashes_after::<ROOM>(alloc, left));
+    tally.note(rt, name.as_str(), crashes_after::<R, ROOM>(rt, alloc, left));
     Ok(())
 }
 
 /// Notes a row for each of so many calls.
-fn note_crashes<R: Print, const ROOM: usize>(rt: &R, alloc: Global, tally: &mut Tally, calls: u64) {
+fn note_crashes<R: Threads + Sync + Print, const ROOM: usize>(
+    rt: &R,
+    alloc: Global,
+    tally: &mut Tally,
+    calls: u64,
+) {
     for left in 0..calls {
         if note_crash::<R, ROOM>(rt, alloc, tally, left).is_err() {
             tally.note(rt, "a crash of the script", Err(Memory));
@@ -161,7 +168,7 @@ fn note_crashes<R: Print, const ROOM: usize>(rt: &R, alloc: Global, tally: &mut 
 
 /// The script has fifteen calls: five for each of its three appends. Where room is laid by sixteen bytes
 /// at a time, the first two have two more.
-pub fn play<R: Print>(rt: &R, alloc: Global, tally: &mut Tally) {
+pub fn play<R: Threads + Sync + Print>(rt: &R, alloc: Global, tally: &mut Tally) {
     note_crashes::<R, 0>(rt, alloc, tally, 16);
     note_crashes::<R, 16>(rt, alloc, tally, 20);
 }

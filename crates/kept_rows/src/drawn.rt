@@ -10,9 +10,11 @@ fn drawn(seed: u64) -> u64 {
     x ^ (x >> 31)
 }
 
-/// A byte that a torn write may leave where this one was to be.
-fn torn_byte(old: Option<u8>, new: u8, draw: u64) -> u8 {
-    match draw % 8 {
+/// A byte that a torn write may leave where this one was to be. One that was written alone over another
+/// is trusted to be the old one or the new one: it is how a gate is opened.
+fn torn_byte(old: Option<u8>, new: u8, is_alone: bool, draw: u64) -> u8 {
+    let choices = if is_alone && old.is_some() { 4 } else { 8 };
+    match draw % choices {
         0 | 1 => old.unwrap_or(0),
         2 | 3 => new,
         4 => b'{',
@@ -36,12 +38,13 @@ fn torn(
     let len = old
         .len()
         .saturating_add((drawn(seed) % more.saturating_add(1)) as usize);
+    let is_alone = bytes.len() == 1;
     let mut left = Vec::new(alloc);
     for i in 0..len {
         let was = old.get(i).copied();
         let draw = drawn(seed.wrapping_add(i as u64).wrapping_mul(7));
         let byte = match bytes.get(i.saturating_sub(at)).copied() {
-            Some(new) if i >= at => torn_byte(was, new, draw),
+            Some(new) if i >= at => torn_byte(was, new, is_alone, draw),
             _ => was.unwrap_or((draw % 256) as u8),
         };
         left.push(byte)?;
@@ -74,7 +77,8 @@ fn settled(deeds: &[Deed]) -> usize {
     last
 }
 
-/// What a crash may leave after these calls: what was synced, and of the rest anything.
+/// What a crash may leave after these calls: what was synced, and of the rest anything, but for a byte
+/// that was written alone over another.
 pub fn left_by(
     alloc: Global,
     first: &[u8],

@@ -8,7 +8,9 @@ mod drawn;
 mod marks;
 mod memory;
 mod roomy;
+mod script;
 mod shelves;
+mod starts;
 mod texts;
 
 use row_tally::Tally;
