@@ -31,7 +31,7 @@ WORKERS = 64
 SILENT = 4  # links that say nothing
 LIMIT = 10  # seconds that a stop may take
 UNKEPT = 9  # the status where a journal can't be kept
-LIMITED = 'ulimit -f 1; trap "" XFSZ; exec "$0" "$@"'
+LIMITED = 'ulimit -f 600; trap "" XFSZ; exec "$0" "$@"'  # blocks of 512 bytes: room is laid by once, and not again
 
 
 class Client(threading.Thread):
@@ -135,8 +135,11 @@ def try_full(words: list[str], wait: float) -> list[str]:
             client = Client(program.port, 1)
             client.run()
             status, taken = program.status(LIMIT)
+        kept = entries_of(program.journal)
         print(f"{client.answered} changesets until the journal was full; it stopped in {taken:.2f} seconds")
     wrong = [client.wrong] if client.wrong else []
+    if not 0 < client.answered <= kept <= client.answered + 1:
+        wrong.append(f"{client.answered} creations were answered, and the full journal has {kept}")
     return wrong if status == UNKEPT else [*wrong, f"on a full journal the status is {status}, not {UNKEPT}"]
 
 
