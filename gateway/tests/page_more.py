@@ -163,7 +163,7 @@ def addresses(page: Page, gateway: Gateway, way: int) -> None:
         ("/changeset/999999", "#changeset", ("no changeset",)), ("/note/999999", "#note", ("no note",)), ("/user/nobody", "#changesets", ("no user",)),
     ):  # fmt: skip
         came = gateway.ask("GET", path)
-        want((came.status, came.fields["Content-Type"]), (200, "text/html"), path)
+        want((came.status, came.fields["Content-Type"]), (200, "text/html; charset=utf-8"), path)
         visit(page, path)
         page.until(f"{path} with {texts}", lambda: all(text in page.text(part) for text in texts))
         if "99" not in path and "/user" not in path:
