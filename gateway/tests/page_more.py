@@ -217,6 +217,7 @@ def past(page: Page, gateway: Gateway, way: int) -> None:
         page.until("the map of then", lambda: page.data("at") == str(moment))
 
     go(first)
+    page.until("the version of then", lambda: page.one("#element").get_attribute("data-version") == "1")
     want(
         (page.one("#element").get_attribute("data-version"), "Neue Gasse" in page.text("#element table")),
         ("1", False),
