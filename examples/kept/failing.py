@@ -44,7 +44,7 @@ from editors import Editor, Todo  # noqa: E402
 from kill import END_WAIT, HEADER, PROGRAM, REFUSED, UNKEPT, Run, parted, read  # noqa: E402
 from notes import HEADER as NOTES_HEADER  # noqa: E402
 from notes import Writer  # noqa: E402
-from serving import Link, Lost, Server  # noqa: E402
+from serving import Link, Lost, Server, tell_faults  # noqa: E402
 from traced import own_port, users  # noqa: E402
 
 UNOPENED = 3  # the status where the file couldn't be opened or made
@@ -446,10 +446,7 @@ def main() -> int:
     with tempfile.TemporaryDirectory() as folder:
         trial = Trial(it, Made(it.program, folder))
         tried(trial, it.parts.split(","))
-    for fault in trial.faults[:20]:
-        print("wrong:", fault)
-    print(f"{len(trial.faults)} wrong")
-    return 1 if trial.faults else 0
+    return tell_faults(trial.faults)
 
 
 if __name__ == "__main__":

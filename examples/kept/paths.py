@@ -32,7 +32,7 @@ HERE = os.path.dirname(os.path.abspath(__file__))
 sys.path.insert(1, os.path.join(HERE, ".."))
 
 from kill import END_WAIT, HEADER, PROGRAM, REFUSED, read  # noqa: E402
-from serving import Link  # noqa: E402
+from serving import Link, tell_faults  # noqa: E402
 from traced import own_port  # noqa: E402
 
 MIRROR = os.path.join(HERE, "..", "..", "crates", "osm_mirror", "out", "osm_mirror")
@@ -457,10 +457,7 @@ def main() -> int:
         trial.try_deleted()
         trial.try_cut()
         trial.try_stopped()
-    for fault in trial.faults[:20]:
-        print("wrong:", fault)
-    print(f"{len(trial.faults)} wrong")
-    return 1 if trial.faults else 0
+    return tell_faults(trial.faults)
 
 
 if __name__ == "__main__":

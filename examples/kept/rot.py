@@ -40,7 +40,7 @@ sys.path.insert(1, os.path.join(HERE, ".."))
 
 from editors import Editor  # noqa: E402
 from kill import END_WAIT, PROGRAM, REFUSED, parted, read  # noqa: E402
-from serving import Link, Lost, Replies, Server, connect, request  # noqa: E402
+from serving import Link, Lost, Replies, Server, connect, request, tell_faults  # noqa: E402
 from traced import own_port  # noqa: E402
 from want_of_memory import calls  # noqa: E402
 
@@ -404,10 +404,7 @@ def main() -> int:
         trial.choose_gates()
         trial.carry_out(it.jobs)
     trial.tell()
-    for fault in trial.faults[:20]:
-        print("wrong:", fault)
-    print(f"{len(trial.faults)} wrong")
-    return 1 if trial.faults else 0
+    return tell_faults(trial.faults)
 
 
 if __name__ == "__main__":
