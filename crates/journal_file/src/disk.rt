@@ -179,7 +179,7 @@ pub fn create<F: Files<File = File>>(
     file.try_lock().map_err(io::Error::from)?;
     // Whoever had the lock before may have given this very file its name.
     if fs::exists(files, path)? {
-        return Ok(());
+        return leave(files, &file, new.as_str());
     }
     begin(&mut file, header)?;
     match fs::hard_link(files, new.as_str(), path) {
@@ -189,6 +189,15 @@ pub fn create<F: Files<File = File>>(
     }
     fs::remove_file(files, new.as_str())?;
     sync_folder(files, alloc, path)
+}
+
+/// Takes the name away of a file that nothing was written into. Whoever is at it holds its lock, and
+/// here that is the caller.
+fn leave<F: Files<File = File>>(files: &F, file: &File, new: &str) -> Result<(), DiskFault> {
+    if file.metadata()?.len() == 0 {
+        fs::remove_file(files, new)?;
+    }
+    Ok(())
 }
 
 /// Writes the header and a closed gate in place of what a creation that was cut short left, and has
