@@ -1,4 +1,5 @@
 pub mod Judging
 pub mod Machine
+pub mod Copied
 pub mod Found
 pub mod Laws

@@ -1,18 +1,16 @@
 //! What a query found on the map, free of the map: a short answer is written at once, and the rows of
 //! a long one are copied, so that the map is given back before their bytes are written.
-ghost use Rattle.std.specs.Prelude.{◌≡◌, ◌++◌, ◌∷◌, [], All, IfOk, OnOk};
-ghost use Rattle.osm_change.specs.ElementRows.{ShownVersion};
-ghost use Rattle.osm_change.specs.Moments.{HasShownMoments, HasShownStamp};
+ghost use Rattle.std.specs.Prelude.{◌≡◌, IfOk};
+ghost use Rattle.osm_change.specs.Moments.{HasShownMoments};
 ghost use Rattle.osm_change.specs.declared.answers.Answer.TheVariants as answers;
 ghost use Rattle.map_machine.specs.Found.{told};
 ghost use Rattle.map_machine.specs.Machine.{bytes_of};
 
 use crate::answers::bytes_of;
-use osm_base::{Box7, Bytes, Items, Key, Memory, Owner, TryCopy};
-use osm_change::{Answer, ElementRow, ElementRows};
-use osm_element::Version;
+use crate::copied::CopiedRows;
+use osm_base::{Box7, Bytes, Memory};
+use osm_change::Answer;
 use std::alloc::Global;
-use std::marker::Model;
 
 /// The most elements of an answer that is written while the map is held: some ten microseconds' work.
 const WRITTEN_ROWS: usize = 50;
@@ -29,88 +27,6 @@ pub enum Found {
     },
     /// The versions that a changeset made.
     Change(CopiedRows),
-}
-
-/// A version of an element and the owner of its changeset, the answer's own.
-#[derive(Drop)]
-pub struct CopiedRow {
-    key: Key,
-    number: u64,
-    version: Version,
-    owner: Owner,
-}
-
-impl Model for CopiedRow {
-    ghost Value = { ShownVersion };
-
-    ghost view = { λ r. record { key = r.key; number = r.number; version = r.version; owner = r.owner } };
-}
-
-impl CopiedRow {
-    fn of(alloc: Global, row: &ElementRow<'_>) -> Result<CopiedRow, Memory>
-        ensures { IfOk result (λ copied. copied ≡ row.now) }
-    {
-        Ok(CopiedRow {
-            key: row.key,
-            number: row.number,
-            version: row.version.copy(alloc)?,
-            owner: row.owner.copy(alloc)?,
-        })
-    }
-
-    fn row(&self) -> ElementRow<'_>
-        ensures { result ≡ self.now }
-    {
-        ElementRow {
-            key: self.key,
-            number: self.number,
-            version: &self.version,
-            owner: &self.owner,
-        }
-    }
-}
-
-/// Rows that are the answer's own, in its order.
-#[derive(Drop)]
-pub struct CopiedRows {
-    rows: Vec<CopiedRow>,
-}
-
-impl Model for CopiedRows {
-    ghost use Rattle.std.specs.Prelude.{List, All};
-    ghost use Rattle.osm_change.specs.ElementRows.{ShownVersion};
-    ghost use Rattle.osm_change.specs.Moments.{HasShownStamp};
-
-    ghost Value = { List ShownVersion };
-
-    ghost view = { λ c. c.rows.items };
-
-    ghost invariant = { λ c. All HasShownStamp c.rows.items };
-}
-
-impl CopiedRows {
-    fn of(alloc: Global, rows: &[ElementRow<'_>]) -> Result<CopiedRows, Memory>
-        requires { All HasShownStamp rows.now }
-        ensures { IfOk result (λ copied. copied ≡ rows.now) }
-    {
-        let mut copied = Vec::with_capacity(alloc, rows.len())?;
-        for row in rows {
-            copied.push(CopiedRow::of(alloc, row)?)?;
-        }
-        Ok(CopiedRows { rows: copied })
-    }
-
-    /// Their rows, which borrow from them.
-    fn rows(&self, alloc: Global) -> Result<ElementRows<'_>, Memory>
-        ensures rows { IfOk result (λ rows. rows ≡ self.now) }
-        ensures shown { All HasShownStamp self.now }
-    {
-        let mut rows = Vec::with_capacity(alloc, self.rows.len())?;
-        for copied in &self.rows {
-            rows.push(copied.row())?;
-        }
-        Ok(Items::of(rows))
-    }
 }
 
 /// What an answer is that was found: where it has many rows, they are copied.

@@ -6,6 +6,7 @@
 mod acceptance;
 mod answers;
 mod books;
+mod copied;
 mod found;
 mod judging;
 mod keeper;

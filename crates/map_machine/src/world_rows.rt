@@ -21,12 +21,7 @@ fn element_row(world: &World, shown: VersionId) -> Option<ElementRow<'_>>
     let Some(kept) = world.changeset(version.changeset()) else {
         return None;
     };
-    Some(ElementRow {
-        key: shown.key,
-        number: shown.number,
-        version,
-        owner: kept.owner(),
-    })
+    Some(ElementRow::of(shown.key, shown.number, version, kept.owner()))
 }
 
 /// Adds the row of a version, if there is one.

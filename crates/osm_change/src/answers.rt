@@ -1,7 +1,9 @@
 //! What a command or a query is answered.
+ghost use Rattle.std.specs.Prelude.{◌≡◌};
+
 use crate::refusals::Refusal;
 use osm_base::{Box7, Items, Key, Kind, Owner, Stamp};
-use osm_element::{Tags, Version};
+use osm_element::{TagList, Tags, Version};
 use std::marker::Model;
 
 /// What one operation of an upload came to, as the client is told (OpenStreetMap wiki, API v0.6,
@@ -23,6 +25,8 @@ pub struct ElementRow<'a> {
     pub key: Key,
     pub number: u64,
     pub version: &'a Version,
+    /// Those of the version, wherever they are kept: a copy has them apart.
+    pub tags: TagList<'a>,
     pub owner: &'a Owner,
 }
 
@@ -31,7 +35,22 @@ impl<'a> Model for ElementRow<'a> {
 
     ghost Value = { ShownVersion };
 
-    ghost view = { λ r. record { key = r.key; number = r.number; version = r.version.now; owner = r.owner.now } };
+    ghost view = { λ r. record { key = r.key; number = r.number; version = record r.version.now { tags = r.tags }; owner = r.owner.now } };
+}
+
+impl<'a> ElementRow<'a> {
+    /// The row of a version that has its tags itself.
+    pub fn of(key: Key, number: u64, version: &'a Version, owner: &'a Owner) -> ElementRow<'a>
+        ensures { result ≡ record { key = key; number = number; version = version.now; owner = owner.now } }
+    {
+        ElementRow {
+            key,
+            number,
+            version,
+            tags: version.tags(),
+            owner,
+        }
+    }
 }
 
 /// Nodes, then ways, then relations, each by id; a history and a download keep their own order.

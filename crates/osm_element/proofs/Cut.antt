@@ -11,7 +11,7 @@ use Rattle.osm_element.specs.declared.labels.Ends.{Ends}
 
 -- ---- a text that grows
 
-range_kept : (text more : List ℕ) (a b : ℕ) → a ≤ b → b ≤ length text → slice_range (text ++ more) a b ≡ slice_range text a b
+pub range_kept : {A : Type 0} (text more : List A) (a b : ℕ) → a ≤ b → b ≤ length text → slice_range (text ++ more) a b ≡ slice_range text a b
 range_kept text more a b rises within =
     let room : b - a ≤ length (drop a text) = omega (arith, length-drop a text) in
     ap (take (b - a)) (drop-append-le a text more (omega arith)) ∙ take-append-le (b - a) (drop a text) more room

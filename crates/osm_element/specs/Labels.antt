@@ -8,8 +8,3 @@ use Rattle.osm_element.specs.declared.labels.MarkedTable.{MarkedTable}
 abbrev pub tags_in : Option (Box MarkedTable) → List Tag
 tags_in None = []
 tags_in (Some marked) = marked.value.table
-
--- the same of a table that is lent
-abbrev pub listed : Option (List Tag) → List Tag
-listed None = []
-listed (Some tags) = tags

@@ -1,4 +1,5 @@
 pub mod Tags
+pub mod TagLists
 pub mod Labels
 pub mod Version
 pub mod Elements

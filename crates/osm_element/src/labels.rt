@@ -75,17 +75,10 @@ impl Table {
         Ok(Table { text, ends })
     }
 
-    fn len(&self) -> usize
-        ensures { result ≡ length self.now }
+    fn list(&self) -> TagList<'_>
+        ensures { result ≡ self.now }
     {
-        self.ends.len()
-    }
-
-    fn pair(&self, index: usize) -> (&str, &str)
-        requires { index < length self.now }
-        ensures { (result.0.now, result.1.now) ≡ get_or self.now index ([], []) }
-    {
-        pair_at(self.text.as_str(), self.ends.as_slice(), index)
+        TagList::of(self.text.as_str(), self.ends.as_slice())
     }
 }
 
@@ -118,9 +111,7 @@ impl MarkedTable {
     pub(crate) fn list(&self) -> TagList<'_>
         ensures { result ≡ self.now.table }
     {
-        TagList {
-            table: Some(&self.table),
-        }
+        self.table.list()
     }
 
     /// The redaction, where there is one.
@@ -146,46 +137,61 @@ impl MarkedTable {
 /// Tags, borrowed from what has them. The keys rise there.
 #[derive(Drop)]
 pub struct TagList<'a> {
-    table: Option<&'a Table>,
+    text: &'a str,
+    ends: &'a [Ends],
 }
 
 impl<'a> Model for TagList<'a> {
-    ghost use Rattle.std.specs.Prelude.{List, option_copied};
-    ghost use Rattle.osm_element.specs.Tags.{Tag};
-    ghost use Rattle.osm_element.specs.Labels.{listed};
+    ghost use Rattle.std.specs.Prelude.{List};
+    ghost use Rattle.osm_element.specs.Tags.{Tag, cut, AreEnds};
 
     ghost Value = { List Tag };
 
-    ghost view = { λ l. listed (option_copied l.table) };
+    ghost view = { λ l. cut 0 l.ends.now l.text.now };
+
+    ghost invariant = { λ l. AreEnds 0 l.ends.now l.text.now };
 }
 
 impl<'a> TagList<'a> {
     /// No tags.
-    pub(crate) fn none() -> TagList<'a>
+    pub fn none() -> TagList<'a>
         ensures { result ≡ [] }
     {
-        TagList { table: None }
+        TagList {
+            text: "",
+            ends: &[],
+        }
+    }
+
+    /// Those that this text is cut into.
+    pub(crate) fn of(text: &'a str, ends: &'a [Ends]) -> TagList<'a>
+        requires { AreEnds 0 ends.now text.now }
+        ensures { result ≡ cut 0 ends.now text.now }
+    {
+        TagList { text, ends }
+    }
+
+    /// Their text, and where each key and each value ends in it.
+    pub(crate) fn parts(&self) -> (&'a str, &'a [Ends])
+        ensures ends { AreEnds 0 result.1.now result.0.now }
+        ensures list { cut 0 result.1.now result.0.now ≡ self.now }
+    {
+        (self.text, self.ends)
     }
 
     /// How many tags.
     pub fn len(&self) -> usize
         ensures { result ≡ length self.now }
     {
-        match self.table {
-            Some(table) => table.len(),
-            None => 0,
-        }
+        self.ends.len()
     }
 
     /// A key and its value, in the order of the keys.
-    pub fn pair(&self, index: usize) -> (&str, &str)
+    pub fn pair(&self, index: usize) -> (&'a str, &'a str)
         requires { index < length self.now }
         ensures { (result.0.now, result.1.now) ≡ get_or self.now index ([], []) }
     {
-        match self.table {
-            Some(table) => table.pair(index),
-            None => ("", ""),
-        }
+        pair_at(self.text, self.ends, index)
     }
 }
 
@@ -286,10 +292,7 @@ impl Tags {
     pub fn len(&self) -> usize
         ensures { result ≡ length self.now }
     {
-        match &self.table {
-            Some(marked) => marked.table.len(),
-            None => 0,
-        }
+        self.list().len()
     }
 
     /// Whatever is made as tags has keys that rise: a law, with nothing to do.
@@ -304,10 +307,7 @@ impl Tags {
         requires { index < length self.now }
         ensures { (result.0.now, result.1.now) ≡ get_or self.now index ([], []) }
     {
-        match &self.table {
-            Some(marked) => marked.table.pair(index),
-            None => ("", ""),
-        }
+        self.list().pair(index)
     }
 }
 

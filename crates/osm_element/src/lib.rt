@@ -10,6 +10,7 @@ mod faults;
 mod labels;
 mod lookups;
 mod references;
+mod tag_lists;
 mod usage;
 mod versions;
 
@@ -19,4 +20,5 @@ pub use contents::{Content, Member, Members, RawContent, Refs};
 pub use elements::{Elements, History};
 pub use faults::LocalFault;
 pub use labels::{TagList, Tags};
+pub use tag_lists::TagLists;
 pub use versions::Version;

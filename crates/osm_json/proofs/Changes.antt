@@ -1,5 +1,5 @@
 -- The operations of a change, as they are written, are plain and are read as themselves.
-use Rattle.std.proofs.Common.{◌≡◌, ℕ, ◌^◌, ◌<◌, ◌≤◌, ℤ, pos, negsuc, suc, List, [], ◌∷◌, map, Some, None, Ok, refl, arith}
+use Rattle.std.proofs.Common.{◌≡◌, ℤ, pos, negsuc, List, [], ◌∷◌, map, Ok, arith}
 use Rattle.std.specs.Prelude.{All, ◌≤ℤ◌}
 use Rattle.std.proofs.lemmas.Int.{ints}
 use Rattle.std.proofs.lemmas.List.Elements.{All-nil, All-cons, All-head, All-tail}
@@ -7,7 +7,7 @@ use Rattle.std.specs.List.Sorted.{IsStrictlySortedBy}
 use Rattle.serde_json.specs.Find.{of_integer}
 use Rattle.osm_base.specs.Place.{IsPosition}
 use Rattle.osm_element.specs.Limits.{check_tags, check_position, check_named}
-use Rattle.osm_element.specs.Tags.{Tag, KeysRise}
+use Rattle.osm_element.specs.Tags.{Tag}
 use Rattle.osm_element.specs.declared.contents.Content.{Content}
 use Rattle.osm_element.specs.declared.contents.Content.TheVariants as content
 use Rattle.osm_change.specs.Build.{IsRawContent, IsRawOp, IsRaw}
@@ -16,7 +16,6 @@ use Rattle.osm_change.specs.Document.{content_said, op_said, document_of}
 use Rattle.osm_change.specs.declared.operations.Name.{Name}
 use Rattle.osm_change.specs.declared.operations.Op.{Op}
 use Rattle.osm_change.specs.declared.operations.Op.TheVariants as ops
-use Rattle.osm_change.specs.declared.raw.RawOp.{RawOp}
 use Rattle.osm_json.specs.Again.{IsShort}
 use Rattle.osm_json.specs.Uploads.{HasRisingTags, IsChange}
 use Rattle.osm_json.proofs.Given.{on_globe, behind, op_again}

@@ -1,17 +1,17 @@
 -- An operation that is written is read as that operation.
-use Rattle.std.proofs.Common.{◌≡◌, ℕ, zero, suc, ◌-◌, ◌^◌, ◌<◌, ◌≤◌, ℤ, pos, negsuc, ◌&&◌, true, nat_lt, List, [], ◌∷◌, ◌++◌, map, codes, Option, Some, None, option_map, Ok, refl, sym, ap, ◌∙◌, arith}
-use Rattle.std.specs.Prelude.{All, MatchOption, unsigned_abs, unwrap_or, ⊤, ◌≤ℤ◌, int_le, Bool, false, if◌then◌else◌, Result, Err}
+use Rattle.std.proofs.Common.{◌≡◌, ℕ, zero, suc, ◌-◌, ◌^◌, ◌<◌, ◌≤◌, ℤ, pos, negsuc, true, nat_lt, List, [], ◌∷◌, ◌++◌, map, codes, Option, Some, None, option_map, Ok, refl, ap, ◌∙◌, arith}
+use Rattle.std.specs.Prelude.{All, MatchOption, unwrap_or, ⊤, ◌≤ℤ◌, int_le, Bool, false, if◌then◌else◌, Result, Err}
 use Rattle.std.proofs.lemmas.Bool.{lt-ltb, and_from, and_parts}
 use Rattle.std.proofs.lemmas.Int.{ints}
 use Rattle.std.proofs.lemmas.List.Elements.{All-head, All-tail}
-use Rattle.serde_json.specs.Data.{Data, string}
-use Rattle.serde_json.specs.Find.{get, get_member, as_str, as_array, as_number, as_u64, as_i64}
+use Rattle.serde_json.specs.Data.{Data}
+use Rattle.serde_json.specs.Find.{get, get_member, as_str}
 use Rattle.serde_json.specs.View.{items_of}
 use Rattle.osm_base.specs.Outcome.{◌>>=◌ as ◌>>>◌}
 use Rattle.osm_base.specs.Place.{IsPosition, is_position, is_within}
 use Rattle.osm_base.specs.declared.keys.Kind.{Kind}
 use Rattle.osm_base.specs.declared.keys.Kind.TheVariants as kinds
-use Rattle.osm_element.specs.Limits.{check_tags, check_position, check_named_content, check_named}
+use Rattle.osm_element.specs.Limits.{check_tags, check_position, check_named}
 use Rattle.osm_element.specs.Tags.{Tag}
 use Rattle.osm_element.specs.declared.contents.Content.{Content}
 use Rattle.osm_element.specs.declared.contents.Content.TheVariants as content
@@ -29,10 +29,10 @@ use Rattle.osm_change.specs.declared.operations.Op.TheVariants as ops
 use Rattle.osm_change.specs.declared.raw.Action.{Action}
 use Rattle.osm_change.specs.declared.raw.Action.TheVariants.{Create, Modify, Delete}
 use Rattle.osm_change.specs.declared.raw.RawOp.{RawOp}
-use Rattle.osm_json.specs.Reading.{◌>>=◌, only_if, needed, if_there, optional, integer_of, is_id, id_of, is_count, count_of, kind_of, pairs_of, tags_of, each_of, list_of as list_read, reference_of, content_of, version_of, given_tags, given_content, operation_of}
+use Rattle.osm_json.specs.Reading.{◌>>=◌, only_if, needed, if_there, optional, integer_of, is_id, id_of, count_of, kind_of, pairs_of, tags_of, each_of, list_of as list_read, reference_of, content_of, version_of, given_tags, given_content, operation_of}
 use Rattle.osm_json.specs.Rows.{tag_field, tags as tags_data}
 use Rattle.osm_json.specs.Shown.{Field, field, field_if, members_of, record_of, list_of, natural, integer, kind}
-use Rattle.osm_json.specs.Uploads.{given_member, content_given, content_if_some, tags_if_some, given_op}
+use Rattle.osm_json.specs.Uploads.{given_member, content_if_some, tags_if_some, given_op}
 
 -- ---- values
 

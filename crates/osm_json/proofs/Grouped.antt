@@ -1,21 +1,20 @@
 -- Operations in blocks: they are read one after the other, and written so.
-use Rattle.std.proofs.Common.{◌≡◌, ℕ, ◌+◌, Bool, true, false, cond, List, [], ◌∷◌, ◌++◌, map, flat_map, drop, take, codes, Option, Some, None, Ok, refl, sym, ap, ◌∙◌, subst, append_assoc, append-nil, length, ◌<◌, get_or, drop-cons, add-one}
-use Rattle.std.specs.Prelude.{All, Result, if◌then◌else◌}
-use Rattle.std.proofs.lemmas.List.Elements.{All-nil, All-cons, All-head, All-tail}
+use Rattle.std.proofs.Common.{◌≡◌, ℕ, ◌+◌, Bool, true, false, List, [], ◌∷◌, ◌++◌, map, flat_map, codes, Option, Some, None, Ok, refl, sym, ap, ◌∙◌, append_assoc, append-nil}
+use Rattle.std.specs.Prelude.{All, if◌then◌else◌}
+use Rattle.std.proofs.lemmas.List.Elements.{All-head, All-tail}
 use Rattle.json.specs.Token.{Token, begin_object, end_object, begin_array, end_array}
-use Rattle.serde_json.specs.Data.{Data, array, Items, no_items, item}
+use Rattle.serde_json.specs.Data.{Items, no_items, item}
 use Rattle.serde_json.specs.View.{items_of}
 use Rattle.serde_json.specs.Written.{items_outline}
 use Rattle.json.specs.Tree.{items_tokens}
 use Rattle.osm_change.specs.declared.raw.Action.{Action}
 use Rattle.osm_change.specs.declared.raw.Action.TheVariants.{Create, Modify, Delete}
 use Rattle.osm_change.specs.declared.raw.RawOp.{RawOp}
-use Rattle.osm_json.specs.declared.fault.BodyFault.{BodyFault}
 use Rattle.osm_json.specs.Reading.{◌>>=◌, Block, Step, each_of, list_of as list_read, block_of, steps_among, steps_of, operation_of, read_first, operations_from, operations_in}
 use Rattle.osm_json.specs.Blocks.{opened, closed, turned, left}
 use Rattle.osm_json.specs.Sent.{tokens_of, field_tokens}
 use Rattle.osm_json.specs.Shown.{record_of, list_of}
-use Rattle.osm_json.specs.Uploads.{action_eq, block_with, before_blocks, in_blocks, name_of_action, if_unused_field, given_block, given_op, step_of, given_ops}
+use Rattle.osm_json.specs.Uploads.{action_eq, block_with, before_blocks, in_blocks, given_block, given_op, step_of, given_ops}
 
 -- ---- actions
 

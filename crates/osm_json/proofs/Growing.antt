@@ -10,13 +10,16 @@ use Rattle.serde_json.specs.View.{items_of}
 use Rattle.serde_json.specs.Written.{compact_text, items_text, members_text}
 use Rattle.osm_base.specs.Place.{Area}
 use Rattle.osm_element.specs.Tags.{Tag}
+use Rattle.osm_element.specs.Version.{Version}
 use Rattle.osm_element.specs.declared.contents.Content.TheVariants as contents
 use Rattle.osm_element.specs.declared.contents.Member.{Member as Reference}
+use Rattle.osm_base.specs.declared.keys.Kind.{Kind}
+use Rattle.osm_change.specs.declared.answers.DiffRow.{DiffRow}
 use Rattle.osm_change.specs.declared.answers.ElementRow.{ElementRow}
 use Rattle.osm_json.specs.Moment.{stamp_text}
 use Rattle.osm_json.specs.Shown.{kind_name, kind, Field, field, members_of, record_of, list_of, natural, integer, document}
-use Rattle.osm_json.specs.Rows.{element, elements, block, download, bounds, box_fields, reference, tags, tag_field, content_fields, number_fields, visible_fields, redaction_fields, tags_fields, stamp_field, origin_fields}
-use Rattle.osm_json.specs.Added.{Grows, field_text, later_text, Origin, origin_of, origin_text, shared_fields, ending_text, joined, opening_text, block_opening_text}
+use Rattle.osm_json.specs.Rows.{diff_row, diff, element, elements, block, download, bounds, box_fields, reference, tags, tag_field, content_fields, number_fields, visible_fields, redaction_fields, tags_fields, stamp_field, origin_fields}
+use Rattle.osm_json.specs.Added.{Grows, field_text, later_text, Origin, origin_of, origin_text, shared_fields, ending_text, joined, opening_text, block_opening_text, said_text}
 
 -- ---- one piece after another
 
@@ -163,6 +166,11 @@ tail_text r =
     ∙ ap (λ (l : List ℕ). (flat_map field_text shared ++ (l ++ (field_text visible ++ []))) ++ 125 ∷ []) (sym (version_is r.number))
     ∙ last_two (flat_map field_text shared) (codes ",\"version\":") (decimal r.number) (field_text visible)
 
+-- tags stand beside the rest of a version
+pub redaction_apart : (v : Version) (shown : List Tag) → flat_map field_text (redaction_fields v) ≡ flat_map field_text (redaction_fields (record v { tags = shown }))
+unfolding redaction_fields
+redaction_apart v shown = refl
+
 -- the text of a row is its pieces, one after the other
 pub element_text : (r : ElementRow)
     → (codes "{\"changeset\":" ++ decimal r.version.changeset)
@@ -226,6 +234,41 @@ download_text rows =
     sym
     (ap (λ (l : List ℕ). codes "{\"osmChange\":" ++ (l ++ V)) (joined_text block rows)
     ∙ ap (λ (l : List ℕ). codes "{\"osmChange\":[" ++ l) (append_assoc J (93 ∷ []) V))
+
+-- ---- a diff result
+
+two_then : (a n b z t : List ℕ) → ((a ++ n) ++ (b ++ z)) ++ t ≡ a ++ (n ++ (b ++ (z ++ t)))
+two_then a n b z t = simp append_assoc
+
+three_then : (a n b v c z t : List ℕ) → ((a ++ n) ++ ((b ++ v) ++ (c ++ z))) ++ t ≡ a ++ (n ++ (b ++ (v ++ (c ++ (z ++ t)))))
+three_then a n b v c z t = simp append_assoc
+
+last_member : Kind → List ℕ
+last_member k = (codes ",\"type\":" ++ quoted (kind_name k)) ++ codes "}"
+
+row_text : (id version : Option ℕ) (old : ℤ) (k : Kind) → said_text id version old ++ last_member k ≡ compact_text (diff_row (record { kind = k; old_id = old; new_id = id; new_version = version }))
+unfolding diff_row record_of escape_byte last_member
+row_text (Some id) (Some version) (pos old) k = three_then (codes "{\"new_id\":") (decimal id) (codes ",\"new_version\":") (decimal version) (codes ",\"old_id\":") (signed_decimal (pos old)) (last_member k)
+row_text (Some id) (Some version) (negsuc old) k = three_then (codes "{\"new_id\":") (decimal id) (codes ",\"new_version\":") (decimal version) (codes ",\"old_id\":") (signed_decimal (negsuc old)) (last_member k)
+row_text (Some id) None (pos old) k = two_then (codes "{\"new_id\":") (decimal id) (codes ",\"old_id\":") (signed_decimal (pos old)) (last_member k)
+row_text (Some id) None (negsuc old) k = two_then (codes "{\"new_id\":") (decimal id) (codes ",\"old_id\":") (signed_decimal (negsuc old)) (last_member k)
+row_text None (Some version) (pos old) k = two_then (codes "{\"new_version\":") (decimal version) (codes ",\"old_id\":") (signed_decimal (pos old)) (last_member k)
+row_text None (Some version) (negsuc old) k = two_then (codes "{\"new_version\":") (decimal version) (codes ",\"old_id\":") (signed_decimal (negsuc old)) (last_member k)
+row_text None None (pos old) k = refl
+row_text None None (negsuc old) k = refl
+
+pub diff_row_text : (r : DiffRow) → said_text r.new_id r.new_version r.old_id ++ ((codes ",\"type\":" ++ quoted (kind_name r.kind)) ++ codes "}") ≡ compact_text (diff_row r)
+unfolding last_member
+diff_row_text r = row_text r.new_id r.new_version r.old_id r.kind
+
+pub diff_text : (rows : List DiffRow) → codes "{\"diffResult\":[" ++ (joined diff_row rows ++ codes "],\"version\":\"0.6\"}") ≡ compact_text (diff rows)
+unfolding diff document record_of escape_byte
+diff_text rows =
+    let J = joined diff_row rows in
+    let V = codes ",\"version\":\"0.6\"}" in
+    sym
+    (ap (λ (l : List ℕ). codes "{\"diffResult\":" ++ (l ++ V)) (joined_text diff_row rows)
+    ∙ ap (λ (l : List ℕ). codes "{\"diffResult\":[" ++ l) (append_assoc J (93 ∷ []) V))
 
 -- ---- contents and tags
 

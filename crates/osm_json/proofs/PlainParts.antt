@@ -1,6 +1,6 @@
 -- What is written for tags and for changes is plain, and nests as deep as blocks do.
-use Rattle.std.proofs.Common.{◌≡◌, ℕ, suc, ◌+◌, ◌-◌, ◌^◌, ◌<◌, ◌≤◌, ℤ, pos, negsuc, Bool, true, false, List, [], ◌∷◌, ◌++◌, map, codes, Option, Some, None, max, refl, sym, ap, ◌∙◌, arith, subst}
-use Rattle.std.specs.Prelude.{All, MatchOption, ⊤, ◌≤ℤ◌, if◌then◌else◌}
+use Rattle.std.proofs.Common.{◌≡◌, ℕ, suc, ◌^◌, ◌<◌, ◌≤◌, ℤ, pos, negsuc, Bool, true, false, List, [], ◌∷◌, ◌++◌, map, codes, Option, Some, None, refl, arith}
+use Rattle.std.specs.Prelude.{All, MatchOption, ⊤, if◌then◌else◌}
 use Rattle.std.proofs.lemmas.Int.{ints}
 use Rattle.std.proofs.lemmas.List.Elements.{All-nil, All-cons, All-head, All-tail}
 use Rattle.std.specs.Cmp.Lexicographic.{slice_cmp}
@@ -12,20 +12,19 @@ use Rattle.serde_json.specs.Data.{Data, array, Items, no_items, item, Members, d
 use Rattle.serde_json.specs.Find.{of_integer}
 use Rattle.serde_json.specs.View.{items_of}
 use Rattle.osm_base.specs.declared.keys.Kind.{Kind}
-use Rattle.osm_base.specs.declared.keys.Kind.TheVariants as kinds
 use Rattle.osm_element.specs.Tags.{Tag, KeysRise}
 use Rattle.osm_element.specs.declared.contents.Member.{Member as Reference}
 use Rattle.osm_element.specs.declared.contents.RawContent.{RawContent}
 use Rattle.osm_element.specs.declared.contents.RawContent.TheVariants as contents
-use Rattle.osm_change.specs.Build.{IsReference, IsRawOp}
+use Rattle.osm_change.specs.Build.{IsReference}
 use Rattle.osm_change.specs.declared.raw.Action.{Action}
 use Rattle.osm_change.specs.declared.raw.Action.TheVariants.{Create, Modify, Delete}
 use Rattle.osm_change.specs.declared.raw.RawOp.{RawOp}
 use Rattle.osm_json.specs.Again.{IsShort, IsBefore, IsPlainData, ArePlainItems, ArePlainMembers}
 use Rattle.osm_json.specs.Reading.{Block, Step}
 use Rattle.osm_json.specs.Rows.{tag_field, tags as tags_data}
-use Rattle.osm_json.specs.Shown.{Field, field, field_if, members_of, record_of, list_of, natural, integer, kind}
-use Rattle.osm_json.specs.Uploads.{text_if_some, given_member, content_given, content_if_some, tags_if_some, given_op, action_eq, block_with, before_blocks, in_blocks, if_unused_field, given_block, step_of, given_ops}
+use Rattle.osm_json.specs.Shown.{members_of, record_of, list_of, integer}
+use Rattle.osm_json.specs.Uploads.{given_member, content_if_some, given_op, action_eq, block_with, before_blocks, in_blocks, given_block, step_of, given_ops}
 use Rattle.osm_json.proofs.Given.{tail}
 
 -- plain, and no deeper than the number

@@ -15,7 +15,7 @@ use Rattle.osm_json.specs.declared.fault.ReadFault.{ReadFault}
 use Rattle.osm_json.specs.declared.fault.ReadFault.TheVariants.{NotJson}
 use Rattle.osm_json.specs.Drawn.{drawn_of}
 use Rattle.osm_json.specs.Again.{IsPlainData, natural_of, read_as, next_as, all_ops, ops_of, Draws}
-use Rattle.osm_json.specs.Pull.{next_data, Pulls, Pulled}
+use Rattle.osm_json.specs.Pull.{Pulls, Pulled}
 use Rattle.osm_json.specs.Reading.{Gives, kind_of, tags_of, list_of, block_of, blocks_of, operations_in}
 use Rattle.osm_json.specs.Rows.{tags as tags_data}
 use Rattle.osm_json.specs.Sent.{tokens_of}

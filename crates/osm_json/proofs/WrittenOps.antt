@@ -1,9 +1,8 @@
 -- Operations that are written one after another.
-use Rattle.std.proofs.Common.{◌≡◌, ℕ, codes, suc, ◌+◌, ◌<◌, ◌≤◌, length, take, drop, get_or, List, [], ◌∷◌, ◌++◌, Option, Some, None, map, flat_map, refl, sym, ap, ◌∙◌, append_assoc, append-nil, arith, add-one, drop-cons, slice_get}
+use Rattle.std.proofs.Common.{◌≡◌, codes, length, List, [], ◌∷◌, ◌++◌, Option, Some, None, map, flat_map, refl, sym, ap, ◌∙◌, append_assoc, append-nil, arith}
 use Rattle.std.specs.Prelude.{All, Result, Ok, Err}
-use Rattle.std.proofs.lemmas.List.{drop_all}
 use Rattle.std.proofs.lemmas.List.Elements.{All-nil, All-cons, All-head, All-tail}
-use Rattle.json.specs.Token.{Token, end_array, end_object}
+use Rattle.json.specs.Token.{Token}
 use Rattle.json.specs.Written.{Written}
 use Rattle.serde_json.specs.Data.{array}
 use Rattle.serde_json.specs.View.{items_of}
@@ -21,7 +20,7 @@ use Rattle.osm_json.specs.Sent.{tokens_of, field_tokens, Appends, AppendsFields,
 use Rattle.osm_json.specs.Shown.{Field, field, integer, list_of}
 use Rattle.osm_element.specs.Tags.{Tag}
 use Rattle.osm_json.specs.Rows.{tags as tags_data}
-use Rattle.osm_json.specs.Uploads.{tags_if_some, given_member, given_block, given_op, in_blocks, step_of, if_unused_field}
+use Rattle.osm_json.specs.Uploads.{tags_if_some, given_member, given_block, given_op, in_blocks, step_of}
 use Rattle.osm_json.proofs.Grouped.{left_all}
 use Rattle.osm_json.proofs.Tokens.{◌⨾◌}
 

@@ -1,5 +1,6 @@
 -- For private clauses: what has been added to a body.
-use Rattle.std.specs.Prelude.{◌≡◌, ℕ, List, [], ◌∷◌, ◌++◌, flat_map, Bool, Option, Some, None, Result, OnOk, codes}
+use Rattle.std.specs.Prelude.{◌≡◌, ℕ, ℤ, List, [], ◌∷◌, ◌++◌, flat_map, Bool, Option, Some, None, Result, OnOk, codes}
+use Rattle.std.specs.Fmt.{decimal, signed_decimal}
 use Rattle.json.specs.Print.{quoted}
 use Rattle.serde_json.specs.Data.{Data, boolean, string}
 use Rattle.serde_json.specs.Written.{compact_text}
@@ -69,9 +70,24 @@ opening_text (Some b) = 123 ∷ (quoted (codes "bounds") ++ 58 ∷ (compact_text
 abbrev pub block_opening_text : ElementRow → List ℕ
 block_opening_text r = 123 ∷ (quoted (action_name r) ++ 58 ∷ 91 ∷ [])
 
+-- the old id in a row of a diff result, and what stands before it
+abbrev pub later_said : Option ℕ → ℤ → List ℕ
+later_said None old_id = codes ",\"old_id\":" ++ signed_decimal old_id
+later_said (Some version) old_id = (codes ",\"new_version\":" ++ decimal version) ++ (codes ",\"old_id\":" ++ signed_decimal old_id)
+
+-- the same where it begins the row
+abbrev pub first_said : Option ℕ → ℤ → List ℕ
+first_said None old_id = codes "{\"old_id\":" ++ signed_decimal old_id
+first_said (Some version) old_id = (codes "{\"new_version\":" ++ decimal version) ++ (codes ",\"old_id\":" ++ signed_decimal old_id)
+
+abbrev pub said_text : Option ℕ → Option ℕ → ℤ → List ℕ
+said_text None version old_id = first_said version old_id
+said_text (Some id) version old_id = (codes "{\"new_id\":" ++ decimal id) ++ later_said version old_id
+
 -- ---- the answers that are written as tokens
 
-abbrev pub HasNoElements : Answer → Type 0
-HasNoElements (answers.Elements bounds rows) = ⊥
-HasNoElements (answers.Change rows) = ⊥
-HasNoElements _ = Unit {0}
+abbrev pub IsOfFewRows : Answer → Type 0
+IsOfFewRows (answers.Diff rows) = ⊥
+IsOfFewRows (answers.Elements bounds rows) = ⊥
+IsOfFewRows (answers.Change rows) = ⊥
+IsOfFewRows _ = Unit {0}

@@ -181,12 +181,21 @@ impl Body {
         requires { length name.now ≤ 64 }
         ensures { Adds result self.old self.new (name.now ++ signed_decimal n) }
     {
+        self.long(name, n as i64)
+    }
+
+    /// The same of a number of 64 bits.
+    #[inline(always)]
+    pub(crate) fn long(&mut self, name: &[u8], n: i64) -> Result<(), AllocError>
+        requires { length name.now ≤ 64 }
+        ensures { Adds result self.old self.new (name.now ++ signed_decimal n) }
+    {
         if n >= 0 {
             self.natural(name, n as u64)?;
             return Ok(());
         }
         self.piece(name)?;
-        self.natural(b"-", n.unsigned_abs() as u64)?;
+        self.natural(b"-", n.unsigned_abs())?;
         Ok(())
     }
 

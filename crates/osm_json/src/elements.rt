@@ -24,7 +24,7 @@ fn element(out: &mut Body, row: &ElementRow<'_>, origin: &ShownOrigin<'_>) -> Re
     out.natural(b",\"id\":", row.key.id)?;
     visible(out, row.version)?;
     redaction(out, row.version)?;
-    visible_tags(out, row.version)?;
+    visible_tags(out, row.version, &row.tags)?;
     out.piece(origin.text())?;
     out.natural(b"", row.number)?;
     ending(out, row.version)?;

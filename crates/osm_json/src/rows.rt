@@ -148,16 +148,17 @@ fn tags(out: &mut Body, tags: &TagList<'_>) -> Result<(), AllocError>
     Ok(())
 }
 
-/// The tags of a version, where it is visible.
-pub(crate) fn visible_tags(out: &mut Body, version: &Version) -> Result<(), AllocError>
-    ensures { AddsFields result out.old out.new (tags_fields version.now) }
+/// These tags, where the version is visible.
+pub(crate) fn visible_tags(
+    out: &mut Body,
+    version: &Version,
+    shown: &TagList<'_>,
+) -> Result<(), AllocError>
+    ensures { AddsFields result out.old out.new (tags_fields (record version.now { tags = shown.now })) }
 {
     match version.content() {
         None => {}
-        Some(_) => {
-            let shown = version.tags();
-            tags(out, &shown)?;
-        }
+        Some(_) => tags(out, shown)?,
     }
     Ok(())
 }

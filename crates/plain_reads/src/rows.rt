@@ -21,12 +21,12 @@ fn element_row(state: &State, shown: VersionId) -> Option<ElementRow<'_>>
     let Some(kept) = state.changeset(version.changeset()) else {
         return None;
     };
-    Some(ElementRow {
-        key: shown.key,
-        number: shown.number,
+    Some(ElementRow::of(
+        shown.key,
+        shown.number,
         version,
-        owner: &kept.owner,
-    })
+        &kept.owner,
+    ))
 }
 
 /// Adds the row of a version, if there is one.

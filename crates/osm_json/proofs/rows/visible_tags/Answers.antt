@@ -9,4 +9,4 @@ returns-in-None c = rw (← c.in-None.ensures) nothing
 
 pub returns-in_ok-tags-in-Some : goal.returns-in_ok-tags-in-Some
 unfolding tags_fields
-returns-in_ok-tags-in-Some c = rw (← c.in-Some.ensures) (rw c.tags-shown.ensures at c.in_ok-tags-in-Some.ensures)
+returns-in_ok-tags-in-Some c = rw (← c.in-Some.ensures) c.in_ok-tags-in-Some.ensures

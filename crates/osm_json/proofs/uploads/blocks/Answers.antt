@@ -1,6 +1,6 @@
-use Rattle.std.proofs.Common.{◌≡◌, ◌≤◌, [], length, drop, ap, arith}
+use Rattle.std.proofs.Common.{◌≤◌, length, ap, arith}
 use Rattle.std.proofs.lemmas.List.{drop_all}
-use Rattle.osm_json.proofs.WrittenOps.{IsUnder, none_left, last_sends}
+use Rattle.osm_json.proofs.WrittenOps.{none_left, last_sends}
 use Rattle.osm_json.proofs.uploads.blocks.Goals as goal
 
 pub returns-in-None : goal.returns-in-None
