@@ -237,12 +237,7 @@ fn row<'a>(kept: &'a Kept, owner: &'a Owner) -> Option<ElementRow<'a>>
     if kept.version.stamp().0 > 253_000_000_000 {
         return None;
     }
-    Some(ElementRow::of(
-        kept.key,
-        kept.number,
-        &kept.version,
-        owner,
-    ))
+    Some(ElementRow::of(kept.key, kept.number, &kept.version, owner))
 }
 
 fn rows<'a>(

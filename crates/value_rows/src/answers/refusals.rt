@@ -223,6 +223,9 @@ fn of_changesets<R: Print>(rt: &R, alloc: Global, tally: &mut Tally) {
         409,
         r#"{"applied":1,"changeset":1,"count":10000,"error":"full","limit":10000}"#,
     );
+}
+
+fn of_changeset_limits<R: Print>(rt: &R, alloc: Global, tally: &mut Tally) {
     let large = Refusal::BoxTooLarge {
         area: 1_001_000,
         changeset: 1,
@@ -250,7 +253,7 @@ fn of_changesets<R: Print>(rt: &R, alloc: Global, tally: &mut Tally) {
     );
 }
 
-fn of_maps_and_redactions<R: Print>(rt: &R, alloc: Global, tally: &mut Tally) {
+fn of_maps<R: Print>(rt: &R, alloc: Global, tally: &mut Tally) {
     let area = Refusal::MapArea {
         area: 25_000_005_000_000,
         limit: 25_000_000_000_000,
@@ -282,6 +285,9 @@ fn of_maps_and_redactions<R: Print>(rt: &R, alloc: Global, tally: &mut Tally) {
         404,
         r#"{"error":"no_piece","last":2,"number":3}"#,
     );
+}
+
+fn of_redactions<R: Print>(rt: &R, alloc: Global, tally: &mut Tally) {
     row(
         rt,
         alloc,
@@ -437,7 +443,9 @@ pub fn play<R: Print>(rt: &R, alloc: Global, tally: &mut Tally) {
     of_the_body(rt, alloc, tally);
     of_the_parts(rt, alloc, tally);
     of_changesets(rt, alloc, tally);
-    of_maps_and_redactions(rt, alloc, tally);
+    of_changeset_limits(rt, alloc, tally);
+    of_maps(rt, alloc, tally);
+    of_redactions(rt, alloc, tally);
     of_elements(rt, alloc, tally);
     of_conflicts(rt, alloc, tally);
     for (name, text) in &OF_PARAMETERS {
