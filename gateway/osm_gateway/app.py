@@ -105,7 +105,9 @@ def served(gateway: Gateway, handler: Handler) -> Callable[[web.Request], Awaita
         request["call"] = name_of(handler)
         call = Call(gateway, request)
         try:
-            return await handler(call)
+            reply = await handler(call)
+            await call.confirmed()
+            return reply
         except InDoubt as why:
             raise unknown(why, "this was done", "Look whether it was before you send it again.") from None
         finally:

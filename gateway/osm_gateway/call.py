@@ -38,6 +38,11 @@ XML_BODY = 1 << 26
 JSON_BODY = 1 << 25
 READING, WRITING = 300.0, 300.0
 
+UNCONFIRMED = (
+    "This was done, but fewer than {} mirrors had it within {:g} seconds, so it may be lost with the server. "
+    "Look whether it is there before you send it again."
+)
+
 WHOLE = 1 << 16
 """Characters up to which a document is answered whole."""
 
@@ -105,6 +110,8 @@ class Call:
         self.gateway, self.request = gateway, request
         self.spools: list[Spool] = []
         self.form, self.texts = form_of(request), Texts()
+        self.has_changed = False
+        """Whether the server of the map was asked for a change, and nobody has waited for the mirrors since."""
         self.caller: Caller = gateway.callers.of(request)
         self.token = self.caller.token
         request["user"] = self.caller.user.name if self.caller.user else None
@@ -209,7 +216,20 @@ class Call:
                 self.gateway.counts.add("lost")
             raise
 
+    async def confirmed(self) -> None:
+        """Waits until so many mirrors as are wanted have what was changed; it would be lost with the server before."""
+        words, mirrors = self.gateway.words, self.gateway.mirrors
+        if not self.has_changed or not words.confirmed_by or mirrors is None:
+            return
+        self.has_changed = False
+        if await mirrors.have_all(words.confirmed_by, words.confirm_seconds):
+            return
+        if self.gateway.counts is not None:
+            self.gateway.counts.add("unconfirmed")
+        raise Refused(424, UNCONFIRMED.format(words.confirmed_by, words.confirm_seconds))
+
     async def replied(self, method: str, target: str, body: Spool | None, asked: Asked, links: Links, of_map: bool) -> Spool:
+        self.has_changed = self.has_changed or of_map and method != "GET"
         if of_map and self.gateway.mirrors is not None:
             reply = await self.gateway.mirrors.ask(self, method, target, body)
         else:
@@ -267,6 +287,7 @@ class Call:
                 break
         else:
             return self.answer(held)
+        await self.confirmed()
         reply = web.StreamResponse()
         reply.content_type, reply.charset = self.form.value, "utf-8"
         if self.request.method == "HEAD":

@@ -33,7 +33,7 @@ class Counts:
         keys += [("within", call, str(edge)) for call in self.calls for edge in (*BUCKETS, "+Inf")]
         keys += [("seconds", call) for call in self.calls]
         keys += [(name, server) for name in ("links", "used", "waiting", "reads") for server in self.servers]
-        keys += [("room",), ("taken",), ("lost",)]
+        keys += [("room",), ("taken",), ("lost",), ("unconfirmed",)]
         self.places = {key: place for place, key in enumerate(keys)}
         self.columns = Columns(len(keys), processes)
 
@@ -142,6 +142,8 @@ def in_use(counts: Counts) -> Iterator[str]:
     yield head("gateway_room_in_use_bytes", "gauge", "What they take now.") + row("gateway_room_in_use_bytes", counts.of("taken"))
     yield head("gateway_answers_lost_total", "counter", "Changes whose answer of a server didn't come.")
     yield row("gateway_answers_lost_total", counts.of("lost"))
+    yield head("gateway_changes_unconfirmed_total", "counter", "Changes that too few mirrors had in time.")
+    yield row("gateway_changes_unconfirmed_total", counts.of("unconfirmed"))
 
 
 def server(state: State | None) -> Iterator[str]:

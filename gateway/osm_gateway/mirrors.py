@@ -233,9 +233,27 @@ class Mirrors:
             while mirror.level <= self.floors.of(address, SEEN) and time.monotonic() < until:
                 await asyncio.sleep(QUICK)
         finally:
-            self.waiting -= 1
-            if not self.waiting:
-                self.hurry.clear()
+            self.rested()
+
+    async def have_all(self, count: int, seconds: float) -> bool:
+        """Whether so many of them have all that the server has now, within so many seconds."""
+        now = time.monotonic()
+        self.waiting += 1
+        self.hurry.set()
+        try:
+            while sum(it.level >= now for it in self.mirrors) < count:
+                if time.monotonic() > now + seconds:
+                    return False
+                await asyncio.sleep(QUICK)
+            return True
+        finally:
+            self.rested()
+
+    def rested(self) -> None:
+        """Nobody hurries for one who has waited."""
+        self.waiting -= 1
+        if not self.waiting:
+            self.hurry.clear()
 
     async def ask(self, call: Call, method: str, target: str, body: Spool | None) -> Reply:
         """Of a mirror where one may answer, else of the server. What a change reads before and behind it is the server's."""

@@ -10,7 +10,7 @@ from .links import Address
 
 USAGE = """gateway/run --server URL --users FILE [--notes URL] [--listen ADDRESS] [--host NAME].. [--public-url URL] [--data FILE] [--id FOLDER]
     [--rate N] [--guesses N] [--copyright TEXT] [--attribution URL] [--license URL] [--links N] [--room MB] [--processes N]
-    [--mirrors URL,URL..] [--metrics ADDRESS] [--quiet]"""
+    [--mirrors URL,URL.. [--confirmed-by K [--confirm-seconds S]]] [--metrics ADDRESS] [--quiet]"""
 
 
 @dataclass(frozen=True)
@@ -40,6 +40,9 @@ class Words:
     mirrors: tuple[Address, ...] = ()
     metrics: tuple[str, int] | None = None
     """Where the counts are shown."""
+    confirmed_by: int = 0
+    """How many mirrors have a change before its answer is sent."""
+    confirm_seconds: float = 30.0
 
 
 LICENCE = ("copyright", "attribution", "license")
@@ -80,6 +83,8 @@ def read_words(words: list[str] | None = None) -> Words:
     parser.add_argument("--links", type=int, default=8, metavar="N", help="links to each server, at most its workers; 8 if not said")
     parser.add_argument("--processes", type=int, default=1, metavar="N", help="processes at the address, 1 if not said; more need --data")
     parser.add_argument("--mirrors", default="", metavar="URL,URL", help="mirrors of the server, which answer reads in its place")
+    parser.add_argument("--confirmed-by", type=int, default=0, metavar="K", help="answer a change only once so many mirrors have it")
+    parser.add_argument("--confirm-seconds", type=float, default=30.0, metavar="S", help="how long they have for it, 30 seconds if not said")
     parser.add_argument("--metrics", default="", metavar="ADDRESS", help="where counts are shown to Prometheus, as 127.0.0.1:9100; else nowhere")
     parser.add_argument("--quiet", action="store_true", help="no line for each request")
     it = parser.parse_args(words)
@@ -101,11 +106,15 @@ def read_words(words: list[str] | None = None) -> Words:
         parser.error("--room takes a number from 1 to 1000000")
     if len(set(mirrors)) < len(mirrors) or server in mirrors:
         parser.error("--mirrors takes each address once, and not that of --server")
+    if not 0 <= it.confirmed_by <= len(mirrors):
+        parser.error("--confirmed-by takes a number up to that of the mirrors")
+    if not 0.1 <= it.confirm_seconds <= 250:
+        parser.error("--confirm-seconds takes a number from 0.1 to 250")
     if not 1 <= it.processes <= 64 or it.processes > 1 and not it.data:
         parser.error("--processes takes a number from 1 to 64, and from 2 on it needs --data")
     hosts = frozenset({host.lower(), name.lower(), "localhost", "127.0.0.1", "::1", *(name.lower() for name in it.host)})
     licence = tuple((name, getattr(it, name)) for name in LICENCE if getattr(it, name))
     return Words(
         server, notes, it.users, host, port, hosts, public, it.links, it.room, it.quiet, it.data, it.id, it.rate, it.guesses, licence,
-        it.processes, mirrors, metrics,
+        it.processes, mirrors, metrics, it.confirmed_by, it.confirm_seconds,
     )  # fmt: skip

@@ -22,7 +22,7 @@ from typing import Any, NamedTuple
 
 from behind import USERS, Came, Gateway, Wrong, basic, has, want
 from dropping import message
-from serving import Link, Server, connect
+from serving import Link, Lost, Server, connect
 
 CREATIONS, FEWER, CLIENTS, ADDRESSES, SEED = 2000, 200, 8, 40, 20261201
 LONGEST_LAG = 0.12
@@ -142,15 +142,17 @@ class Carried:
         self.mirror.process.wait()
 
     def carry(self) -> None:
+        """Until the end, or that of the server."""
         server, mirror, draw, number = Link(self.server, BOB), Link(self.port, BOB), random.Random(SEED), 1
-        while not self.ended.is_set():
-            piece = server.ask("GET", f"replication/{number}")
-            if piece.status != 200:
-                time.sleep(0.01)
-                continue
-            time.sleep(draw.uniform(0, LONGEST_LAG) if draw.random() < 0.1 else 0)
-            want(mirror.ask("POST", "replication", piece.body).status, 200, "a piece at the mirror")
-            number += 1
+        with contextlib.suppress(Lost):
+            while not self.ended.is_set():
+                piece = server.ask("GET", f"replication/{number}")
+                if piece.status != 200:
+                    time.sleep(0.01)
+                    continue
+                time.sleep(draw.uniform(0, LONGEST_LAG) if draw.random() < 0.1 else 0)
+                want(mirror.ask("POST", "replication", piece.body).status, 200, "a piece at the mirror")
+                number += 1
         server.close()
         mirror.close()
 
