@@ -13,5 +13,7 @@ mod Entered
 mod Alike
 mod SoFar
 mod Made
+mod Placed
+mod Rising
 mod Settled
 mod Told

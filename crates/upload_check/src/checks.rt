@@ -48,6 +48,24 @@ impl Step {
     }
 }
 
+fn node_named(name: Name) -> Named
+    ensures { result ≡ named Kind.Node name }
+{
+    Named {
+        kind: Kind::Node,
+        name,
+    }
+}
+
+fn member_named(member: &Member<Name>) -> Named
+    ensures { result ≡ named_member member.now }
+{
+    Named {
+        kind: member.kind,
+        name: member.name,
+    }
+}
+
 impl<'a> View<'a> {
     /// The place of the operation that is judged, counted from 1.
     fn place(&self) -> Option<u32>
@@ -119,25 +137,23 @@ impl<'a> View<'a> {
     fn first_missing_node(&self, nodes: &[Name]) -> Option<Named>
         ensures { result ≡ find (is_missing self.now) (map (named Kind.Node) nodes.now) }
     {
-        nodes
-            .iter()
-            .map(|name| Named {
-                kind: Kind::Node,
-                name: *name,
-            })
-            .find(|named| self.is_missing(*named))
+        for name in nodes {
+            if self.is_missing(node_named(*name)) {
+                return Some(node_named(*name));
+            }
+        }
+        None
     }
 
     fn first_missing_member(&self, members: &[Member<Name>]) -> Option<Named>
         ensures { result ≡ find (is_missing self.now) (map named_member members.now) }
     {
-        members
-            .iter()
-            .map(|member| Named {
-                kind: member.kind,
-                name: member.name,
-            })
-            .find(|named| self.is_missing(*named))
+        for member in members {
+            if self.is_missing(member_named(member)) {
+                return Some(member_named(member));
+            }
+        }
+        None
     }
 
     /// The first reference that isn't visible.

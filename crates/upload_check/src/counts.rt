@@ -31,7 +31,12 @@ pub fn increased(number: u64) -> Result<u64, Memory>
 }
 
 /// A version more of an element that stood there, which then holds what is given.
-fn revise(standings: &mut Standings, key: Key, stood: Standing, holds: Holds) -> Result<(), Memory>
+pub fn revise(
+    standings: &mut Standings,
+    key: Key,
+    stood: Standing,
+    holds: Holds,
+) -> Result<(), Memory>
     ensures revised { OnOk result ((E : Elements) → stood ≡ standing_in E standings.old key → IsRevised E key holds standings.old standings.new) }
     ensures memory { OnErr result (standings.new ≡ standings.old) }
 {

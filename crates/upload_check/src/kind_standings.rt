@@ -23,6 +23,7 @@ use std::marker::Model;
 #[derive(Drop)]
 pub struct KindStandings {
     first: u64,
+    room: usize,
     created: Vec<Standing>,
     older: BTreeMap<u64, Standing>,
 }
@@ -36,12 +37,14 @@ impl Model for KindStandings {
 }
 
 impl KindStandings {
-    /// Nothing is noted, and created elements have ids from `first` on. It takes no memory.
-    pub fn new(alloc: Global, first: u64) -> KindStandings
+    /// Nothing is noted, and created elements have ids from `first` on. The first of them takes room
+    /// for so many; this takes no memory.
+    pub fn new(alloc: Global, first: u64, room: usize) -> KindStandings
         ensures { result ≡ no_notes_from first }
     {
         KindStandings {
             first,
+            room,
             created: Vec::new(alloc),
             older: BTreeMap::new(alloc),
         }
@@ -81,7 +84,7 @@ impl KindStandings {
         if place > self.created.len() {
             return set_older(&mut self.older, id, standing);
         }
-        set_created(&mut self.created, place, standing)
+        set_created(&mut self.created, self.room, place, standing)
     }
 
     /// Notes where an element stands now of which something is noted. It takes no memory.
@@ -103,8 +106,23 @@ impl KindStandings {
     }
 }
 
+/// Room for so many in a list that has none yet, so that it doesn't grow step by step.
+fn make_room(created: &mut Vec<Standing>, room: usize) -> Result<(), Memory>
+    ensures { created.new.items ≡ created.old.items }
+{
+    if created.is_empty() {
+        created.reserve_exact(room)?;
+    }
+    Ok(())
+}
+
 /// Sets what stands at a place of a list, or adds it at the end.
-fn set_created(created: &mut Vec<Standing>, place: usize, standing: Standing) -> Result<(), Memory>
+fn set_created(
+    created: &mut Vec<Standing>,
+    room: usize,
+    place: usize,
+    standing: Standing,
+) -> Result<(), Memory>
     requires { place ≤ length created.old.items }
     ensures set { OnOk result ((i : ℕ)
         → slice_get created.new.items i ≡ (if i == place then Some standing else slice_get created.old.items i)) }
@@ -113,6 +131,7 @@ fn set_created(created: &mut Vec<Standing>, place: usize, standing: Standing) ->
     if place < created.len() {
         created[place] = standing;
     } else {
+        make_room(created, room)?;
         created.push(standing)?;
     }
     Ok(())

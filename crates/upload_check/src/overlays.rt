@@ -1,5 +1,7 @@
 //! What an upload has come to so far, beside the map of before.
-ghost use Rattle.std.specs.Prelude.{◌≡◌, ℕ, ◌<◌, ◌^◌, [], ◌∷◌, ◌++◌, List, None, length, IfOk, OnOk, OnErr};
+ghost use Rattle.std.specs.Prelude.{◌≡◌, ℕ, ◌<◌, ◌^◌, [], ◌∷◌, ◌++◌, List, None, Some, length, IfOk, IfSome, OnOk, OnErr};
+ghost use Rattle.osm_base.specs.declared.keys.Key.{Key};
+ghost use Rattle.osm_element.specs.declared.contents.Content.TheVariants as content;
 ghost use Rattle.osm_element.specs.Elements.{refs_in};
 ghost use Rattle.osm_change.specs.Keys.{ids_after};
 ghost use Rattle.osm_change.specs.declared.operations.Op.{Op};
@@ -9,18 +11,20 @@ ghost use Rattle.osm_model.specs.Fold.{start};
 ghost use Rattle.osm_world.specs.Beds.{first_ids, content_of_op};
 ghost use Rattle.osm_world.specs.World.{state_of};
 ghost use Rattle.upload_check.specs.Effects.{holds_of, HasUsers, IsApplied, IsEntered, IsFresh};
-ghost use Rattle.upload_check.specs.Overlay.{content_now, sight, standing, touched_now, StandsAlike, StandsFor};
+ghost use Rattle.upload_check.specs.Overlay.{content_now, sight, standing, touched_now, Sight, StandsAlike, StandsFor};
 
 use crate::checks::Step;
-use crate::counts::make;
+use crate::counts::{make, revise};
+use crate::creations::Creations;
+use crate::orders::in_order;
 use crate::references::add_given;
 use crate::sights::View;
 use crate::standings::{Holds, Standing, Standings};
 use changeset_core::join_boxes;
-use osm_base::{Box7, Key, Kind, Memory};
+use osm_base::{Box7, Coord, Key, Kind, Memory};
 use osm_change::{FirstIds, Op};
+use osm_element::Content;
 use osm_world::World;
-use rising_lists::keys_sorted_once;
 use std::alloc::Global;
 use std::marker::Model;
 use std::mem;
@@ -47,20 +51,20 @@ impl Model for Overlay {
 }
 
 impl Overlay {
-    /// The start of an upload of so many operations.
-    pub fn new(alloc: Global, world: &World, operations: usize) -> Result<Overlay, Memory>
+    /// The start of an upload of some operations.
+    pub fn new(alloc: Global, world: &World, operations: &[Op]) -> Result<Overlay, Memory>
         ensures start { IfOk result
             (λ over. (ops : List Op) → StandsFor (sight (state_of world.now).elements ops over) (start (state_of world.now).elements)) }
         ensures keys { IfOk result (λ over. over.keys ≡ []) }
         ensures next { IfOk result (λ over. over.next ≡ first_ids (state_of world.now).elements) }
         ensures few { IfOk result (λ over. (n : ℕ) → n < 2 ^ 32 → HasNumbers over.next n) }
     {
-        let keys = Vec::with_capacity(alloc, operations)?;
+        let keys = Vec::with_capacity(alloc, operations.len())?;
         let next = first_ids(world);
         Ok(Overlay {
             keys,
             next,
-            standings: Standings::new(alloc, next),
+            standings: Standings::new(alloc, next, Creations::of(operations)),
             touched: None,
             ended: Vec::new(alloc),
             begun: Vec::new(alloc),
@@ -113,10 +117,12 @@ impl Overlay {
         ensures entered { OnOk result (IsEntered (sight (state_of world.now).elements operations.now self.old) operation.now step self.new) }
         ensures memory { OnErr result (StandsAlike (state_of world.now).elements self.old self.new) }
     {
-        if step.applies {
-            self.apply(alloc, world, operations, operation, step.key, stood)
-        } else {
-            self.skip(operation, step.key)
+        if !step.applies {
+            return self.skip(operation, step.key);
+        }
+        match place_created(operation) {
+            Some(at) => self.place(world, operations, operation, at, step.key, stood),
+            None => self.apply(alloc, world, operations, operation, step.key, stood),
         }
     }
 
@@ -128,6 +134,37 @@ impl Overlay {
         let next = self.next.after(operation)?;
         self.keys.push(key)?;
         self.next = next;
+        Ok(())
+    }
+
+    /// Enters an operation that creates a node, which lists nothing before it and nothing after it: what
+    /// it touches is the node's place. It comes to the same as `apply`.
+    fn place(
+        &mut self,
+        world: &World,
+        operations: &[Op],
+        operation: &Op,
+        at: Coord,
+        key: Key,
+        stood: Standing,
+    ) -> Result<(), Memory>
+        requires few { length self.old.keys < 2 ^ 32 }
+        requires before { content_now (sight (state_of world.now).elements operations.now self.old) key ≡ None }
+        requires given { content_of_op self.old.keys operation.now ≡ Some (content.Node at) }
+        requires stood { stood ≡ standing (sight (state_of world.now).elements operations.now self.old) key }
+        ensures keys { OnOk result (self.new.keys ≡ self.old.keys ++ key ∷ []) }
+        ensures next { OnOk result (self.new.next ≡ ids_after self.old.next operation.now) }
+        ensures notes { OnOk result (IsApplied (sight (state_of world.now).elements operations.now self.old) operation.now key self.new.notes) }
+        ensures touched { OnOk result (self.new.touched ≡ join_areas self.old.touched (touched_now (sight (state_of world.now).elements operations.now self.old) key (content_of_op self.old.keys operation.now))) }
+        ensures memory { OnErr result (StandsAlike (state_of world.now).elements self.old self.new) }
+    {
+        let next = self.next.after(operation)?;
+        let holds = holds_of(self.keys().len() as u32, operation);
+        self.keys.reserve(1)?;
+        revise(&mut self.standings, key, stood, holds)?;
+        self.keys.push_reserved(key);
+        self.next = next;
+        self.touched = join_boxes(self.touched, Some(Box7::at(at)));
         Ok(())
     }
 
@@ -170,8 +207,8 @@ impl Overlay {
         );
         let holds = holds_of(self.keys().len() as u32, operation);
         self.keys.reserve(1)?;
-        let ended = keys_sorted_once(ended);
-        let begun = keys_sorted_once(begun);
+        let ended = in_order(ended);
+        let begun = in_order(begun);
         make(
             world,
             &mut self.standings,
@@ -226,6 +263,20 @@ impl Overlay {
         listed.clear();
         add_given(self.keys.as_slice(), operation, &mut listed)?;
         Ok(listed)
+    }
+}
+
+/// The place of a node that an operation creates.
+fn place_created(operation: &Op) -> Option<Coord>
+    ensures before { IfSome result (λ at. (s : Sight) (k : Key) → IsFresh s operation.now k → content_now s k ≡ None) }
+    ensures given { IfSome result (λ at. (ks : List Key) → content_of_op ks operation.now ≡ Some (content.Node at)) }
+{
+    match operation {
+        Op::Create { content, .. } => match content {
+            Content::Node(at) => Some(*at),
+            _ => None,
+        },
+        _ => None,
     }
 }
 

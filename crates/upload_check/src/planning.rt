@@ -76,7 +76,7 @@ pub fn judge_change<W: Witness, L: Ledger>(
     ensures bound { steps.new ≤ steps.old + length change.now }
 {
     let operations = change.operations();
-    let mut over = Overlay::new(alloc, world, operations.len())?;
+    let mut over = Overlay::new(alloc, world, operations)?;
     find_out(alloc, world, &mut over, change, witness, steps)
 }
 

@@ -1,7 +1,7 @@
 //! What contents list.
 //!
 //! References are sorted in a list that is kept from one operation to the next, so an operation
-//! makes no list of names.
+//! makes no list of names. Where that list is too short, it takes room for all that a content lists.
 ghost use Rattle.std.specs.Prelude.{◌≡◌, ◌++◌, map, OnOk};
 ghost use Rattle.std.specs.List.{list_any};
 ghost use Rattle.osm_base.specs.Key.{key_eq, lists_key};
@@ -65,6 +65,7 @@ pub fn op_lists(keys: &[Key], operation: &Op, used: Key) -> bool
 fn add_nodes(keys: &[Key], nodes: &[Name], listed: &mut Vec<Key>) -> Result<(), Memory>
     ensures { OnOk result (listed.new.items ≡ listed.old.items ++ map (λ name. key Kind.Node (id_of keys.now name)) nodes.now) }
 {
+    listed.reserve(nodes.len())?;
     for name in nodes {
         listed.push(name.key(Kind::Node, keys))?;
     }
@@ -74,6 +75,7 @@ fn add_nodes(keys: &[Key], nodes: &[Name], listed: &mut Vec<Key>) -> Result<(), 
 fn add_members(keys: &[Key], members: &[Member<Name>], listed: &mut Vec<Key>) -> Result<(), Memory>
     ensures { OnOk result (listed.new.items ≡ listed.old.items ++ map (λ m. key m.kind (id_of keys.now m.name)) members.now) }
 {
+    listed.reserve(members.len())?;
     for member in members {
         listed.push(member.name.key(member.kind, keys))?;
     }
@@ -106,6 +108,7 @@ pub fn add_given(keys: &[Key], operation: &Op, listed: &mut Vec<Key>) -> Result<
 fn add_node_ids(nodes: &[u64], listed: &mut Vec<Key>) -> Result<(), Memory>
     ensures { OnOk result (listed.new.items ≡ listed.old.items ++ map (key Kind.Node) nodes.now) }
 {
+    listed.reserve(nodes.len())?;
     for id in nodes {
         let node = Key {
             kind: Kind::Node,
@@ -119,6 +122,7 @@ fn add_node_ids(nodes: &[u64], listed: &mut Vec<Key>) -> Result<(), Memory>
 fn add_member_ids(members: &[Member<u64>], listed: &mut Vec<Key>) -> Result<(), Memory>
     ensures { OnOk result (listed.new.items ≡ listed.old.items ++ map key_of_member members.now) }
 {
+    listed.reserve(members.len())?;
     for member in members {
         listed.push(member.key())?;
     }

@@ -220,6 +220,9 @@ pub fn shift_all(
     ensures stay { OnErr result (StayNoted standings.old standings.new) }
     ensures memory { OnErr result (AreAsBefore (state_of world.now).elements standings.old standings.new) }
 {
+    if listed.is_empty() {
+        return Ok(());
+    }
     match shift_each(world, standings, user, listed, left, shift) {
         Ok(()) => Ok(()),
         Err(place) => {

@@ -4,6 +4,7 @@ ghost use Rattle.osm_base.specs.Key.{key_eq};
 ghost use Rattle.osm_base.specs.declared.keys.Key.{Key};
 ghost use Rattle.upload_check.specs.Overlay.{noted, IsNoted};
 
+use crate::creations::Creations;
 use crate::kind_standings::KindStandings;
 use osm_base::{Key, Kind, Memory};
 use osm_change::FirstIds;
@@ -48,14 +49,15 @@ impl Model for Standings {
 }
 
 impl Standings {
-    /// Nothing is noted, and created elements have ids from `first` on. It takes no memory.
-    pub fn new(alloc: Global, first: FirstIds) -> Standings
+    /// Nothing is noted, and created elements have ids from `first` on. The first of each kind takes
+    /// room for all of them; this takes no memory.
+    pub fn new(alloc: Global, first: FirstIds, creations: Creations) -> Standings
         ensures { (k : Key) → noted result k ≡ None }
     {
         Standings {
-            nodes: KindStandings::new(alloc, first.node),
-            ways: KindStandings::new(alloc, first.way),
-            relations: KindStandings::new(alloc, first.relation),
+            nodes: KindStandings::new(alloc, first.node, creations.nodes),
+            ways: KindStandings::new(alloc, first.way, creations.ways),
+            relations: KindStandings::new(alloc, first.relation, creations.relations),
         }
     }
 
