@@ -1,14 +1,16 @@
 //! The box of what an operation touches, on the map as those before it left it.
-ghost use Rattle.std.specs.Prelude.{◌≡◌, List, ◌∷◌, ◌++◌, None, false, if◌then◌else◌, filter_map, option_to_list, slice_get};
+ghost use Rattle.std.specs.Prelude.{◌≡◌, List, [], ◌∷◌, ◌++◌, None, Some, IfSome, false, if◌then◌else◌, filter_map, option_copied, option_to_list, slice_get};
 ghost use Rattle.std.specs.Option.{option_map_or};
 ghost use Rattle.osm_base.specs.Key.{key_eq};
 ghost use Rattle.osm_base.specs.declared.keys.Key.{Key};
+ghost use Rattle.osm_element.specs.Elements.{refs_in};
+ghost use Rattle.osm_element.specs.declared.contents.Content.TheVariants as content;
 ghost use Rattle.changeset_core.specs.Changeset.{new_position, widen_all};
 ghost use Rattle.osm_world.specs.Beds.{content_of_op};
 ghost use Rattle.upload_check.specs.Effects.{IsFresh};
-ghost use Rattle.upload_check.specs.Overlay.{position_now, standing};
+ghost use Rattle.upload_check.specs.Overlay.{content_now, position_now, standing};
 
-use crate::sights::View;
+use crate::sights::{View, stored};
 use crate::standings::Holds;
 use osm_base::{Box7, Coord, Key};
 use osm_change::Op;
@@ -38,6 +40,38 @@ fn with_place(area: Option<Box7>, place: Option<Coord>) -> Option<Box7>
     }
 }
 
+/// Where an element lay before an operation, if it was a visible node, and where it lies as the node
+/// that it is then. It listed nothing, and lists nothing.
+#[derive(Clone, Copy)]
+pub struct Moved {
+    pub from: Option<Coord>,
+    pub to: Coord,
+}
+
+impl Moved {
+    /// The least box of both places.
+    pub fn touched(self) -> Option<Box7>
+        ensures { result ≡ widen_all (widen_all None (option_to_list self.from)) (option_to_list (Some self.to)) }
+    {
+        with_place(with_place(None, self.from), Some(self.to))
+    }
+}
+
+/// What a content that an operation replaces is moved from, if it is a node's.
+fn moved_from(content: Option<&Content<u64>>, to: Coord) -> Option<Moved>
+    ensures listed { IfSome result (λ moved. refs_in (option_copied content.entry) ≡ []) }
+    ensures from { IfSome result (λ moved. moved.from ≡ new_position (option_copied content.entry)) }
+    ensures to { IfSome result (λ moved. moved.to ≡ to) }
+{
+    match content {
+        Some(Content::Node(from)) => Some(Moved {
+            from: Some(*from),
+            to,
+        }),
+        _ => None,
+    }
+}
+
 /// Whether a list has this element at a place.
 fn has_at(keys: &[Key], place: usize, key: Key) -> bool
     ensures { result ≡ option_map_or (λ k. key_eq k key) (slice_get keys.now place) false }
@@ -61,6 +95,39 @@ impl<'a> View<'a> {
                 Some(operation) => place_given(operation),
                 None => None,
             },
+        }
+    }
+
+    /// What a node's content that stands there is moved from by an operation.
+    fn moved_to(&self, key: Key, holds: Holds, to: Coord) -> Option<Moved>
+        requires { holds ≡ (standing self.now key).holds }
+        ensures listed { IfSome result (λ moved. refs_in (content_now self.now key) ≡ []) }
+        ensures from { IfSome result (λ moved. moved.from ≡ position_now self.now key) }
+        ensures to { IfSome result (λ moved. moved.to ≡ to) }
+    {
+        match holds {
+            Holds::AsBefore => moved_from(stored(self.world, key), to),
+            _ => None,
+        }
+    }
+
+    /// Where the element of an operation lies before and after it, if the operation creates a node, or
+    /// moves one that was there before the upload. It is looked up once.
+    #[tactic(auto, using(crate::proofs::Placed::node_there))]
+    pub fn moved(&self, operation: &Op, key: Key, holds: Holds) -> Option<Moved>
+        requires fresh { IsFresh self.now operation.now key }
+        requires holds { holds ≡ (standing self.now key).holds }
+        ensures listed { IfSome result (λ moved. refs_in (content_now self.now key) ≡ []) }
+        ensures from { IfSome result (λ moved. moved.from ≡ position_now self.now key) }
+        ensures to { IfSome result (λ moved. (ks : List Key) → content_of_op ks operation.now ≡ Some (content.Node moved.to)) }
+    {
+        let Some(to) = place_given(operation) else {
+            return None;
+        };
+        match operation {
+            Op::Create { .. } => Some(Moved { from: None, to }),
+            Op::Modify { .. } => self.moved_to(key, holds, to),
+            Op::Delete { .. } => None,
         }
     }
 

@@ -1,6 +1,5 @@
 //! What an upload has come to so far, beside the map of before.
-ghost use Rattle.std.specs.Prelude.{◌≡◌, ℕ, ◌<◌, ◌^◌, [], ◌∷◌, ◌++◌, List, None, Some, length, IfOk, IfSome, OnOk, OnErr};
-ghost use Rattle.osm_base.specs.declared.keys.Key.{Key};
+ghost use Rattle.std.specs.Prelude.{◌≡◌, ℕ, ◌<◌, ◌^◌, [], ◌∷◌, ◌++◌, List, None, Some, length, IfOk, OnOk, OnErr};
 ghost use Rattle.osm_element.specs.declared.contents.Content.TheVariants as content;
 ghost use Rattle.osm_element.specs.Elements.{refs_in};
 ghost use Rattle.osm_change.specs.Keys.{ids_after};
@@ -11,8 +10,9 @@ ghost use Rattle.osm_model.specs.Fold.{start};
 ghost use Rattle.osm_world.specs.Beds.{first_ids, content_of_op};
 ghost use Rattle.osm_world.specs.World.{state_of};
 ghost use Rattle.upload_check.specs.Effects.{holds_of, HasUsers, IsApplied, IsEntered, IsFresh};
-ghost use Rattle.upload_check.specs.Overlay.{content_now, sight, standing, touched_now, Sight, StandsAlike, StandsFor};
+ghost use Rattle.upload_check.specs.Overlay.{content_now, position_now, sight, standing, touched_now, StandsAlike, StandsFor};
 
+use crate::boxes::Moved;
 use crate::checks::Step;
 use crate::counts::{make, revise};
 use crate::creations::Creations;
@@ -21,9 +21,8 @@ use crate::references::add_given;
 use crate::sights::View;
 use crate::standings::{Holds, Standing, Standings};
 use changeset_core::join_boxes;
-use osm_base::{Box7, Coord, Key, Kind, Memory};
+use osm_base::{Box7, Key, Kind, Memory};
 use osm_change::{FirstIds, Op};
-use osm_element::Content;
 use osm_world::World;
 use std::alloc::Global;
 use std::marker::Model;
@@ -120,8 +119,14 @@ impl Overlay {
         if !step.applies {
             return self.skip(operation, step.key);
         }
-        match place_created(operation) {
-            Some(at) => self.place(world, operations, operation, at, step.key, stood),
+        let moved = View {
+            world,
+            operations,
+            over: self,
+        }
+        .moved(operation, step.key, stood.holds);
+        match moved {
+            Some(moved) => self.place(world, operations, operation, moved, step.key, stood),
             None => self.apply(alloc, world, operations, operation, step.key, stood),
         }
     }
@@ -137,20 +142,22 @@ impl Overlay {
         Ok(())
     }
 
-    /// Enters an operation that creates a node, which lists nothing before it and nothing after it: what
-    /// it touches is the node's place. It comes to the same as `apply`.
+    /// Enters an operation that creates or moves a node, which lists nothing before it and nothing after
+    /// it: what it touches is the node's places. It comes to the same as `apply`.
+    #[tactic(auto, using(crate::proofs::Placed::touched_placed))]
     fn place(
         &mut self,
         world: &World,
         operations: &[Op],
         operation: &Op,
-        at: Coord,
+        moved: Moved,
         key: Key,
         stood: Standing,
     ) -> Result<(), Memory>
         requires few { length self.old.keys < 2 ^ 32 }
-        requires before { content_now (sight (state_of world.now).elements operations.now self.old) key ≡ None }
-        requires given { content_of_op self.old.keys operation.now ≡ Some (content.Node at) }
+        requires listed { refs_in (content_now (sight (state_of world.now).elements operations.now self.old) key) ≡ [] }
+        requires from { moved.from ≡ position_now (sight (state_of world.now).elements operations.now self.old) key }
+        requires to { content_of_op self.old.keys operation.now ≡ Some (content.Node moved.to) }
         requires stood { stood ≡ standing (sight (state_of world.now).elements operations.now self.old) key }
         ensures keys { OnOk result (self.new.keys ≡ self.old.keys ++ key ∷ []) }
         ensures next { OnOk result (self.new.next ≡ ids_after self.old.next operation.now) }
@@ -164,7 +171,7 @@ impl Overlay {
         revise(&mut self.standings, key, stood, holds)?;
         self.keys.push_reserved(key);
         self.next = next;
-        self.touched = join_boxes(self.touched, Some(Box7::at(at)));
+        self.touched = join_boxes(self.touched, moved.touched());
         Ok(())
     }
 
@@ -263,20 +270,6 @@ impl Overlay {
         listed.clear();
         add_given(self.keys.as_slice(), operation, &mut listed)?;
         Ok(listed)
-    }
-}
-
-/// The place of a node that an operation creates.
-fn place_created(operation: &Op) -> Option<Coord>
-    ensures before { IfSome result (λ at. (s : Sight) (k : Key) → IsFresh s operation.now k → content_now s k ≡ None) }
-    ensures given { IfSome result (λ at. (ks : List Key) → content_of_op ks operation.now ≡ Some (content.Node at)) }
-{
-    match operation {
-        Op::Create { content, .. } => match content {
-            Content::Node(at) => Some(*at),
-            _ => None,
-        },
-        _ => None,
     }
 }
 

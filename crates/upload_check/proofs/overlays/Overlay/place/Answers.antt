@@ -10,9 +10,9 @@ pub returns-clause-notes : goal.returns-clause-notes
 returns-clause-notes c =
     let E = (state_of c.args.world.now).elements in
     let same = ap (λ (o : Overlaid). o.notes) c.self.view_is in
-    applied_placed (sight E c.args.operations.now c.args.self.now) c.args.operation.now c.args.key c.args.at c.holds_of-holds.result c.revise.new.standings
-    c.requires.before
-    c.requires.given
+    applied_placed (sight E c.args.operations.now c.args.self.now) c.args.operation.now c.args.key c.args.moved.to c.holds_of-holds.result c.revise.new.standings
+    c.requires.listed
+    c.requires.to
     (c.holds_of-holds.ensures ∙ ap (λ (ks : List Key). holds_of (length ks) c.args.operation.now) c.keys.ensures)
     (subst (λ (n : Notes). IsRevised E c.args.key c.holds_of-holds.result n c.revise.new.standings) same
     (c.in_ok-revise.ensures.revised E (c.requires.stood ∙ ap (λ (n : Notes). standing_in E n c.args.key) (sym same))))
