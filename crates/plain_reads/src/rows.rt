@@ -21,12 +21,7 @@ fn element_row(state: &State, shown: VersionId) -> Option<ElementRow<'_>>
     let Some(kept) = state.changeset(version.changeset()) else {
         return None;
     };
-    Some(ElementRow::of(
-        shown.key,
-        shown.number,
-        version,
-        &kept.owner,
-    ))
+    Some(ElementRow::of(shown.key, shown.number, version, &kept.owner))
 }
 
 /// Adds the row of a version, if there is one.
