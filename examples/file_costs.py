@@ -19,14 +19,15 @@ import signal
 import sys
 import tempfile
 import time
+from functools import partial
 
 import osm_file
 import same_osm
 import serving
 from export_osm import Box, box_of, degrees
 from map_client import Element, Key, references
-from round_trip import USERS, Wrong, lines_with, run, start, url
-from serving import Server
+from round_trip import USERS, lines_with, run, start, url
+from serving import Server, Wrong, trial_status
 
 Map = dict[Key, Element]
 
@@ -106,6 +107,16 @@ def broken_off(server: Server, links: int, path: str, uploads: int) -> None:
     check_export(server, "written back", osm_file.read(path), f"{path}.again.osm.pbf")
 
 
+def tried(it: argparse.Namespace, links: list[int], number: int) -> None:
+    """Loads over so many links, or breaks off where it is none."""
+    with tempfile.TemporaryDirectory() as folder, Server(it.program, it.workers, USERS) as server:
+        path = shutil.copy(it.file, os.path.join(folder, os.path.basename(it.file)))
+        if number:
+            loaded(server, number, path, it.box)
+        else:
+            broken_off(server, links[-1], path, uploads=15)
+
+
 def main() -> int:
     parser = argparse.ArgumentParser(usage=(__doc__ or "").split("\n\n")[0].partition(": ")[2])
     parser.add_argument("--program", default=serving.OSM)
@@ -115,18 +126,7 @@ def main() -> int:
     parser.add_argument("file")
     it = parser.parse_args()
     links = [int(number) for number in it.links.split(",")]
-    for number in (*links, 0):
-        with tempfile.TemporaryDirectory() as folder, Server(it.program, it.workers, USERS) as server:
-            path = shutil.copy(it.file, os.path.join(folder, os.path.basename(it.file)))
-            try:
-                if number:
-                    loaded(server, number, path, it.box)
-                else:
-                    broken_off(server, links[-1], path, uploads=15)
-            except Wrong as why:
-                print(f"wrong: {why}")
-                return 1
-    return 0
+    return next(filter(None, (trial_status(partial(tried, it, links, number)) for number in (*links, 0))), 0)
 
 
 if __name__ == "__main__":

@@ -25,6 +25,7 @@ import tempfile
 import threading
 import time
 from collections.abc import Callable
+from functools import partial
 from typing import BinaryIO
 from xml.sax.saxutils import quoteattr
 
@@ -33,15 +34,11 @@ import osm_file
 import same_osm
 import serving
 from map_client import KINDS, Client, Element, Key, key
-from serving import Server
+from serving import Server, Wrong, trial_status
 
 HERE = os.path.dirname(os.path.abspath(__file__))
 USERS = "1 alicetoken user alice\n2 bobtoken user bob\n"
 SMALL_BOX, LARGE_BOX = "-30.1,44.9,-29.9,45.1", "-31,44,-29,46"
-
-
-class Wrong(Exception):
-    """A part that isn't as it must be."""
 
 
 def start(name: str, *words: str) -> subprocess.Popen[str]:
@@ -283,6 +280,15 @@ def met(server: Server, town: str, folder: str) -> None:
 PARTS = {it.__name__: it for it in (apart, whole, drawn, killed, lost, changed, met)}
 
 
+def tried(it: argparse.Namespace, name: str) -> None:
+    begun = time.monotonic()
+    with tempfile.TemporaryDirectory() as folder, Server(it.program, 4, USERS) as server:
+        town = os.path.join(folder, "town.osm.pbf")
+        count = run("town.py", "--blocks", str(it.blocks), town).split()[1]
+        PARTS[name](server, town, folder)
+    print(f"{name}: {count} elements, as they must be ({time.monotonic() - begun:.1f} s)")
+
+
 def main() -> int:
     parser = argparse.ArgumentParser(usage=(__doc__ or "").split("\n\n")[0].partition(": ")[2])
     parser.add_argument("--program", default=serving.OSM)
@@ -291,19 +297,7 @@ def main() -> int:
     it = parser.parse_args()
     if not PARTS.keys() >= set(it.parts):
         parser.error(f"the parts are {', '.join(PARTS)}")
-    faults = 0
-    for name in it.parts or PARTS:
-        begun = time.monotonic()
-        with tempfile.TemporaryDirectory() as folder, Server(it.program, 4, USERS) as server:
-            town = os.path.join(folder, "town.osm.pbf")
-            try:
-                count = run("town.py", "--blocks", str(it.blocks), town).split()[1]
-                PARTS[name](server, town, folder)
-                print(f"{name}: {count} elements, as they must be ({time.monotonic() - begun:.1f} s)")
-            except Wrong as why:
-                print(f"{name}: wrong: {why}")
-                faults += 1
-    return 1 if faults else 0
+    return max([trial_status(partial(tried, it, name), name) for name in it.parts or PARTS])
 
 
 if __name__ == "__main__":

@@ -46,11 +46,16 @@ def connect(port: int, wait: float = 120) -> socket.socket:
     return stream
 
 
+HELD: list[socket.socket] = []
+
+
 def free_port() -> int:
-    with socket.socket() as free:
-        free.bind(("127.0.0.1", 0))
-        port: int = free.getsockname()[1]
-    return port
+    """A port that nobody else is given while this program runs: a socket has it, beside which a server that is told this port may listen."""
+    held = socket.socket()
+    held.setsockopt(socket.SOL_SOCKET, socket.SO_REUSEADDR, 1)
+    held.bind(("127.0.0.1", 0))
+    HELD.append(held)
+    return int(held.getsockname()[1])
 
 
 class Replies:
@@ -101,6 +106,20 @@ class Link:
         if self.stream is not None:
             self.stream.close()
             self.stream = None
+
+
+class Wrong(Exception):
+    """What isn't as it should be."""
+
+
+def trial_status(play: Callable[[], object], name: str = "") -> int:
+    """The status that a trial ends with: 1 where something is wrong, which is told behind its name."""
+    try:
+        play()
+    except Wrong as why:
+        print(f"{name}: wrong: {why}" if name else f"wrong: {why}", flush=True)
+        return 1
+    return 0
 
 
 def tell_faults(faults: Sequence[str], most: int = 20) -> int:

@@ -38,7 +38,7 @@ from collections.abc import Callable, Iterator
 from contextlib import contextmanager
 from typing import Any, NamedTuple
 
-from serving import Lost, Replies, Reply, connect, free_port, request
+from serving import Lost, Replies, Reply, Wrong, connect, free_port, request
 
 HERE = os.path.dirname(os.path.abspath(__file__))
 USERS = b"1 alicetoken user alice\n2 bobtoken moderator bob\n"
@@ -137,10 +137,6 @@ def load() -> list[bytes]:
 
 
 # ---- the program, with a request for memory refused
-
-
-class Wrong(Exception):
-    """What no run may come to."""
 
 
 class OneThread(Exception):

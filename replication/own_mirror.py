@@ -31,10 +31,12 @@ def end_with_parent() -> None:
     os.umask(0o077)
 
 
-def free_port() -> int:
-    with socket.socket() as free:
-        free.bind(("127.0.0.1", 0))
-        return int(free.getsockname()[1])
+def held_port() -> socket.socket:
+    """Has a free port, so that nobody else is given it; a mirror that is told this port may listen beside."""
+    held = socket.socket()
+    held.setsockopt(socket.SOL_SOCKET, socket.SO_REUSEADDR, 1)
+    held.bind(("127.0.0.1", 0))
+    return held
 
 
 class OwnMirror:
@@ -46,7 +48,8 @@ class OwnMirror:
 
     def __init__(self, words: Sequence[str], journal: str | None) -> None:
         self.length, self.journal = 0, journal
-        port, token = free_port(), secrets.token_hex(16)
+        self.held, token = held_port(), secrets.token_hex(16)
+        port = self.held.getsockname()[1]
         self.site = Site(f"http://127.0.0.1:{port}", token)
         with tempfile.TemporaryDirectory() as folder:
             users = os.path.join(folder, "users.txt")
@@ -115,3 +118,4 @@ class OwnMirror:
         except subprocess.TimeoutExpired:
             self.process.kill()
             self.process.wait()
+        self.held.close()

@@ -22,6 +22,7 @@ import tempfile
 import time
 from collections.abc import Iterator
 from contextlib import contextmanager
+from functools import partial
 from typing import Any
 
 HERE = os.path.dirname(os.path.abspath(__file__))
@@ -29,17 +30,13 @@ TOP = os.path.join(HERE, "..", "..")
 sys.path.insert(0, os.path.join(HERE, ".."))
 
 from nginx import MAIN, words_of
-from serving import Replies, Server, Unanswered, connect, free_port, request, takes_links, wait_for_answer
+from serving import Replies, Server, Unanswered, Wrong, connect, free_port, trial_status, request, takes_links, wait_for_answer
 
 NAME = "map.example.org"
 USERS = "1 alicetoken user alice\n"
 WORKERS = 4
 MOST = 33554432
 NODES = 9000
-
-
-class Wrong(Exception):
-    """What isn't as it should be."""
 
 
 def want(what: str, wanted: object, came: object) -> None:
@@ -246,22 +243,20 @@ def figures(it: Front, seconds: int) -> None:
             print(f"{what}, through nginx and TLS, {links} links: {wrk(f'{through}/{path}', links, seconds)}")
 
 
+def tried(it: argparse.Namespace) -> None:
+    with front(it.program, WORKERS, 1) as found:
+        for part in (calls, limits, requests_and_links, slow_clients, small_replies):
+            print(part(found), flush=True)
+    if it.seconds:
+        with front(it.program, 64, 8) as found:
+            figures(found, it.seconds)
+
+
 def main() -> int:
     parser = argparse.ArgumentParser(usage=(__doc__ or "").split("\n\n")[0].partition(": ")[2])
     parser.add_argument("--program", default=os.path.join(TOP, "crates", "osm", "out", "osm"))
     parser.add_argument("--seconds", type=int, default=0)
-    it = parser.parse_args()
-    try:
-        with front(it.program, WORKERS, 1) as found:
-            for part in (calls, limits, requests_and_links, slow_clients, small_replies):
-                print(part(found), flush=True)
-        if it.seconds:
-            with front(it.program, 64, 8) as found:
-                figures(found, it.seconds)
-    except Wrong as why:
-        print(f"wrong: {why}")
-        return 1
-    return 0
+    return trial_status(partial(tried, parser.parse_args()))
 
 
 if __name__ == "__main__":

@@ -34,9 +34,9 @@ from typing import Any
 import scripts
 from engine import open_engine
 from levels import PAUSE, Readers, empty_without, lines_of, wait_for, wait_until_read
-from running import ENGINES, HERE, USERS, Front, Process, Redis, Watch, Wrong
+from running import ENGINES, HERE, USERS, Front, Process, Redis, Watch
 from running import new_mirror, number, same_reads, script, url, wait_until, with_token
-from serving import Link, Server, free_port
+from serving import Link, Server, Wrong, free_port, trial_status
 
 TOP = os.path.join(HERE, "..", "..")
 SERVER_WORKERS = 12
@@ -349,6 +349,13 @@ def check_end(process: Process, text: str, wanted: int = 3) -> None:
         raise Wrong(f"{' '.join(process.words[1:3])} ended with status {status}: {process.said}")
 
 
+def tried(words: argparse.Namespace) -> None:
+    with tempfile.TemporaryDirectory() as folder, ExitStack() as stack:
+        fleet = Fleet(words, folder, stack)
+        for name in words.part or PARTS:
+            globals()[name](fleet, words)
+
+
 def main() -> int:
     parser = argparse.ArgumentParser(usage=scripts.usage(__doc__))
     parser.add_argument("--program", default=os.path.join(TOP, "crates/osm/out/osm"))
@@ -358,16 +365,7 @@ def main() -> int:
     parser.add_argument("--news", type=int, default=100)
     parser.add_argument("--seconds", type=int, default=5)
     parser.add_argument("part", nargs="*", choices=[[], *PARTS], default=[])
-    words = parser.parse_args()
-    with tempfile.TemporaryDirectory() as folder, ExitStack() as stack:
-        try:
-            fleet = Fleet(words, folder, stack)
-            for name in words.part or PARTS:
-                globals()[name](fleet, words)
-        except Wrong as why:
-            print(f"wrong: {why}")
-            return 1
-    return 0
+    return trial_status(partial(tried, parser.parse_args()))
 
 
 if __name__ == "__main__":

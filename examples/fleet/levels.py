@@ -7,8 +7,8 @@ import threading
 import time
 from collections.abc import Callable
 
-from running import Front, Wrong
-from serving import Lost, Replies, request
+from running import Front
+from serving import Lost, Replies, Wrong, request
 
 READERS = 40  # addresses of the loopback from which is read
 SECONDS = 10  # for an answer: a read that nginx sent to a server that is stopped has none

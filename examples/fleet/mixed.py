@@ -15,12 +15,14 @@ import socket
 import sys
 import threading
 from collections.abc import Callable
+from functools import partial
 
 import scripts
 from feed import Feed, OtherJournal, Taken
 from kept_link import Lost
 from mirror import Mirror
-from running import Wrong, url
+from running import url
+from serving import Wrong, trial_status
 
 Journal = list[bytes]
 Answer = tuple[int, dict[str, object] | bytes]
@@ -137,47 +139,54 @@ class Kept:
         return self.pieces[number - 1]
 
 
-def mirror(drawn: random.Random) -> None:
-    """A mirror that is started anew at some requests: empty, or with a beginning of another journal."""
-    same = drawn.choice([0, 0, 1, 3])
-    whole, other = journal("old", 200, same), journal("new", 200, same)
-    has: Journal = drawn.choice([[], whole[: drawn.randint(0, 50)]])
+class Folding:
+    """A mirror of the worst kind, which at some requests is started anew: empty, or with a beginning of another journal."""
 
-    def answer(method: str, path: str, body: bytes) -> Answer:
-        nonlocal has
-        if drawn.random() < 0.01:
-            has = drawn.choice([[], other[: drawn.randint(1, 150)], whole[: drawn.randint(1, 150)]])
-            site.end_links()
+    def __init__(self, drawn: random.Random) -> None:
+        same = drawn.choice([0, 0, 1, 3])
+        self.drawn, self.whole, self.other = drawn, journal("old", 200, same), journal("new", 200, same)
+        self.has: Journal = drawn.choice([[], self.whole[: drawn.randint(0, 50)]])
+        self.wrong: list[int] = []
+        self.site = Site(self.answer, drawn)
+
+    def answer(self, method: str, _: str, body: bytes) -> Answer:
+        if self.drawn.random() < 0.01:
+            self.has = self.drawn.choice([[], self.other[: self.drawn.randint(1, 150)], self.whole[: self.drawn.randint(1, 150)]])
+            self.site.end_links()
             return 503, {"error": "memory"}
         if method == "GET":
-            return 200, {"sequenceNumber": len(has)}
-        number = int(json.loads(body)["number"])
-        if number <= len(has):
-            return (
-                (200, {"next": len(has) + 1, "taken": "old"}) if has[number - 1] == body else (409, {"error": "differs", "number": number})
-            )
-        if number > len(has) + 1:
-            return 409, {"error": "gap", "next": len(has) + 1, "number": number}
-        has = [*has, body]
-        if not is_beginning(has, whole, other):
-            wrong.append(number)
+            return 200, {"sequenceNumber": len(self.has)}
+        return self.taken(int(json.loads(body)["number"]), body)
+
+    def taken(self, number: int, body: bytes) -> Answer:
+        there = len(self.has)
+        if number > there + 1:
+            return 409, {"error": "gap", "next": there + 1, "number": number}
+        if number <= there:
+            is_same = self.has[number - 1] == body
+            return (200, {"next": there + 1, "taken": "old"}) if is_same else (409, {"error": "differs", "number": number})
+        self.has = [*self.has, body]
+        if not is_beginning(self.has, self.whole, self.other):
+            self.wrong.append(number)
         return 200, {"next": number + 1, "taken": "folded"}
 
-    wrong: list[int] = []
-    site = Site(answer, drawn)
-    it = Mirror(site.url, "", Kept(whole))
+
+def mirror(drawn: random.Random) -> None:
+    """A carrier's end, beside a mirror that folds whatever comes next."""
+    folding = Folding(drawn)
+    it = Mirror(folding.site.url, "", Kept(folding.whole))
     for _ in range(80):
         try:
             it.begin()
-            it.take(whole[it.number : it.number + drawn.choice([1, 7, 100])])
+            it.take(folding.whole[it.number : it.number + drawn.choice([1, 7, 100])])
             it.look()
         except Lost:
             it.close()
         except OtherJournal:
             break
-    site.close()
-    if wrong:
-        raise Wrong(f"a mirror folded piece {wrong[0]} behind those of another journal")
+    folding.site.close()
+    if folding.wrong:
+        raise Wrong(f"a mirror folded piece {folding.wrong[0]} behind those of another journal")
 
 
 def main() -> int:
@@ -186,10 +195,7 @@ def main() -> int:
     words = parser.parse_args()
     for seed in range(words.runs):
         for name, play in (("feed", feed), ("mirror", mirror)):
-            try:
-                play(random.Random(seed))
-            except Wrong as why:
-                print(f"wrong: {name}, seed {seed}: {why}")
+            if trial_status(partial(play, random.Random(seed)), f"{name}, seed {seed}"):
                 return 1
     print(f"{words.runs} feeds and as many mirrors, started anew at any moment: none has pieces of two journals")
     return 0

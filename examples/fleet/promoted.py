@@ -13,8 +13,8 @@ from dataclasses import dataclass
 from typing import NamedTuple
 
 from promotion import Text
-from running import HERE, MIRROR_WORKERS, USERS, Wrong, answers
-from serving import Server, Unanswered, wait_for_answer
+from running import HERE, MIRROR_WORKERS, USERS, answers
+from serving import Server, Unanswered, Wrong, wait_for_answer
 
 SECONDS = 60  # for a server to answer
 

@@ -13,8 +13,8 @@ from typing import Any
 from costs import pieces
 from engine import open_engine
 from promoted import Mirrored, command_of
-from running import Wrong, number, url
-from serving import Link, free_port
+from running import number, url
+from serving import Link, Wrong, free_port
 
 class Refusals:
     """What was refused so far, by runs of promote with some words that all of them have."""

@@ -16,15 +16,11 @@ HERE = os.path.dirname(os.path.abspath(__file__))
 sys.path.insert(1, os.path.join(HERE, ".."))
 
 from nginx import MAIN, words_of
-from serving import Link, Lost, Server, Unanswered, free_port, wait_for_answer
+from serving import Link, Lost, Server, Unanswered, Wrong, free_port, wait_for_answer
 
 USERS = "1 alicetoken user alice\n2 bobtoken moderator bob\n"
 POSTGRES = "/usr/lib/postgresql/15/bin"
 MIRROR_WORKERS = 24
-
-
-class Wrong(Exception):
-    """What isn't as it should be."""
 
 
 def url(port: int) -> str:

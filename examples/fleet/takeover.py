@@ -27,13 +27,14 @@ import tempfile
 import threading
 import time
 from contextlib import ExitStack
+from functools import partial
 
 import scripts
 from promoted import Answered, Mirrored, Promoted, run_promote, text_is_beginning
 from promotion import Text
 from refused import try_refusals
-from running import ENGINES, HERE, USERS, Process, Wrong, kinds_of_reads, number, same_reads, script, url, wait_until
-from serving import Link, Lost, Server, free_port
+from running import ENGINES, HERE, USERS, Process, kinds_of_reads, number, same_reads, script, url, wait_until
+from serving import Link, Lost, Server, Wrong, free_port, trial_status
 
 OUT = os.path.join(HERE, "..", "..", "crates")
 WORKERS = 12
@@ -192,8 +193,8 @@ def take_over(trial: Trial, kind: str, is_run: bool) -> tuple[int, int, float]:
     return answered, len(lost), before
 
 
-def rounds(words: argparse.Namespace, folder: str) -> None:
-    with ExitStack() as stack:
+def rounds(words: argparse.Namespace) -> None:
+    with tempfile.TemporaryDirectory() as folder, ExitStack() as stack:
         trial = Trial(words, folder, stack)
         trial.level()
         print(try_refusals(trial.port, trial.mirrors, trial.engine.url, words, folder), flush=True)
@@ -214,13 +215,7 @@ def main() -> int:
     parser.add_argument("--seed", type=int, default=1)
     words = parser.parse_args()
     random.seed(words.seed)
-    with tempfile.TemporaryDirectory() as folder:
-        try:
-            rounds(words, folder)
-        except Wrong as why:
-            print(f"wrong: {why}")
-            return 1
-    return 0
+    return trial_status(partial(rounds, words))
 
 
 if __name__ == "__main__":

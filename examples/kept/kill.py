@@ -31,7 +31,7 @@ import sys
 import tempfile
 import threading
 import time
-from collections.abc import Iterator
+from collections.abc import Callable, Iterator
 
 HERE = os.path.dirname(os.path.abspath(__file__))
 sys.path.insert(1, os.path.join(HERE, ".."))
@@ -78,14 +78,15 @@ class Run:
 
     def server(self, blocks: int = 0) -> Server:
         """The program on the file, which may have no more than so many blocks of 512 bytes, unless that is 0."""
-        command = ("serve", "--journal", self.path)
+        command: tuple[str, ...] = ("serve", "--journal", self.path)
         program = self.program
         if blocks:
             program, command = "/bin/sh", ("-c", LIMITED.format(blocks), self.program, *command)
         return Server(program, len(self.editors) + 2, self.users, command=command)
 
     def begin(self, server: Server) -> list[threading.Thread]:
-        threads = [threading.Thread(target=it.work, args=(server.port, threading.Event())) for it in (*self.editors, self.reader)]
+        works: list[Callable[[int, threading.Event], None]] = [*(it.work for it in self.editors), self.reader.work]
+        threads = [threading.Thread(target=work, args=(server.port, threading.Event())) for work in works]
         for thread in threads:
             thread.start()
         return threads

@@ -3,7 +3,10 @@
 from __future__ import annotations
 
 import argparse
+import re
+from collections.abc import Callable
 from dataclasses import dataclass
+from typing import TypeVar
 from urllib.parse import urlsplit
 
 from .links import Address
@@ -46,6 +49,7 @@ class Words:
 
 
 LICENCE = ("copyright", "attribution", "license")
+Read = TypeVar("Read")
 
 
 def listening(text: str) -> tuple[str, int]:
@@ -63,58 +67,83 @@ def public_of(url: str) -> tuple[str, str]:
     return f"{parts.scheme}://{parts.netloc}", parts.hostname
 
 
-def read_words(words: list[str] | None = None) -> Words:
+def addresses_of(text: str) -> tuple[Address, ...]:
+    return tuple(map(Address.of, text.split(",")))
+
+
+def number(least: int, most: int) -> Callable[[str], int]:
+    def read(text: str) -> int:
+        if not text.isascii() or not text.isdigit() or not least <= int(text) <= most:
+            raise ValueError(f"it takes a number from {least} to {most}")
+        return int(text)
+
+    return told(read)
+
+
+def decimal(least: float, most: int) -> Callable[[str], float]:
+    def read(text: str) -> float:
+        value = float(text) if re.fullmatch(r"[0-9]+(\.[0-9]+)?", text) else 0.0
+        if not least <= value <= most:
+            raise ValueError(f"it takes a number from {least} to {most}")
+        return value
+
+    return told(read)
+
+
+def told(read: Callable[[str], Read]) -> Callable[[str], Read]:
+    """For argparse, which tells why a word can't be read where the error is one of its own."""
+
+    def read_word(text: str) -> Read:
+        try:
+            return read(text)
+        except ValueError as why:
+            raise argparse.ArgumentTypeError(str(why)) from None
+
+    return read_word
+
+
+def parser_of() -> argparse.ArgumentParser:
     parser = argparse.ArgumentParser(
         prog="gateway/run", usage=USAGE, description="OSM's API 0.6 in XML and JSON of degrees, and a page, in front of a server."
     )
-    parser.add_argument("--server", required=True, metavar="URL", help="the server of the map, as http://127.0.0.1:8080")
-    parser.add_argument("--users", required=True, metavar="FILE", help="the users text of the server")
-    parser.add_argument("--notes", metavar="URL", help="the server of notes; without it notes aren't served")
-    parser.add_argument("--listen", default="127.0.0.1:8000", metavar="ADDRESS", help="where to listen, 127.0.0.1:8000 if not said")
-    parser.add_argument("--host", action="append", default=[], metavar="NAME", help="a name by which clients know this host besides")
-    parser.add_argument("--public-url", metavar="URL", help="what clients know this host by in links, as https://map.example")
-    parser.add_argument("--room", type=int, default=1024, metavar="MB", help="what all bodies may take together, 1024 MB if not said")
-    parser.add_argument("--data", default="", metavar="FILE", help="where authorizations, preferences and discussions are kept; else in memory")
-    parser.add_argument("--id", default="", metavar="FOLDER", help="a build of the editor iD, which is then served at /id")
-    parser.add_argument("--rate", type=float, metavar="N", help="requests a second that one address may ask, and sixty times as many at once")
-    parser.add_argument("--guesses", type=int, default=20, metavar="N", help="wrong tokens that an address may show at once, 20 if not said")
+    add, address, place = parser.add_argument, told(Address.of), told(listening)
+    add("--server", required=True, type=address, metavar="URL", help="the server of the map, as http://127.0.0.1:8080")
+    add("--users", required=True, metavar="FILE", help="the users text of the server")
+    add("--notes", type=address, metavar="URL", help="the server of notes; without it notes aren't served")
+    add("--listen", default="127.0.0.1:8000", type=place, metavar="ADDRESS", help="where to listen, 127.0.0.1:8000 if not said")
+    add("--host", action="append", default=[], metavar="NAME", help="a name by which clients know this host besides")
+    add("--public-url", type=told(public_of), metavar="URL", help="what clients know this host by in links, as https://map.example")
+    add("--room", type=number(1, 10**6), default=1024, metavar="MB", help="what all bodies may take together, 1024 MB if not said")
+    add("--data", default="", metavar="FILE", help="where authorizations, preferences and discussions are kept; else in memory")
+    add("--id", default="", metavar="FOLDER", help="a build of the editor iD, which is then served at /id")
+    add("--rate", type=decimal(0.01, 10**6), metavar="N", help="requests a second that one address may ask, and sixty times as many at once")
+    add("--guesses", type=number(1, 10**6), default=20, metavar="N", help="wrong tokens that an address may show at once, 20 if not said")
     for name in LICENCE:
-        parser.add_argument(f"--{name}", metavar="TEXT", help=f"the attribute {name} of documents and of the capabilities")
-    parser.add_argument("--links", type=int, default=8, metavar="N", help="links to each server, at most its workers; 8 if not said")
-    parser.add_argument("--processes", type=int, default=1, metavar="N", help="processes at the address, 1 if not said; more need --data")
-    parser.add_argument("--mirrors", default="", metavar="URL,URL", help="mirrors of the server, which answer reads in its place")
-    parser.add_argument("--confirmed-by", type=int, default=0, metavar="K", help="answer a change only once so many mirrors have it")
-    parser.add_argument("--confirm-seconds", type=float, default=30.0, metavar="S", help="how long they have for it, 30 seconds if not said")
-    parser.add_argument("--metrics", default="", metavar="ADDRESS", help="where counts are shown to Prometheus, as 127.0.0.1:9100; else nowhere")
-    parser.add_argument("--quiet", action="store_true", help="no line for each request")
+        add(f"--{name}", metavar="TEXT", help=f"the attribute {name} of documents and of the capabilities")
+    add("--links", type=number(1, 64), default=8, metavar="N", help="links to each server, at most its workers; 8 if not said")
+    add("--processes", type=number(1, 64), default=1, metavar="N", help="processes at the address, 1 if not said; more need --data")
+    add("--mirrors", type=told(addresses_of), default=(), metavar="URL,URL", help="mirrors of the server, which answer reads in its place")
+    add("--confirmed-by", type=number(0, 64), default=0, metavar="K", help="answer a change only once so many mirrors have it")
+    add("--confirm-seconds", type=decimal(0.1, 250), default=30.0, metavar="S", help="how long they have for it, 30 seconds if not said")
+    add("--metrics", type=place, metavar="ADDRESS", help="where counts are shown to Prometheus, as 127.0.0.1:9100; else nowhere")
+    add("--quiet", action="store_true", help="no line for each request")
+    return parser
+
+
+def read_words(words: list[str] | None = None) -> Words:
+    parser = parser_of()
     it = parser.parse_args(words)
-    try:
-        host, port = listening(it.listen)
-        metrics = listening(it.metrics) if it.metrics else None
-        server, notes = Address.of(it.server), Address.of(it.notes) if it.notes else None
-        mirrors = tuple(Address.of(url) for url in it.mirrors.split(",")) if it.mirrors else ()
-        public, name = public_of(it.public_url) if it.public_url else (None, host)
-    except ValueError as why:
-        parser.error(str(why))
-    if it.rate is not None and not 0.01 <= it.rate <= 1e6:
-        parser.error("--rate takes a number from 0.01 to 1000000")
-    if not 1 <= it.guesses <= 10**6:
-        parser.error("--guesses takes a number from 1 to 1000000")
-    if not 1 <= it.links <= 64:
-        parser.error("--links takes a number from 1 to 64")
-    if not 1 <= it.room <= 1_000_000:
-        parser.error("--room takes a number from 1 to 1000000")
-    if len(set(mirrors)) < len(mirrors) or server in mirrors:
+    if len(set(it.mirrors)) < len(it.mirrors) or it.server in it.mirrors:
         parser.error("--mirrors takes each address once, and not that of --server")
-    if not 0 <= it.confirmed_by <= len(mirrors):
+    if it.confirmed_by > len(it.mirrors):
         parser.error("--confirmed-by takes a number up to that of the mirrors")
-    if not 0.1 <= it.confirm_seconds <= 250:
-        parser.error("--confirm-seconds takes a number from 0.1 to 250")
-    if not 1 <= it.processes <= 64 or it.processes > 1 and not it.data:
-        parser.error("--processes takes a number from 1 to 64, and from 2 on it needs --data")
+    if it.processes > 1 and not it.data:
+        parser.error("--processes needs --data from 2 on")
+    host, port = it.listen
+    public, name = it.public_url or (None, host)
     hosts = frozenset({host.lower(), name.lower(), "localhost", "127.0.0.1", "::1", *(name.lower() for name in it.host)})
     licence = tuple((name, getattr(it, name)) for name in LICENCE if getattr(it, name))
     return Words(
-        server, notes, it.users, host, port, hosts, public, it.links, it.room, it.quiet, it.data, it.id, it.rate, it.guesses, licence,
-        it.processes, mirrors, metrics, it.confirmed_by, it.confirm_seconds,
+        it.server, it.notes, it.users, host, port, hosts, public, it.links, it.room, it.quiet, it.data, it.id, it.rate, it.guesses, licence,
+        it.processes, it.mirrors, it.metrics, it.confirmed_by, it.confirm_seconds,
     )  # fmt: skip

@@ -9,7 +9,8 @@ import socket
 import time
 from collections.abc import Iterator
 
-from behind import ALICE, BOB, Gateway, Site, Wrong, has, want
+from behind import ALICE, BOB, Gateway, Site, has, want
+from serving import Wrong
 
 BOMB = '<!DOCTYPE osmChange [<!ENTITY a "ha"><!ENTITY b "&a;&a;&a;&a;&a;&a;&a;&a;">]>'
 FILE = '<!DOCTYPE osm [<!ENTITY f SYSTEM "file:///etc/passwd">]>'

@@ -18,14 +18,10 @@ HERE = os.path.dirname(os.path.abspath(__file__))
 TOP = os.path.dirname(os.path.dirname(HERE))
 sys.path += [os.path.join(TOP, "examples"), os.path.join(TOP, "gateway")]
 
-from serving import Server, Unanswered, free_port, wait_for_answer  # noqa: E402
+from serving import Server, Unanswered, Wrong, free_port, wait_for_answer  # noqa: E402
 
 USERS = "1 alicetoken user alice\n2 bobtoken moderator bob\n3 utoken user Ünï Cödé\n"
 RUN = os.path.join(TOP, "gateway", "run")
-
-
-class Wrong(Exception):
-    """What isn't as it should be."""
 
 
 def want(found: object, wanted: object, what: str) -> None:
@@ -136,6 +132,17 @@ class Gateway:
 
     def changeset(self, who: str = ALICE, comment: str = "a test") -> int:
         return int(self.well("PUT", "changeset/create", f'<osm><changeset><tag k="comment" v="{comment}"/></changeset></osm>', who))
+
+
+def refuses_to_start(gateway: Gateway, text: str) -> None:
+    """It ends by itself with a status that isn't 0, and says so."""
+    try:
+        gateway.__enter__()
+    except Wrong as why:
+        has(str(why), text, "why the gateway didn't start")
+        want(gateway.process.wait(10) != 0, True, "its status")
+    else:
+        raise Wrong(f"the gateway starts where it should tell {text!r}")
 
 
 class Site:

@@ -14,9 +14,9 @@ import time
 from collections.abc import Iterator
 from concurrent.futures import ThreadPoolExecutor
 
-from behind import ALICE, USERS, Came, Gateway, Wrong, ask, has, want
+from behind import ALICE, USERS, Came, Gateway, ask, has, refuses_to_start, want
 from mirrors import SEED, Behind, before, mirror_beside, two
-from serving import Link, Server, free_port
+from serving import Link, Server, Wrong, free_port
 
 CREATIONS, CLIENTS = 160, 8
 NODES = 2_000
@@ -128,13 +128,7 @@ def outlives(program: str, mirror: str, seed: int) -> int:
 def words(server: int) -> None:
     too_many, too_short = ("--confirmed-by", "2"), ("--confirmed-by", "1", "--confirm-seconds", "0")
     for more, text in ((too_many, "up to that of the mirrors"), (too_short, "from 0.1 to 250")):
-        gateway = Gateway(server, more=("--mirrors", "http://127.0.0.1:1", *more))
-        try:
-            gateway.__enter__()
-        except Wrong as why:
-            has(str(why), text, "why the gateway didn't start")
-        else:
-            raise Wrong(f"the gateway starts with {more}")
+        refuses_to_start(Gateway(server, more=("--mirrors", "http://127.0.0.1:1", *more)), text)
 
 
 def run(program: str) -> str:

@@ -7,7 +7,7 @@ import random
 from fractions import Fraction
 from typing import Any
 
-from behind import Wrong, want
+from behind import want
 from osm_gateway.call import Form, box_of, quality
 from osm_gateway.degrees import NotDecimal, degrees_of, units_of
 from osm_gateway.people import BadUsers, people_of
@@ -15,6 +15,7 @@ from osm_gateway.refusals import Refused
 from osm_gateway.spool import Spool
 from osm_gateway.walk import OPENED, NotJson, Path, Sort, Walk
 from osm_gateway.xml_texts import Texts
+from serving import Wrong
 
 # Ruby's Float#round, of `(lat * 10000000).round`, goes to the nearest whole number, and by halves away from zero.
 READ = {

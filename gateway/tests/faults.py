@@ -14,10 +14,10 @@ from dataclasses import dataclass
 from datetime import datetime, timedelta, timezone
 
 from bad_input import megabytes, raw
-from behind import ALICE, Came, Gateway, Site, Wrong, basic, has, want
+from behind import ALICE, Came, Gateway, Site, basic, has, want
 from large import map_of
 from rows import Standing
-from serving import Reply
+from serving import Reply, Wrong
 
 NODES = 20_000
 BOX = "map?bbox=0,0,0.3,0.3"
@@ -91,8 +91,8 @@ def windows() -> str:
         standing.paths = {"/api/0.6/changesets": rows_of(1, 100)}
         want(ids(f"time={stamp(170)}"), [], "those closed since then, of none so new")
         standing.paths = {"/api/0.6/changesets": rows_of(1, 99)}
-        for query, wanted in ((f"to={stamp(3)}", [2, 1]), ("order=oldest&limit=2", [1, 2]), (f"time={stamp(98)}", [99, 98]), (f"from={stamp(500)}", [])):
-            want(ids(query), wanted, f"{query} of 99")
+        for query, listed in ((f"to={stamp(3)}", [2, 1]), ("order=oldest&limit=2", [1, 2]), (f"time={stamp(98)}", [99, 98]), (f"from={stamp(500)}", [])):
+            want(ids(query), listed, f"{query} of 99")
         want(ids("order=other")[:30], "400 The order of changesets is"[:30], "an order")
     return "windows of changesets, of a hundred and of all"
 

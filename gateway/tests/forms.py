@@ -59,7 +59,8 @@ def add_element(parent: ET.Element, row: Row) -> None:
 
 def written(root: ET.Element) -> bytes:
     """With the characters escaped that attributes would lose otherwise."""
-    return ET.tostring(root, encoding="utf-8").replace(b"\r", b"&#13;")
+    text: bytes = ET.tostring(root, encoding="utf-8")
+    return text.replace(b"\r", b"&#13;")
 
 
 def element_xml(row: Row) -> bytes:

@@ -21,10 +21,11 @@ import zlib
 from collections import Counter
 from collections.abc import Callable, Iterator
 from decimal import ROUND_HALF_UP, Decimal, InvalidOperation, localcontext
+from functools import partial
 from typing import Any
 
 import forms
-from behind import Wrong
+from behind import want
 from osm_gateway import documents, json_read
 from osm_gateway.call import events_of
 from osm_gateway.changes import change_of
@@ -33,6 +34,7 @@ from osm_gateway.spool import PIECE, Coding, Spool
 from osm_gateway.walk import OPENED, NotJson, Walk
 from osm_gateway.xml_read import ChangeReader
 from osm_gateway.xml_texts import Texts
+from serving import Wrong, trial_status
 
 SEED, SECONDS = 20261130, 60.0
 MOST = (1 << 63) - 1
@@ -323,8 +325,8 @@ def xml_wanted(data: bytes) -> Any:
     for block in root:
         if block.tag not in forms.ACTIONS or any(it.tag not in forms.KINDS for it in block):
             raise Invalid
-        unused = {"if-unused": True} if block.tag == "delete" and "if-unused" in block.attrib else {}
-        blocks.append({block.tag: [xml_row(it, block.tag) for it in block], **unused})
+        read: Row = {block.tag: [xml_row(it, block.tag) for it in block]}
+        blocks.append(read | ({"if-unused": True} if block.tag == "delete" and "if-unused" in block.attrib else {}))
     return {"osmChange": blocks}
 
 
@@ -381,19 +383,14 @@ def outcome(do: Callable[[], Any]) -> Any:
         return "refused"
 
 
-def same(found: Any, wanted: Any, what: str) -> None:
-    if found != wanted:
-        raise Wrong(f"{what}: wanted {str(wanted)[:1500]}, found {str(found)[:1500]}")
-
-
 def judged(it: Drawn, data: bytes, wanted: Callable[[bytes], Any], read: Callable[[list[bytes]], Any], cuts: Callable[[], list[bytes]]) -> str:
     """The outcome is that of the whole, and the same wherever the document is cut."""
     found = outcome(lambda: read([data]))
     for _ in range(2):
         pieces = cuts()
-        same(outcome(lambda: read(pieces)), found, f"{data!r} in pieces {pieces!r}")  # noqa: B023
+        want(outcome(lambda: read(pieces)), found, f"{data!r} in pieces {pieces!r}")  # noqa: B023
     try:
-        same(found, outcome(lambda: wanted(data)), f"{data!r}")
+        want(found, outcome(lambda: wanted(data)), f"{data!r}")
     except (Twice, Strange):
         return "either way"
     return "refused" if found == "refused" else "read"
@@ -437,7 +434,7 @@ def of_edge(it: Drawn) -> str:
     spool.write(padded)
     found = outcome(lambda: sent(json_read.change(spool.texts()) if as_json else ChangeReader().read(spool.pieces())))
     spool.close()
-    same(found, wanted, f"{data!r} with the byte {place} at the edge of a piece")
+    want(found, wanted, f"{data!r} with the byte {place} at the edge of a piece")
     return "refused" if found == "refused" else "read"
 
 
@@ -458,7 +455,7 @@ def of_number(it: Drawn) -> str:
         wanted = "refused"
     for place in range(len(text) + 1):
         second = it.draw.randint(place, len(text))
-        same(walked([text[:place], text[place:second], text[second:]]), wanted, f"{text} cut at {place} and {second}")
+        want(walked([text[:place], text[place:second], text[second:]]), wanted, f"{text} cut at {place} and {second}")
     return "refused" if wanted == "refused" else "read"
 
 
@@ -485,7 +482,7 @@ def of_coding(it: Drawn) -> str:
         wanted = outcome(lambda: coding_wanted(data, name))
     for _ in range(2):
         pieces = it.cuts(data)
-        same(undone(pieces, name), wanted, f"{name} {data[:300]!r} of {len(data)} in pieces of {[len(piece) for piece in pieces][:50]}")
+        want(undone(pieces, name), wanted, f"{name} {data[:300]!r} of {len(data)} in pieces of {[len(piece) for piece in pieces][:50]}")
     return "refused" if wanted == "refused" else "read"
 
 
@@ -520,8 +517,8 @@ def of_reply(it: Drawn) -> str:
     spool = Spool()
     spool.write(text.encode())
     events = lambda: Walk(iter(it.cuts(text)), OPENED).events() if it.draw.random() < 0.8 else events_of(spool)  # noqa: E731
-    same(forms.json_document_of("".join(documents.elements_json(events())).encode()), wanted, f"{text} as JSON")
-    same(forms.document_of("".join(documents.elements_xml(events(), Texts())).encode()), wanted, f"{text} as XML")
+    want(forms.json_document_of("".join(documents.elements_json(events())).encode()), wanted, f"{text} as JSON")
+    want(forms.document_of("".join(documents.elements_xml(events(), Texts())).encode()), wanted, f"{text} as XML")
     spool.close()
     return "read"
 
@@ -550,6 +547,12 @@ def run(_: str) -> str:
     return played(SEED, sys.maxsize, SECONDS)
 
 
+def tried(words: argparse.Namespace) -> None:
+    if words.case is not None:
+        play(words.seed, words.case, Counter())
+    print(played(words.seed, words.cases if words.case is None else 0, words.seconds))
+
+
 def main() -> int:
     parser = argparse.ArgumentParser(usage=(__doc__ or "").split("\n\n")[0].partition(": ")[2])
     parser.add_argument("--seed", type=int, default=SEED)
@@ -557,14 +560,7 @@ def main() -> int:
     parser.add_argument("--seconds", type=float, default=float("inf"))
     parser.add_argument("--case", type=int)
     words = parser.parse_args()
-    try:
-        if words.case is not None:
-            play(words.seed, words.case, Counter())
-        print(played(words.seed, words.cases if words.case is None else 0, words.seconds))
-        return 0
-    except Wrong as why:
-        print(why)
-        return 1
+    return trial_status(partial(tried, words))
 
 
 if __name__ == "__main__":

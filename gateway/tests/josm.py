@@ -7,7 +7,8 @@ import re
 import subprocess
 import tempfile
 
-from behind import HERE, Gateway, Site, Wrong
+from behind import HERE, Gateway, Site
+from serving import Wrong
 
 JAR = "/usr/share/josm/josm.jar"
 

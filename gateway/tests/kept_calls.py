@@ -82,22 +82,33 @@ def discussions(gateway: Gateway) -> None:
     answered = ET.fromstring(gateway.well("POST", f"changeset/{number}/comment", "text=why+%3C%26%3E%0A%C3%BC", BOB))[0]
     want((answered.attrib["id"], answered.attrib["comments_count"]), (str(number), "1"), "the changeset that was commented on")
     gateway.well("POST", f"changeset/{number}/comment?text=so", "", ALICE)
+    said(gateway, number)
+    follows(gateway, number)
+    hidden_comments(gateway, number)
+    items = ET.fromstring(gateway.ask("GET", "/history/comments/feed").body).findall("channel/item")
+    want([it.findtext("description") for it in items], ["so", "why <&>\nü"], "the feed of all comments")
+    has(items[0].findtext("link") or "", f"/changeset/{number}#c", "where it leads")
+    want(len(ET.fromstring(gateway.ask("GET", f"/changeset/{number}/comments/feed").body).findall("channel/item")), 2, "the feed of one changeset")
+
+
+def comments(gateway: Gateway, number: int, more: str = "", who: str = "") -> list[ET.Element]:
+    return ET.fromstring(gateway.well("GET", f"changeset/{number}?include_discussion=true{more}", who=who)).findall("changeset/discussion/comment")
+
+
+def said(gateway: Gateway, number: int) -> None:
+    """The two comments as XML, as JSON, and as a count."""
     bare = ET.fromstring(gateway.well("GET", f"changeset/{number}"))[0]
     want((bare.attrib["comments_count"], bare.find("discussion")), ("2", None), "a changeset without its discussion")
-    rows = ET.fromstring(gateway.well("GET", f"changeset/{number}?include_discussion=true")).findall("changeset/discussion/comment")
-    want(
-        [(it.attrib["user"], it.attrib["uid"], it.findtext("text")) for it in rows],
-        [("bob", "2", "why <&>\nü"), ("alice", "1", "so")],
-        "a discussion",
-    )
-    found = json.loads(gateway.well("GET", f"changeset/{number}.json?include_discussion=true"))["changeset"]
-    want(
-        [(it["user"], it["text"], it["visible"]) for it in found["comments"]],
-        [("bob", "why <&>\nü", True), ("alice", "so", True)],
-        "the same as JSON",
-    )
+    found = [(it.attrib["user"], it.attrib["uid"], it.findtext("text")) for it in comments(gateway, number)]
+    want(found, [("bob", "2", "why <&>\nü"), ("alice", "1", "so")], "a discussion")
+    rows = json.loads(gateway.well("GET", f"changeset/{number}.json?include_discussion=true"))["changeset"]["comments"]
+    want([(it["user"], it["text"], it["visible"]) for it in rows], [("bob", "why <&>\nü", True), ("alice", "so", True)], "the same as JSON")
     listed = json.loads(gateway.well("GET", f"changesets.json?changesets={number}"))["changesets"]
     want([it["comments_count"] for it in listed], [2], "how many comments a list says")
+
+
+def follows(gateway: Gateway, number: int) -> None:
+    """Who comments follows; by the calls of before and by those of now."""
     refused(gateway, 409, "already subscribed", "POST", f"changeset/{number}/subscribe", "", BOB)
     gateway.well("POST", f"changeset/{number}/unsubscribe", "", BOB)
     refused(gateway, 404, "not subscribed", "POST", f"changeset/{number}/unsubscribe", "", BOB)
@@ -105,18 +116,16 @@ def discussions(gateway: Gateway) -> None:
     refused(gateway, 409, "already subscribed", "POST", f"changeset/{number}/subscription", "", BOB)
     gateway.well("DELETE", f"changeset/{number}/subscription", "", BOB)
     refused(gateway, 404, "not subscribed", "DELETE", f"changeset/{number}/subscription", "", BOB)
-    first = rows[0].attrib["id"]
+
+
+def hidden_comments(gateway: Gateway, number: int) -> None:
+    first = comments(gateway, number)[0].attrib["id"]
     refused(gateway, 403, "moderator", "POST", f"changeset/comment/{first}/hide", "", ALICE)
     gateway.well("POST", f"changeset/comment/{first}/hide", "", BOB)
-    path = f"changeset/{number}?include_discussion=true"
-    want(len(ET.fromstring(gateway.well("GET", path)).findall("changeset/discussion/comment")), 1, "a hidden comment")
-    shown = ET.fromstring(gateway.well("GET", f"{path}&show_hidden_comments=true", who=BOB)).findall("changeset/discussion/comment")
+    want(len(comments(gateway, number)), 1, "a hidden comment")
+    shown = comments(gateway, number, "&show_hidden_comments=true", BOB)
     want([it.attrib["visible"] for it in shown], ["false", "true"], "what a moderator sees")
     gateway.well("POST", f"changeset/comment/{first}/unhide", "", BOB)
-    items = ET.fromstring(gateway.ask("GET", "/history/comments/feed").body).findall("channel/item")
-    want([it.findtext("description") for it in items], ["so", "why <&>\nü"], "the feed of all comments")
-    has(items[0].findtext("link") or "", f"/changeset/{number}#c", "where it leads")
-    want(len(ET.fromstring(gateway.ask("GET", f"/changeset/{number}/comments/feed").body).findall("channel/item")), 2, "the feed of one changeset")
 
 
 def note(gateway: Gateway, text: str, lat: str = "48.1", who: str = "") -> int:

@@ -11,10 +11,10 @@ import threading
 import time
 from http.client import HTTPException
 
-from behind import ALICE, RUN, USERS, Came, Gateway, Wrong, has, want
+from behind import ALICE, RUN, USERS, Came, Gateway, has, refuses_to_start, want
 from large import BOX, map_of
 from rows import Standing
-from serving import Reply, Server, family
+from serving import Reply, Server, Wrong, family
 
 NODES = 10_000
 """Of a map that is written well within the gateway's twenty seconds for what is on its way, on a busy machine too."""
@@ -110,14 +110,7 @@ def refusals(program: str) -> None:
     """Words and texts that can't be: a line, and a status that isn't 0."""
     with Gateway(1, users="1 a user A\n") as there:
         for users, more, text in (("1 a b c\n", (), "line 1"), ("1 a user A\n", ("--links", "0"), "--links"), ("1 a user A\n", (), "can't listen")):
-            gateway = Gateway(1, users=users, more=more, port=there.port if text == "can't listen" else 0)
-            try:
-                gateway.__enter__()
-            except Wrong as why:
-                has(str(why), text, "why the gateway didn't start")
-                want(gateway.process.wait(10) != 0, True, "its status")
-            else:
-                raise Wrong(f"the gateway starts where it should tell {text!r}")
+            refuses_to_start(Gateway(1, users=users, more=more, port=there.port if text == "can't listen" else 0), text)
 
 
 def run(program: str) -> str:

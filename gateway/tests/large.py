@@ -10,13 +10,13 @@ import xml.etree.ElementTree as ET
 from collections.abc import Callable
 from dataclasses import dataclass, field
 
-from behind import Gateway, Wrong, want
+from behind import Gateway, want
 from osm_gateway import documents, turns
 from osm_gateway.call import events_of
 from osm_gateway.spool import Spool
 from osm_gateway.xml_texts import Texts
 from rows import Standing
-from serving import Reply
+from serving import Reply, Wrong
 
 NODES, READERS, COMMENTS = 50_000, 3, 10_000
 MOST_MEGABYTES, LONGEST_TURN = 64.0, 0.05

@@ -17,9 +17,9 @@ from dataclasses import dataclass, field
 from typing import Any
 
 import forms
-from behind import ALICE, BOB, USERS, Came, Gateway, Site, Wrong, has, want
+from behind import ALICE, BOB, USERS, Came, Gateway, Site, has, want
 from dropping import LATE, Dropping, Fate
-from serving import Server, family
+from serving import Server, Wrong, family
 
 SEED, UPLOADS, MAPPERS = 20261130, 1000, 8
 AT_ONCE = 6
@@ -143,6 +143,51 @@ def downloaded(gateway: Gateway, changeset: int) -> list[Done]:
     return [(action, row["type"], row["id"], row["version"]) for block in it["osmChange"] for action, rows in block.items() for row in rows]
 
 
+def mappers_of(gateway: Gateway) -> list[Mapper]:
+    """Two of them share a changeset."""
+    mappers = [Mapper(gateway, ALICE if number % 2 else BOB, random.Random(SEED + number)) for number in range(MAPPERS)]
+    shared, other = mappers[0], mappers[2]
+    shared.begin()
+    other.changeset, other.is_shared, shared.is_shared = shared.changeset, True, True
+    other.done[shared.changeset] = []
+    return mappers
+
+
+def work(mappers: list[Mapper], changes: int) -> None:
+    """So many changes of each, all at once."""
+    faults: list[BaseException] = []
+
+    def edit(it: Mapper) -> None:
+        try:
+            for number in range(changes):
+                if not it.is_shared and number % 40 == 0:
+                    it.begin()
+                it.one()
+        except BaseException as why:
+            faults.append(why)
+
+    threads = [threading.Thread(target=edit, args=(it,)) for it in mappers]
+    for thread in threads:
+        thread.start()
+    for thread in threads:
+        thread.join()
+    if faults:
+        raise faults[0]
+
+
+def compared(gateway: Gateway, mappers: list[Mapper]) -> int:
+    """How many operations all changesets have, which must be those that the answers told of."""
+    count = 0
+    for number in sorted({number for it in mappers for number in it.done}):
+        said = [it.done[number] for it in mappers if number in it.done]
+        found = downloaded(gateway, number)
+        count += len(found)
+        want(sorted(found) if len(said) > 1 else found, sorted(said[0] + said[-1]) if len(said) > 1 else said[0], f"what the changeset {number} has")
+    opened = len(json.loads(gateway.well("GET", "changesets.json"))["changesets"])
+    want(opened, sum(len(it.done) for it in mappers) - 1, "changesets")
+    return count
+
+
 def drawn(program: str, uploads: int, more: tuple[str, ...] = ()) -> str:
     """Uploads on eight links at once: two of the mappers share a changeset, the others have their own, one after another."""
     fates = random.Random(SEED)
@@ -154,36 +199,9 @@ def drawn(program: str, uploads: int, more: tuple[str, ...] = ()) -> str:
 
     with Site(program, more=more, between=between) as gateway:
         want(len(family(gateway.process.pid)), 5 if "--processes" in more else 1, "processes of the gateway")
-        mappers = [Mapper(gateway, ALICE if number % 2 else BOB, random.Random(SEED + number)) for number in range(MAPPERS)]
-        shared, faults = mappers[0], list[BaseException]()
-        shared.begin()
-        mappers[2].changeset, mappers[2].is_shared, shared.is_shared = shared.changeset, True, True
-        mappers[2].done[shared.changeset] = []
-
-        def work(it: Mapper) -> None:
-            try:
-                for number in range(uploads // MAPPERS):
-                    if not it.is_shared and number % 40 == 0:
-                        it.begin()
-                    it.one()
-            except BaseException as why:
-                faults.append(why)
-
-        threads = [threading.Thread(target=work, args=(it,)) for it in mappers]
-        for thread in threads:
-            thread.start()
-        for thread in threads:
-            thread.join()
-        if faults:
-            raise faults[0]
-        count = 0
-        for number in sorted({number for it in mappers for number in it.done}):
-            said = [it.done[number] for it in mappers if number in it.done]
-            found = downloaded(gateway, number)
-            count += len(found)
-            want(sorted(found) if len(said) > 1 else found, sorted(said[0] + said[-1]) if len(said) > 1 else said[0], f"what the changeset {number} has")
-        opened = len(json.loads(gateway.well("GET", "changesets.json"))["changesets"])
-        want(opened, sum(len(it.done) for it in mappers) - 1, "changesets")
+        mappers = mappers_of(gateway)
+        work(mappers, uploads // MAPPERS)
+        count = compared(gateway, mappers)
     return f"{uploads} drawn changes with {count} operations on {MAPPERS} links, {dropped[0].lost} answers lost: each made once, each answer right"
 
 

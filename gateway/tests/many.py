@@ -11,8 +11,9 @@ import random
 import time
 from dataclasses import dataclass, field
 
-from behind import Gateway, Site, Wrong, want
-from other_calls import ALICE, NODE
+from behind import ALICE, Gateway, Site, want
+from other_calls import NODE
+from serving import Wrong
 
 CLIENTS, SECONDS, PAUSE, LONGEST = 1000, 15.0, 4.0, 1.0
 

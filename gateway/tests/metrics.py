@@ -10,12 +10,12 @@ import time
 from socket import create_connection
 from typing import Any
 
-from behind import ALICE, USERS, Came, Gateway, Wrong, ask, has, want
+from behind import ALICE, USERS, Came, Gateway, ask, refuses_to_start, want
 from dropping import Dropping
 from large import BOX, map_of
 from mirrors import Behind
 from rows import Standing
-from serving import Reply, Server, free_port
+from serving import Reply, Server, Wrong, free_port
 
 LINE = re.compile(r'([a-z_]+)(?:\{([^{}\n]*)\})? ([0-9.e+-]+)')
 
@@ -131,13 +131,7 @@ def several(program: str) -> None:
 
 
 def words() -> None:
-    gateway = Gateway(1, more=("--metrics", "nowhere"))
-    try:
-        gateway.__enter__()
-    except Wrong as why:
-        has(str(why), "isn't HOST:PORT", "why the gateway didn't start")
-    else:
-        raise Wrong("the gateway starts with --metrics nowhere")
+    refuses_to_start(Gateway(1, more=("--metrics", "nowhere")), "isn't HOST:PORT")
 
 
 def run(program: str) -> str:

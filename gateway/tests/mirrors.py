@@ -20,9 +20,9 @@ from concurrent.futures import ThreadPoolExecutor
 from dataclasses import dataclass, field
 from typing import Any, NamedTuple
 
-from behind import USERS, Came, Gateway, Wrong, basic, has, want
+from behind import USERS, Came, Gateway, basic, refuses_to_start, want
 from dropping import message
-from serving import Link, Lost, Server, connect
+from serving import Link, Lost, Server, Wrong, connect
 
 CREATIONS, FEWER, CLIENTS, ADDRESSES, SEED = 2000, 200, 8, 40, 20261201
 LONGEST_LAG = 0.12
@@ -331,13 +331,7 @@ def without_server(program: str) -> None:
 
 def words(server: int) -> None:
     for urls, text in (("http://127.0.0.1:1,http://127.0.0.1:1", "each address once"), ("ftp://a", "isn't http://HOST:PORT")):
-        gateway = Gateway(server, more=("--mirrors", urls))
-        try:
-            gateway.__enter__()
-        except Wrong as why:
-            has(str(why), text, "why the gateway didn't start")
-        else:
-            raise Wrong(f"the gateway starts with --mirrors {urls}")
+        refuses_to_start(Gateway(server, more=("--mirrors", urls)), text)
 
 
 def mirror_beside(program: str) -> str | None:

@@ -101,7 +101,10 @@ def with_secret(gateway: Gateway) -> None:
     number, secret = registered(gateway, f"https://editor.example/back\n{OOB}", ("read_prefs", "write_notes"), secret=True)
     place = "https://editor.example/back"
     start = address(number, redirect_uri=place, scope="read_prefs write_notes", code_challenge="", code_challenge_method="")
-    for given, headers in (({"client_secret": secret}, {}), ({"client_id": ""}, {"Authorization": basic(number, secret)})):
+    ways: tuple[tuple[dict[str, str], dict[str, str]], ...] = (
+        ({"client_secret": secret}, {}), ({"client_id": ""}, {"Authorization": basic(number, secret)}),
+    )  # fmt: skip
+    for given, headers in ways:
         code = code_of(allowed(gateway, start, "bob", "bobtoken"))["code"]
         fields = {"grant_type": "authorization_code", "client_id": number, "code": code, "redirect_uri": place} | given
         came = post(gateway, "/oauth2/token", {name: value for name, value in fields.items() if value}, **headers)

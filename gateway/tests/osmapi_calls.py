@@ -7,7 +7,8 @@ from collections.abc import Callable
 from typing import Any
 
 import osmapi
-from behind import Gateway, Site, Wrong, want
+from behind import Gateway, Site, want
+from serving import Wrong
 
 Row = dict[str, Any]
 

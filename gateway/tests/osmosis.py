@@ -8,7 +8,8 @@ import subprocess
 import tempfile
 from typing import Any
 
-from behind import BOB, TOP, Gateway, Site, Wrong, want
+from behind import BOB, TOP, Gateway, Site, want
+from serving import Wrong
 
 EXAMPLES = os.path.join(TOP, "examples")
 BOX = {"left": "-30.0005", "bottom": "44.9995", "right": "-29.99", "top": "45.01"}

@@ -9,13 +9,14 @@ import time
 from collections.abc import Callable
 from typing import Any
 
-from behind import ALICE, BOB, Gateway, Site, Wrong, has, want
+from behind import ALICE, BOB, Gateway, Site, has, want
 from osmosis import loaded
 from selenium import webdriver
 from selenium.common.exceptions import StaleElementReferenceException
 from selenium.webdriver import ActionChains, Keys
 from selenium.webdriver.chrome.service import Service
 from selenium.webdriver.common.by import By
+from serving import Wrong
 
 PICTURE = os.environ.get("PICTURE", "")
 """Where a picture of the page is written, if anywhere."""

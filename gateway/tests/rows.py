@@ -17,8 +17,8 @@ from typing import Any
 from urllib.parse import parse_qsl
 
 import forms
-from behind import TOP, Came, Gateway, Wrong, want
-from serving import Replies, Reply
+from behind import TOP, Came, Gateway, want
+from serving import Replies, Reply, Wrong
 from session_rows import rows_of
 
 KINDS = "node|way|relation"

@@ -14,8 +14,8 @@ from edits import Session
 from folder import Folder, State
 from made import Changesets, Counts, Piece
 from map_client import Client
-from parts import USERS, Programs, Running, Wrong, url
-from serving import Server
+from parts import USERS, Programs, Running, url
+from serving import Server, Wrong
 
 TAGS = {"comment": 'a "park" & <more>\n\u00df \U0001f333', "created_by": "by hand", "empty": ""}
 

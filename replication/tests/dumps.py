@@ -16,8 +16,8 @@ import same
 from changesets import Reader
 from edits import Session
 from map_client import KINDS, Client
-from parts import TOP, USERS, Programs, Running, Wrong, compare, export, url
-from serving import Server
+from parts import TOP, USERS, Programs, Running, compare, export, url
+from serving import Server, Wrong
 
 DUMP = os.path.join(TOP, "examples", "dump.py")
 Version = tuple[str, int, int]

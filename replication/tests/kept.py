@@ -13,8 +13,8 @@ from collections.abc import Callable
 import edits
 from edits import Session
 from folder import Folder
-from parts import HERE, RUN, USERS, Programs, Running, Wrong, compare, export, from_nothing, url
-from serving import Server
+from parts import HERE, RUN, USERS, Programs, Running, compare, export, from_nothing, url
+from serving import Server, Wrong
 
 FAR = os.path.join(HERE, "far.py")
 ASKED = re.compile(rb"GET /api/0\.6/replication/(\d+) ")

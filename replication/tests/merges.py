@@ -19,7 +19,8 @@ from folder import Folder, State
 from from_gateway import KINDS
 from killed import Steps
 from merged import DAY, hours_and_days, merged
-from parts import Programs, Wrong, compare, from_nothing, whole_files
+from parts import Programs, compare, from_nothing, whole_files
+from serving import Wrong
 
 BEGINNING = 1_800_000_000 // DAY * DAY  # a midnight
 Row = tuple[str, int, int, str]  # kind, id, version, action

@@ -26,7 +26,7 @@ import osm_file
 import same
 from edits import Session
 from folder import Folder, State
-from serving import Server, free_port
+from serving import Server, Wrong, free_port
 
 HERE = os.path.dirname(os.path.abspath(__file__))
 TOP = os.path.dirname(os.path.dirname(HERE))
@@ -34,10 +34,6 @@ RUN = os.path.join(os.path.dirname(HERE), "run")
 EXPORT = os.path.join(TOP, "examples", "export_osm.py")
 USERS = "1 alicetoken user alice\n2 bobtoken moderator bob\n"
 MARK = "REPLICATION_TEST"
-
-
-class Wrong(Exception):
-    """What isn't as it should be."""
 
 
 @dataclass(frozen=True)

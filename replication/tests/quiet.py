@@ -12,8 +12,8 @@ from typing import Any
 import edits
 import followers
 from edits import Session
-from parts import USERS, Programs, Running, Wrong, export, url
-from serving import Server
+from parts import USERS, Programs, Running, export, url
+from serving import Server, Wrong
 
 QUIET = 4  # intervals without a change
 LATE = 30  # seconds that a busy machine may take to write a file or to ask

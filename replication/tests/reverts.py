@@ -11,8 +11,8 @@ import edits
 from edits import Session, deletion, node, relation, way
 from export_osm import read_kind
 from map_client import KINDS, Client, Key, key
-from parts import TOP, USERS, Programs, Wrong, url
-from serving import Server
+from parts import TOP, USERS, Programs, url
+from serving import Server, Wrong
 
 REVERT = os.path.join(TOP, "examples", "revert.py")
 Contents = dict[Key, Any]

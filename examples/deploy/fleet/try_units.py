@@ -28,8 +28,8 @@ TOP = os.path.dirname(os.path.dirname(DEPLOY))
 sys.path[1:1] = [os.path.dirname(DEPLOY), os.path.join(TOP, "examples", "fleet")]
 
 from nginx import MAIN, words_of
-from running import Redis, Wrong, wait_until
-from serving import free_port
+from running import Redis, wait_until
+from serving import Wrong, free_port, trial_status
 
 LIB, UNITS = "usr/lib/hegunsap", "usr/lib/systemd/system"
 FLEET = ("writer", "carrier@", "mirror@", "level")
@@ -229,7 +229,7 @@ def begun(root: Root, stack: ExitStack, name: str, instance: str = "", more: str
     return unit
 
 
-def trial(root: Root, stack: ExitStack) -> None:
+def units(root: Root, stack: ExitStack) -> None:
     begin = partial(begun, root, stack)
     ports = [root.ports[it] for it in ("8083", "8084")]
     begin("hegunsap-map")
@@ -267,6 +267,17 @@ def trial(root: Root, stack: ExitStack) -> None:
     print("each ends in order by SIGTERM")
 
 
+def tried(words: argparse.Namespace) -> None:
+    with tempfile.TemporaryDirectory() as folder, ExitStack() as stack:
+        os.chmod(folder, 0o755)
+        os.umask(0o022)
+        root = Root(folder, words)
+        stack.callback(root.redis.kill)
+        root.verify()
+        root.make_users()
+        units(root, stack)
+
+
 def main() -> int:
     parser = argparse.ArgumentParser(usage=(__doc__ or "").split("\n\n")[0].partition(": ")[2])
     parser.add_argument("--program", default=os.path.join(TOP, "crates", "osm", "out", "osm"))
@@ -275,19 +286,7 @@ def main() -> int:
     if os.geteuid():
         print("it starts services as their users: only root can")
         return 2
-    with tempfile.TemporaryDirectory() as folder, ExitStack() as stack:
-        os.chmod(folder, 0o755)
-        os.umask(0o022)
-        root = Root(folder, words)
-        stack.callback(root.redis.kill)
-        try:
-            root.verify()
-            root.make_users()
-            trial(root, stack)
-        except Wrong as why:
-            print(f"wrong: {why}")
-            return 1
-    return 0
+    return trial_status(partial(tried, words))
 
 
 if __name__ == "__main__":
