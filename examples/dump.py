@@ -28,7 +28,7 @@ sys.path.append(os.path.join(TOP, "replication"))
 import changeset_file
 from export_osm import read_kind, replication_headers
 from feed import Feed, OtherJournal, Unusable, entry_of
-from given_token import add_token, token_of
+from given_token import add_token
 from kept_journal import HEADER, Writing
 from kept_link import Lost
 from map_client import KINDS, Client, Element, Refused
@@ -174,11 +174,11 @@ def in_place(folder: str, write: Callable[[list[str]], None]) -> None:
         os.replace(path, os.path.join(folder, name))
 
 
-def dump(words: argparse.Namespace, token: str) -> None:
+def dump(words: argparse.Namespace) -> None:
     last, headers = place_of(words.replication) if words.replication else (None, {})
     if words.feed:
-        last = last_of_feed(words.feed, token) if last is None else last
-    entries = entries_of_file(words.journal) if words.journal else entries_of_feed(words.feed, token)
+        last = last_of_feed(words.feed, words.token) if last is None else last
+    entries = entries_of_file(words.journal) if words.journal else entries_of_feed(words.feed, words.token)
     os.makedirs(words.folder, exist_ok=True)
     with tempfile.TemporaryDirectory() as work:
         journal = os.path.join(work, "journal")
@@ -202,15 +202,16 @@ def main() -> int:
     source = parser.add_mutually_exclusive_group(required=True)
     source.add_argument("--feed")
     source.add_argument("--journal")
-    add_token(parser)
+    add_token(parser, needed=False)
     parser.add_argument("--replication")
     own = BUILT if os.access(BUILT, os.X_OK) else f"{os.path.join(TOP, 'osm')} mirror"
     parser.add_argument("--mirror", default=own, help="the command of a mirror's program; %(default)s")
     parser.add_argument("folder")
     words = parser.parse_args()
-    token = token_of(parser, words) if words.feed else ""
+    if words.feed and not words.token:
+        parser.error("a feed needs a token, by --token-file or by HEGUNSAP_TOKEN of the environment")
     try:
-        dump(words, token)
+        dump(words)
     except (Lost, Unusable, OtherJournal, Ended, Refused, RuntimeError, OSError, KeyError, ValueError) as why:
         print(f"dump.py: {why}", file=sys.stderr)
         return 1

@@ -65,7 +65,7 @@ def inside(elements: Map, box: Box) -> Map:
 
 
 def importing(server: Server, links: int, path: str) -> tuple[str, ...]:
-    return ("--server", url(server.port), "--token", "alicetoken", "--links", str(links), path)
+    return ("--server", url(server.port), "--links", str(links), path)
 
 
 def check_export(server: Server, what: str, wanted: Map, path: str, *more: str) -> None:

@@ -1,10 +1,11 @@
 #!/usr/bin/python3
-"""Loads a file of OpenStreetMap: examples/import_osm.py --server URL --token TOKEN [--links 4] [--size 2000]
+"""Loads a file of OpenStreetMap: examples/import_osm.py --server URL [--token-file FILE] [--links 4] [--size 2000]
     [--ids TABLE] FILE
 
 FILE is a .osm, .osm.pbf or .osc. Needs Debian's python3-pyosmium and python3-tqdm, and a worker of the server for
 each link. It is read into memory whole. New ids stand in FILE.ids, a line `kind old new version` for each element.
 FILE.sent notes what was sent: after a break the same words go on where it ended, and nothing is entered twice.
+The token is a user's, and HEGUNSAP_TOKEN of the environment where no file is named.
 
 --ids names such a table, that of a former import. What it has is changed or deleted, and not made anew: a .osc
 is applied to what its extract became. Where somebody else has changed an element since, the import stops with the
@@ -31,8 +32,11 @@ need("osmium", "tqdm")
 
 import tqdm
 
+sys.path.append(os.path.join(os.path.dirname(os.path.dirname(os.path.abspath(__file__))), "replication"))
+
 import import_plan
 import osm_file
+from given_token import add_token
 from import_plan import Table, Upload
 from map_client import KINDS, Client, Lost, Refused, key
 
@@ -307,8 +311,8 @@ def load(it: argparse.Namespace) -> None:
 
 def main() -> int:
     parser = argparse.ArgumentParser(usage=(__doc__ or "").split("\n\n")[0].partition(": ")[2])
-    for name in ("server", "token"):
-        parser.add_argument(f"--{name}", required=True)
+    parser.add_argument("--server", required=True)
+    add_token(parser)
     parser.add_argument("--links", type=int, default=4)
     parser.add_argument("--size", type=int, default=2000, choices=range(1, HOLDS + 1), metavar="N")
     parser.add_argument("--ids")

@@ -10,10 +10,13 @@ Status 0 where all is undone, 1 where something was skipped, 3 where the server 
 from __future__ import annotations
 
 import argparse
+import os
 import sys
 from typing import Any
 
-from given_token import add_token, token_of
+sys.path.append(os.path.join(os.path.dirname(os.path.dirname(os.path.abspath(__file__))), "replication"))
+
+from given_token import add_token
 from map_client import Client, Lost, Refused
 from undoing import Plan, plan_of
 from undoing_order import operations
@@ -70,7 +73,7 @@ def main() -> int:
     parser.add_argument("--comment")
     parser.add_argument("changeset", type=int)
     it = parser.parse_args()
-    client = Client(it.server, token_of(parser, it))
+    client = Client(it.server, it.token)
     try:
         plan, changeset = upload(client, it.changeset, it.comment or f"changeset {it.changeset} undone")
     except (Refused, Lost, OSError) as why:

@@ -42,7 +42,9 @@ SMALL_BOX, LARGE_BOX = "-30.1,44.9,-29.9,45.1", "-31,44,-29,46"
 
 
 def start(name: str, *words: str) -> subprocess.Popen[str]:
-    return subprocess.Popen([os.path.join(HERE, name), *words], stdout=subprocess.PIPE, stderr=subprocess.PIPE, text=True)
+    """One of this folder's programs, with a user's token."""
+    environment = os.environ | {"HEGUNSAP_TOKEN": "alicetoken"}
+    return subprocess.Popen([os.path.join(HERE, name), *words], stdout=subprocess.PIPE, stderr=subprocess.PIPE, text=True, env=environment)
 
 
 def run(name: str, *words: str, status: int = 0) -> str:
@@ -58,7 +60,7 @@ def url(port: int) -> str:
 
 
 def importing(port: int, *more: str) -> tuple[str, ...]:
-    return ("--server", url(port), "--token", "alicetoken", "--links", "3", "--size", "300", *more)
+    return ("--server", url(port), "--links", "3", "--size", "300", *more)
 
 
 def check_map(port: int, wanted: str, folder: str) -> None:

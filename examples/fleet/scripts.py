@@ -4,7 +4,6 @@ from __future__ import annotations
 
 import argparse
 import os
-import re
 import sys
 import time
 from collections.abc import Callable
@@ -13,7 +12,9 @@ HERE = os.path.dirname(os.path.abspath(__file__))
 sys.path.insert(1, os.path.join(HERE, "..", "..", "replication"))
 
 from feed import OtherJournal, Unusable
+from given_token import add_token
 
+__all__ = ["AGAIN", "Trouble", "add_engine", "add_token", "run", "say", "usage"]
 AGAIN = 0.1  # seconds before one who doesn't answer is asked again
 
 
@@ -42,33 +43,6 @@ def say(name: str, text: object) -> None:
 
 def usage(doc: str | None) -> str:
     return (doc or "").split("\n\n")[0].partition(": ")[2]
-
-
-class TokenFile(argparse.Action):
-    """The token that a file has in its one line."""
-
-    def __call__(self, parser: argparse.ArgumentParser, namespace: argparse.Namespace, path: object, option: str | None = None) -> None:
-        try:
-            with open(str(path), encoding="ascii", errors="replace") as file:
-                namespace.token = checked_token(parser, str(path), file.read().strip())
-        except OSError as why:
-            parser.error(f"{path}: {why.strerror}")
-
-
-def checked_token(parser: argparse.ArgumentParser, source: str, token: str) -> str:
-    if not re.fullmatch("[!-~]+", token):
-        parser.error(f"{source} has to have one token and nothing else")
-    return token
-
-
-def add_token(parser: argparse.ArgumentParser) -> None:
-    """A moderator's, by a file or by the environment: among the words every user of the machine could read it."""
-    token = os.environ.get("HEGUNSAP_TOKEN", "")
-    if token:
-        checked_token(parser, "HEGUNSAP_TOKEN", token)
-    parser.allow_abbrev = False  # the word --token of before would be taken for --token-file
-    text = "with the token in one line; without it HEGUNSAP_TOKEN of the environment has the token"
-    parser.add_argument("--token-file", action=TokenFile, dest="token", required=not token, default=token, metavar="FILE", help=text)
 
 
 def add_engine(parser: argparse.ArgumentParser) -> None:

@@ -16,7 +16,9 @@ BOX = {"left": "-30.0005", "bottom": "44.9995", "right": "-29.99", "top": "45.01
 
 
 def command(*words: str) -> str:
-    done = subprocess.run(words, capture_output=True, text=True, timeout=300, check=False)
+    """What it writes; of examples/ with a user's token."""
+    environment = os.environ | {"HEGUNSAP_TOKEN": "alicetoken"}
+    done = subprocess.run(words, capture_output=True, text=True, timeout=300, check=False, env=environment)
     if done.returncode:
         raise Wrong(f"{words[0]} ended with status {done.returncode}: {done.stdout[-800:]}{done.stderr[-1500:]}")
     return done.stdout
@@ -34,7 +36,7 @@ def loaded(gateway: Gateway, folder: str, server: int) -> None:
     """A small town, by the importer of examples/, straight to the server."""
     town = f"{folder}/town.osm.pbf"
     command(f"{EXAMPLES}/town.py", "--blocks", "4", town)
-    command(f"{EXAMPLES}/import_osm.py", "--server", f"http://127.0.0.1:{server}", "--token", "alicetoken", "--links", "2", town)
+    command(f"{EXAMPLES}/import_osm.py", "--server", f"http://127.0.0.1:{server}", "--links", "2", town)
 
 
 def run(program: str) -> str:

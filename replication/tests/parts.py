@@ -51,14 +51,14 @@ class Running:
 
     def __init__(self, programs: Programs, port: int, folder: str, *more: str, killed_at: int = 0, script: str = RUN) -> None:
         command = [os.path.join(HERE, "killed.py"), str(killed_at)] if killed_at else [script]
-        words = ["--feed", url(port), "--token", "bobtoken", "--folder", folder, "--mirror", programs.mirror, "--every", "1", *more]
+        words = ["--feed", url(port), "--folder", folder, "--mirror", programs.mirror, "--every", "1", *more]
         self.folder, self.mark = Folder(folder), uuid.uuid4().hex
         self.process = subprocess.Popen(
             [sys.executable, *command, *words],
             stdout=subprocess.DEVNULL,
             stderr=subprocess.PIPE,
             text=True,
-            env={**os.environ, MARK: self.mark},
+            env={**os.environ, "HEGUNSAP_TOKEN": "bobtoken", MARK: self.mark},
         )
 
     def __enter__(self) -> Running:
