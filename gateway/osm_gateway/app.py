@@ -9,7 +9,7 @@ from collections.abc import Awaitable, Callable, Iterator
 
 from aiohttp import ClientPayloadError, web
 
-from . import calls_about, calls_changesets, calls_discussions, calls_elements, calls_notes, calls_oauth, calls_preferences, id_editor, overview, pages
+from . import calls_about, calls_blocks, calls_changesets, calls_discussions, calls_elements, calls_notes, calls_oauth, calls_preferences, id_editor, overview, pages
 from .call import Call, Gateway
 from .doubts import unknown
 from .limits import TooMany, address_of
@@ -46,6 +46,7 @@ TABLE: tuple[tuple[str, str, Handler], ...] = (
     ("GET", "user/details", calls_about.user_details),
     ("GET", "user/preferences", calls_preferences.read_all),
     ("PUT", "user/preferences", calls_preferences.write_all),
+    ("GET", "user/blocks/active", calls_blocks.active),
     ("GET", f"user/{ID}", calls_about.user),
     ("GET", "users", calls_about.users),
     ("PUT", "changeset/create", calls_changesets.create),
@@ -63,6 +64,9 @@ TABLE: tuple[tuple[str, str, Handler], ...] = (
     ("DELETE", f"changeset/{ID}/subscription", calls_discussions.unsubscribe),
     ("POST", f"changeset/comment/{ID}/hide", calls_discussions.seen(False)),
     ("POST", f"changeset/comment/{ID}/unhide", calls_discussions.seen(True)),
+    ("POST", "user_blocks", calls_blocks.create),
+    ("GET", f"user_blocks/{ID}", calls_blocks.read),
+    ("DELETE", f"user_blocks/{ID}", calls_blocks.revoke),
     ("GET", "trackpoints", calls_about.trackpoints),
     ("POST", f"{KIND}/{ID}/{VERSION}/redact", calls_elements.redact),
     ("POST", "redactions", calls_elements.new_redaction),
@@ -89,7 +93,7 @@ OWN_ENDS: tuple[tuple[str, str, Handler], ...] = (
 """A key may end with .json, so these paths have no end that says a form; and notes have more forms."""
 UNSERVED = (
     (re.compile(r"/api/0\.6/(gpx.*|user/gpx_files|gpx/create)"), "GPS traces aren't served here"),
-    (re.compile(r"/api/0\.6/(changeset/[0-9]+/expand_bbox|user_blocks.*|user/messages.*|map\.gz)"), "This isn't served here"),
+    (re.compile(r"/api/0\.6/(changeset/[0-9]+/expand_bbox|user/messages.*|map\.gz)"), "This isn't served here"),
     (re.compile(r"/api/0\.[0-57-9].*|/api/1.*"), "This is version 0.6 of the API"),
 )
 """What OSM's API has and nobody behind the gateway."""

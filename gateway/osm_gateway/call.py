@@ -9,14 +9,16 @@ from collections.abc import Iterable, Iterator
 from dataclasses import dataclass, field
 from enum import Enum
 from typing import Any
-from urllib.parse import quote
+from urllib.parse import parse_qsl, quote
 
 from aiohttp import web
 
+from .blocks import Blocks
 from .callers import UNPERMITTED, Caller, Callers, scopes_of
 from .degrees import NotDecimal, degrees_of, units_of
 from .discussions import Discussions
 from .doubts import Once
+from .json_read import DecimalText
 from .limits import Rates, address_of
 from .links import InDoubt, Links
 from .log import shown, tell, where
@@ -36,6 +38,7 @@ from .xml_texts import Texts
 XML_BODY = 1 << 26
 """Bytes of an XML document that is read: twice those of the server's JSON, which says the same in fewer."""
 JSON_BODY = 1 << 25
+FORM_BODY = 1 << 16
 READING, WRITING = 300.0, 300.0
 
 UNCONFIRMED = (
@@ -45,6 +48,9 @@ UNCONFIRMED = (
 
 WHOLE = 1 << 16
 """Characters up to which a document is answered whole."""
+
+
+READS = ("GET", "HEAD", "OPTIONS")
 
 
 class Form(Enum):
@@ -76,6 +82,7 @@ class Gateway:
         self.callers = Callers(self.people, self.oauth.grants, self.words.guesses)
         self.rates = Rates(self.words.rate)
         self.discussions = Discussions(self.store, self.people)
+        self.blocks = Blocks(self.store)
         self.overview: Any = None
 
     def site(self, request: web.Request) -> str:
@@ -117,6 +124,8 @@ class Call:
         request["user"] = self.caller.user.name if self.caller.user else None
         if not self.caller.may(*scopes_of(request.method, request.path)):
             raise Refused(403, UNPERMITTED)
+        if self.caller.user and request.method not in READS:
+            gateway.blocks.refuse(self.caller.user)
         request["texts"] = self.texts
 
     @property
@@ -139,6 +148,12 @@ class Call:
 
     def user(self) -> User:
         return self.gateway.people.known(self.token)
+
+    def moderator(self) -> User:
+        user = self.user()
+        if not user.moderator:
+            raise Refused(403, "Only a moderator may do this")
+        return user
 
     # ---- what was asked
 
@@ -184,6 +199,20 @@ class Call:
         if not coding.is_whole():
             raise Refused(400, "The document's coding ends too early")
         return spool
+
+    async def parameters(self) -> dict[str, str]:
+        """The parameters, and before them those of a form or an object of JSON in the body."""
+        text = (await self.body(FORM_BODY)).whole().decode("utf-8", "replace")
+        given = dict(self.request.query)
+        if text.lstrip().startswith("{"):
+            try:
+                rows = json.loads(text, parse_float=DecimalText)
+            except (ValueError, RecursionError):
+                raise Refused(400, "Cannot parse the JSON of the parameters") from None
+            given |= {name: str(value) for name, value in rows.items() if isinstance(value, (str, int)) and not isinstance(value, bool)}
+        else:
+            given |= dict(parse_qsl(text, keep_blank_values=True))
+        return given
 
     def too_long(self, limit: int) -> None:
         """Refuses a document by what is said of its length, before it is read."""

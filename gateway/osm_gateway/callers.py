@@ -33,12 +33,14 @@ class Caller:
 def scopes_of(method: str, path: str) -> tuple[str, ...]:
     """Of what a token of OAuth must allow one thing for a call, as on OSM's servers; none where nobody need say who he is."""
     call = path.removeprefix("/api/0.6/")
-    if call.startswith(("user/details", "user/preferences", "user/gpx_files")):
+    if call.startswith(("user/details", "user/preferences", "user/gpx_files", "user/blocks")):
         return ("read_prefs",) if method in ("GET", "HEAD") else ("write_prefs",)
     if method in ("GET", "HEAD", "OPTIONS"):
         return ()
     if call.startswith("notes"):
         return ("write_notes",)
+    if call.startswith("user_blocks"):
+        return ("write_blocks",)
     if call.startswith("redactions") or "/redact" in call:
         return ("write_redactions",)
     talk = re.fullmatch(r"changeset/(comment/)?[0-9]+/(comment|subscribe|unsubscribe|subscription|hide|unhide)(\.\w+)?", call)

@@ -57,8 +57,8 @@ async def permissions(call: Call) -> web.StreamResponse:
     scopes = [name for name in SCOPES if user and call.caller.may(name) and not name.endswith("_gpx")]
     if call.gateway.notes is None and "write_notes" in scopes:
         scopes.remove("write_notes")
-    if not (user and user.moderator) and "write_redactions" in scopes:
-        scopes.remove("write_redactions")
+    if not (user and user.moderator):
+        scopes = [name for name in scopes if name not in ("write_redactions", "write_blocks")]
     names = [f"allow_{name}" for name in scopes]
     if call.wants_json:
         return call.answer(json_write.document(permissions=value_of(names)))
@@ -75,15 +75,16 @@ KEPT, MOST = 30.0, 20
 
 async def counts_of(call: Call, it: User) -> Counts:
     """A user's changesets, up to the hundred that the server lists; unknown where it doesn't answer."""
+    blocks = call.gateway.blocks.counts(it.id), call.gateway.blocks.counts(it.id, "creator")
     moment, count = call.gateway.counted.get(it.id, (0.0, 0))
     if time.monotonic() - moment > KEPT:
         try:
             reply = await call.ask("GET", "changesets", {"user": str(it.id)})
         except Refused:
-            return Counts()
+            return Counts(None, *blocks)
         count = sum(1 for _ in documents.rows(events_of(reply), "changesets"))
         call.gateway.counted[it.id] = (time.monotonic(), count)
-    return Counts(count)
+    return Counts(count, *blocks)
 
 
 async def shown(call: Call, it: User, mine: bool) -> web.StreamResponse:

@@ -3,7 +3,6 @@
 from __future__ import annotations
 
 from collections.abc import Awaitable, Callable
-from urllib.parse import parse_qsl
 
 from aiohttp import web
 
@@ -13,7 +12,7 @@ from .discussions import Remark
 from .refusals import Refused
 from .rows import Changeset
 
-FORM_BYTES, LONGEST = 1 << 16, 2000
+LONGEST = 2000
 
 
 def talk_of(call: Call, it: Changeset) -> list[Remark] | None:
@@ -38,8 +37,7 @@ async def changeset_of(call: Call, number: int) -> Changeset:
 
 async def comment(call: Call) -> web.StreamResponse:
     user, number = call.user(), call.path("id")
-    body = (await call.body(FORM_BYTES)).whole().decode("utf-8", "replace")
-    text = dict(parse_qsl(body, keep_blank_values=True)).get("text", call.query("text") or "")
+    text = (await call.parameters()).get("text")
     if not text:
         raise Refused(400, "No text was given")
     if len(text) > LONGEST:
@@ -67,8 +65,7 @@ async def unsubscribe(call: Call) -> web.StreamResponse:
 
 def seen(visible: bool) -> Callable[[Call], Awaitable[web.StreamResponse]]:
     async def change(call: Call) -> web.StreamResponse:
-        if not call.user().moderator:
-            raise Refused(403, "Only a moderator may do this")
+        call.moderator()
         number = call.path("id")
         found = call.gateway.discussions.one(number)
         if found is None:

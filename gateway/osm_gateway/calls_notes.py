@@ -7,16 +7,14 @@ from collections.abc import Iterator, Sequence
 from datetime import datetime, timedelta, timezone
 from functools import partial
 from typing import Any
-from urllib.parse import parse_qsl
 
 from aiohttp import web
 
 from . import documents, hidden, json_write, notes_forms, notes_search, xml_write
-from .call import Call, Form, box_of, events_of, number_of
+from .call import FORM_BODY, Call, Form, box_of, events_of, number_of
 from .changes import ENCODER
 from .created_once import note_changed, note_created
 from .degrees import NotDecimal, units_of
-from .json_read import DecimalText
 from .links import Links
 from .refusals import Refused
 from .documents import NoteForm
@@ -25,7 +23,6 @@ from .spool import Spool
 from .times import moment_of
 from .walk import Path
 
-FORM_BYTES = 1 << 16
 LONGEST = 2000
 """Characters of a text that the server takes; what it would refuse is refused before, so that a lost answer is no refusal."""
 
@@ -34,21 +31,6 @@ def notes_of(call: Call) -> Links:
     if call.gateway.notes is None:
         raise Refused(404, "Notes aren't served here")
     return call.gateway.notes
-
-
-async def form(call: Call) -> dict[str, str]:
-    """The parameters, and before them those of a form or an object of JSON in the body."""
-    text = (await call.body(FORM_BYTES)).whole().decode("utf-8", "replace")
-    given = dict(call.request.query)
-    if text.lstrip().startswith("{"):
-        try:
-            rows = json.loads(text, parse_float=DecimalText)
-        except (ValueError, RecursionError):
-            raise Refused(400, "Cannot parse the JSON of a note") from None
-        given |= {name: str(value) for name, value in rows.items() if isinstance(value, (str, int)) and not isinstance(value, bool)}
-    else:
-        given |= dict(parse_qsl(text, keep_blank_values=True))
-    return given
 
 
 def check_length(text: str) -> None:
@@ -121,7 +103,7 @@ async def answered(call: Call, reply: Spool) -> web.StreamResponse:
 
 
 async def create(call: Call) -> web.StreamResponse:
-    server, given = notes_of(call), await form(call)
+    server, given = notes_of(call), await call.parameters()
     lat7, lon7, text = place(given, "lat"), place(given, "lon"), given.get("text", "")
     if not text:
         raise Refused(400, "No text was given")
@@ -139,7 +121,7 @@ async def read(call: Call) -> web.StreamResponse:
 
 async def change(call: Call) -> web.StreamResponse:
     """Comments on, closes or opens again."""
-    server, given = notes_of(call), await form(call)
+    server, given = notes_of(call), await call.parameters()
     call.user()
     what = call.request.match_info["what"]
     if what == "comment" and not given.get("text"):
@@ -199,9 +181,8 @@ async def feed(call: Call) -> web.StreamResponse:
 
 async def hide(call: Call) -> web.StreamResponse:
     """From everybody but moderators."""
-    if not call.user().moderator:
-        raise Refused(403, "Only a moderator may do this")
-    await call.body(FORM_BYTES)
+    call.moderator()
+    await call.body(FORM_BODY)
     reply = await call.ask("GET", f"notes/{call.path('id')}", server=notes_of(call))
     hidden.hide(call, call.path("id"))
     return await answered(call, reply)

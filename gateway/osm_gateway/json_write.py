@@ -82,7 +82,8 @@ def user(it: User, counts: Counts, mine: bool) -> str:
     row: dict[str, Any] = {"id": it.id, "display_name": it.name, "account_created": BEGINNING, "description": ""}
     row |= {"roles": ["moderator"] if it.moderator else []}
     row |= {"changesets": {"count": counts.changesets}} if counts.changesets is not None else {}
-    row |= {"traces": {"count": 0}, "blocks": {"received": {"count": 0, "active": 0}}}
+    blocks = {"received": counts.received} | ({"issued": counts.issued} if it.moderator else {})
+    row |= {"traces": {"count": 0}, "blocks": {name: {"count": all_, "active": active} for name, (all_, active) in blocks.items()}}
     if mine:
         row |= {"languages": ["en"], "messages": {"received": {"count": 0, "unread": 0}, "sent": {"count": 0}}}
     return value_of(row)

@@ -22,7 +22,9 @@ def shown(text: str) -> str:
 
 
 def tell(line: str) -> None:
-    print(f"gateway: {line}", file=sys.stderr, flush=True)
+    # By one write: that of the line's end would come behind the text of another process.
+    sys.stderr.write(f"gateway: {line}\n")
+    sys.stderr.flush()
 
 
 def where(why: BaseException) -> str:

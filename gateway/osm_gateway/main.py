@@ -39,9 +39,24 @@ def read_people(path: str) -> People:
         with open(path, encoding="utf-8", newline="\n") as file:
             return people_of(file.read())
     except OSError as why:
-        raise SystemExit(f"gateway: the users text can't be read: {why}") from None
+        raise BadUsers(f"the users text can't be read: {why}") from None
     except (BadUsers, UnicodeDecodeError) as why:
-        raise SystemExit(f"gateway: {path}: {why}") from None
+        raise BadUsers(f"{path}: {why}") from None
+
+
+def first_people(path: str) -> People:
+    try:
+        return read_people(path)
+    except BadUsers as why:
+        raise SystemExit(f"gateway: {why}") from None
+
+
+def read_again(path: str, people: People) -> None:
+    """At SIGHUP. A text that can't be read changes nothing."""
+    try:
+        tell(f"the users text was read again, with {people.take(read_people(path))}")
+    except BadUsers as why:
+        tell(f"the users are those of before: {why}")
 
 
 def many_files() -> None:
@@ -148,6 +163,7 @@ async def serve(words: Words, gateway: Gateway, is_shared: bool) -> int:
     if not words.data:
         tell("authorizations, preferences and discussions are in memory alone: --data names a file for them")
     ended = told_to_end()
+    asyncio.get_running_loop().add_signal_handler(signal.SIGHUP, read_again, words.users, gateway.people)
     runners = [
         await listen(
             app_of(gateway), (words.host, words.port), is_shared, access_log_class=CommonLog, access_log=None if words.quiet else CommonLog.sink(),
@@ -174,11 +190,12 @@ async def serve(words: Words, gateway: Gateway, is_shared: bool) -> int:
 
 def main() -> int:
     words = read_words()
-    people = read_people(words.users)
+    people = first_people(words.users)
     check_editor(words.id)
     licensed(words)
     many_files()
     hear_faults()
+    signal.signal(signal.SIGHUP, signal.SIG_IGN)  # until there is somebody to read the users text again
     common = Common.of(words)
 
     def one(part: Words) -> int:

@@ -30,6 +30,7 @@ SCOPES = {
     "write_changeset_comments": "comment on changesets",
     "write_notes": "open, comment on and close notes",
     "write_redactions": "redact versions, where you are a moderator",
+    "write_blocks": "block users, where you are a moderator",
     "read_gpx": "read your GPS traces (there are none here)",
     "write_gpx": "upload GPS traces (there are none here)",
 }

@@ -40,6 +40,17 @@ class People:
             raise BadUsers("its id, token or name is that of an earlier line")
         self.by_token[it.token] = self.by_id[it.id] = self.by_name[it.name] = it
 
+    def take(self, new: People) -> str:
+        """Goes on with the users of another text, and tells what is other."""
+        before, after = self.by_id, new.by_id
+        counts = {
+            "new": len(after.keys() - before.keys()),
+            "gone": len(before.keys() - after.keys()),
+            "with another name, token or role": sum(before[number] != after[number] for number in before.keys() & after.keys()),
+        }
+        self.by_token, self.by_id, self.by_name, self.large_from = new.by_token, new.by_id, new.by_name, new.large_from
+        return f"{len(after)} users: " + ", ".join(f"{count} {what}" for what, count in counts.items())
+
     def changes(self) -> int:
         """The most changes that a changeset of now takes."""
         return 50_000 if self.large_from is not None and time.time() >= self.large_from else 10_000

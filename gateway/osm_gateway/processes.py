@@ -76,14 +76,18 @@ def run(count: int, serve: Callable[[int], int]) -> int:
     children = {begin(serve, number) for number in range(count)}
     told = False
 
+    def pass_on(number: int, _: object = None) -> None:
+        for child in children:
+            os.kill(child, number)
+
     def end(*_: object) -> None:
         nonlocal told
         told = True
-        for child in children:
-            os.kill(child, signal.SIGTERM)
+        pass_on(signal.SIGTERM)
 
     for it in (signal.SIGTERM, signal.SIGINT):
         signal.signal(it, end)
+    signal.signal(signal.SIGHUP, pass_on)
     highest = 0
     while children:
         child, status = os.wait()

@@ -72,6 +72,9 @@ class Counts(NamedTuple):
     """What is counted of a user; None where it isn't known."""
 
     changesets: int | None = None
+    received: tuple[int, int] = (0, 0)
+    """Blocks, and those of them that hold."""
+    issued: tuple[int, int] = (0, 0)
 
 
 class Comment(TypedDict):

@@ -24,6 +24,10 @@ CREATE TABLE IF NOT EXISTS comments (id INTEGER PRIMARY KEY AUTOINCREMENT, chang
 CREATE INDEX IF NOT EXISTS comments_of_changeset ON comments (changeset, id);
 CREATE TABLE IF NOT EXISTS subscriptions (changeset INTEGER NOT NULL, user INTEGER NOT NULL, PRIMARY KEY (changeset, user)) STRICT;
 CREATE TABLE IF NOT EXISTS note_subscriptions (note INTEGER NOT NULL, user INTEGER NOT NULL, PRIMARY KEY (note, user)) STRICT;
+CREATE TABLE IF NOT EXISTS blocks (id INTEGER PRIMARY KEY AUTOINCREMENT, user INTEGER NOT NULL, creator INTEGER NOT NULL,
+    created INTEGER NOT NULL, updated INTEGER NOT NULL, ends INTEGER NOT NULL, needs_view INTEGER NOT NULL, revoker INTEGER,
+    reason TEXT NOT NULL) STRICT;
+CREATE INDEX IF NOT EXISTS blocks_of_user ON blocks (user);
 CREATE TABLE IF NOT EXISTS hidden_notes (id INTEGER PRIMARY KEY, user INTEGER NOT NULL, at INTEGER NOT NULL) STRICT;
 """
 """Moments are seconds since 1970; `secret`, `hash` and `code` are SHA-256 of what a caller shows, so the file gives no token away."""

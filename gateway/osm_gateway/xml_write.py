@@ -102,7 +102,9 @@ def user(texts: Texts, it: User, counts: Counts, mine: bool) -> str:
     """What is known of a user. JOSM can't do without a moment at which the account was made, and nobody knows it."""
     roles = "<roles><moderator/></roles>" if it.moderator else "<roles/>"
     changesets = f'<changesets count="{counts.changesets}"/>' if counts.changesets is not None else ""
-    rest = f'{roles}{changesets}<traces count="0"/><blocks><received count="0" active="0"/></blocks>'
+    blocks = {"received": counts.received} | ({"issued": counts.issued} if it.moderator else {})
+    shown = "".join(f'<{name} count="{all_}" active="{active}"/>' for name, (all_, active) in blocks.items())
+    rest = f'{roles}{changesets}<traces count="0"/><blocks>{shown}</blocks>'
     if mine:
         rest += '<languages><lang>en</lang></languages><messages><received count="0" unread="0"/><sent count="0"/></messages>'
     return f"<user{texts.attributes(id=it.id, display_name=it.name, account_created=BEGINNING)}><description/>{rest}</user>\n"
