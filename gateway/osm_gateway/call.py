@@ -15,6 +15,7 @@ from aiohttp import web
 
 from .blocks import Blocks
 from .callers import UNPERMITTED, Caller, Callers, scopes_of
+from .changesets_known import Known
 from .degrees import NotDecimal, degrees_of, units_of
 from .discussions import Discussions
 from .doubts import Once
@@ -74,6 +75,7 @@ class Gateway:
     counts: Counts | None = None
     counted: dict[int, tuple[float, int]] = field(default_factory=dict)
     """How many changesets a user has, and when they were counted."""
+    known_changesets: Known = field(default_factory=Known)
     last_note: int = 0
     """The largest id of a note that was seen."""
 
@@ -272,7 +274,12 @@ class Call:
 
     async def value(self, *words: Any, **more: Any) -> Any:
         """The same, of a small reply, as a value."""
-        return json.loads((await self.ask(*words, **more)).whole())
+        reply = await self.ask(*words, **more)
+        found = json.loads(reply.whole())
+        # A call may ask for thousands of these.
+        reply.close()
+        self.spools.remove(reply)
+        return found
 
     async def work(self, pieces: Iterable[str]) -> None:
         """Carries out in turns what tells nothing."""

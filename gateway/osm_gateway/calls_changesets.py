@@ -3,8 +3,6 @@
 from __future__ import annotations
 
 import json
-from dataclasses import dataclass
-from datetime import datetime, timedelta
 from typing import Any
 
 from aiohttp import web
@@ -15,7 +13,10 @@ from .calls_discussions import shown, talk_of
 from .calls_elements import texts_of
 from .changes import ENCODER, change_of
 from .changes_once import Change, closed, made_once, retagged, unended
+from .changesets_known import Facts, Filters
+from .changesets_past import Search
 from .created_once import changeset_created
+from .degrees import units_of
 from .made_again import operations_of
 from .refusals import Asked, Operations, Refused
 from .rows import Changeset
@@ -24,8 +25,6 @@ from .xml_read import ChangeReader, TagsReader
 
 MOST = 100
 """Changesets in one reply, as many as the server gives."""
-LONGEST_OPEN = timedelta(days=1)
-"""Behind its creation each changeset is closed within this time."""
 
 
 async def tags_of(call: Call) -> dict[str, Any] | None:
@@ -94,43 +93,34 @@ async def download(call: Call) -> web.StreamResponse:
 # ---- looking for changesets
 
 
-def moment(text: str, name: str) -> datetime:
-    """What a parameter says."""
+def moment(call: Call, name: str, text: str | None) -> float | None:
+    """What a parameter says, in seconds since 1970."""
+    if not text:
+        return None
     try:
-        return moment_of(text)
-    except ValueError:
+        return moment_of(text).timestamp()
+    except (ValueError, OverflowError):
         raise Refused(400, f"The parameter {name} can't be read: {text[:100]} is no moment") from None
 
 
-@dataclass(frozen=True)
-class Times:
-    """The filters by time. The server has none, so they sift its newest hundred."""
+def user_of(call: Call) -> int | None:
+    """Whose changesets are asked for."""
+    name, number = call.query("display_name"), call.passed_on("user").get("user")
+    if name is None:
+        return int(number) if number else None
+    user = call.gateway.people.by_name.get(name)
+    if user is None or number:
+        raise Refused(*((404, f"There is no user {name}") if user is None else (400, "provide either the user ID or display name, but not both")))
+    return user.id
 
-    closed_since: datetime | None
-    created_until: datetime | None
-    created_since: datetime | None
-    created_before: datetime | None
 
-    @staticmethod
-    def of(call: Call) -> Times:
-        earliest, _, latest = (call.query("time") or "").partition(",")
-        texts = (("time", earliest), ("time", latest), ("from", call.query("from")), ("to", call.query("to")))
-        return Times(*(moment(text, name) if text else None for name, text in texts))
-
-    def pass_on(self, it: Changeset) -> bool:
-        created = moment_of(it["created_at"])
-        if self.closed_since and "closed_at" in it and moment_of(it["closed_at"]) < self.closed_since:
-            return False
-        if self.created_until and created > self.created_until or self.created_since and created < self.created_since:
-            return False
-        return not (self.created_before and created >= self.created_before)
-
-    def ends_before(self, oldest: Changeset) -> bool:
-        """Whether none that is older than that one can pass: it was created with it at the latest, and closed within a day."""
-        created = moment_of(oldest["created_at"])
-        if self.created_since and created < self.created_since:
-            return True
-        return bool(self.closed_since and created + LONGEST_OPEN < self.closed_since)
+def filters_of(call: Call) -> Filters:
+    box = call.passed_on("bbox").get("bbox")
+    west, south, east, north = map(units_of, box.split(",")) if box else (0, 0, 0, 0)
+    earliest, _, latest = (call.query("time") or "").partition(",")
+    given = (("time", earliest), ("time", latest), ("from", call.query("from")), ("to", call.query("to")))
+    is_open, is_closed = (call.query(name) not in (None, "false") for name in ("open", "closed"))
+    return Filters(user_of(call), (west, south, east, north) if box else None, is_open, is_closed, *(moment(call, *it) for it in given))
 
 
 async def named(call: Call, ids: str) -> list[Changeset]:
@@ -150,30 +140,24 @@ async def named(call: Call, ids: str) -> list[Changeset]:
     return found
 
 
-async def searched(call: Call) -> list[Changeset]:
+async def newest(call: Call, filters: Filters) -> list[Changeset]:
     """The newest that pass the server's filters, a hundred at most, the newest first."""
-    query = call.passed_on("user", "bbox")
-    query |= {name: "true" for name in ("open", "closed") if call.query(name) not in (None, "false")}
-    name = call.query("display_name")
-    if name is not None:
-        user = call.gateway.people.by_name.get(name)
-        if user is None or "user" in query:
-            raise Refused(*((404, f"There is no user {name}") if user is None else (400, "provide either the user ID or display name, but not both")))
-        query["user"] = str(user.id)
+    query = call.passed_on("bbox") | ({"user": str(filters.user)} if filters.user is not None else {})
+    query |= {name: "true" for name, is_set in (("open", filters.is_open), ("closed", filters.is_closed)) if is_set}
     return list(documents.rows(events_of(await call.ask("GET", "changesets", query)), "changesets"))
 
 
-def window(found: list[Changeset], times: Times, limit: int, is_oldest_first: bool, is_all: bool) -> list[Changeset]:
-    """What is asked for of these. Refused where older ones, which the server didn't give, might belong there instead."""
-    passing = [it for it in found if times.pass_on(it)]
-    is_enough = is_all or not is_oldest_first and len(passing) >= limit
-    if not is_enough and not times.ends_before(found[-1]):
-        raise Refused(
-            400,
-            f"The newest {MOST} changesets that pass the other filters reach back to {found[-1]['created_at']}, and older ones aren't "
-            "searched here: ask for a later time, or by user, display_name, bbox, open or closed",
-        )
-    return (passing[::-1] if is_oldest_first else passing)[:limit]
+async def searched(call: Call, filters: Filters, limit: int, is_oldest_first: bool) -> list[Changeset]:
+    """So many that pass at most: of the newest, and of older ones where these may belong there."""
+    ids = call.query("changesets")
+    found = await newest(call, filters) if ids is None else await named(call, ids)
+    passing = [it for it in found if filters.pass_on(Facts.of(it))]
+    is_all = ids is not None or len(found) < MOST or Facts.of(found[-1]).created < filters.begins()
+    older: list[Changeset] = []
+    if not is_all and (is_oldest_first or len(passing) < limit):
+        lacking = limit if is_oldest_first else limit - len(passing)
+        older = await Search(call, filters).found(found[-1]["id"], lacking, is_oldest_first)
+    return (older + passing[::-1] if is_oldest_first else passing + older)[:limit]
 
 
 async def read_some(call: Call) -> web.StreamResponse:
@@ -182,9 +166,7 @@ async def read_some(call: Call) -> web.StreamResponse:
         raise Refused(400, f"Changesets limit must be between 1 and {MOST}")
     if order not in ("newest", "oldest"):
         raise Refused(400, "The order of changesets is newest or oldest")
-    times, ids = Times.of(call), call.query("changesets")
-    found = await searched(call) if ids is None else await named(call, ids)
-    rows = iter(window(found, times, limit, order == "oldest", ids is not None or len(found) < MOST))
+    rows = iter(await searched(call, filters_of(call), limit, order == "oldest"))
     count = call.gateway.discussions.count
     if call.wants_json:
         return await call.answer_in_parts(documents.listed_json("changesets", rows, lambda it: json_write.changeset(it, count(it["id"]))))
