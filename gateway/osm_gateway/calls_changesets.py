@@ -151,7 +151,8 @@ async def searched(call: Call, filters: Filters, limit: int, is_oldest_first: bo
     """So many that pass at most: of the newest, and of older ones where these may belong there."""
     ids = call.query("changesets")
     found = await newest(call, filters) if ids is None else await named(call, ids)
-    passing = [it for it in found if filters.pass_on(Facts.of(it))]
+    passes = filters.pass_times if ids is None else filters.pass_on  # the server has done the rest
+    passing = [it for it in found if passes(Facts.of(it))]
     is_all = ids is not None or len(found) < MOST or Facts.of(found[-1]).created < filters.begins()
     older: list[Changeset] = []
     if not is_all and (is_oldest_first or len(passing) < limit):

@@ -144,15 +144,19 @@ def number(call: Call, name: str, standard: int, least: int, most: int) -> int:
     return found
 
 
+def since_of(days: int) -> datetime | None:
+    return datetime.now(timezone.utc) - timedelta(days=days) if days > 0 else None
+
+
 async def search(call: Call) -> web.StreamResponse:
     """Those of a box, the newest first. `closed` says for how many days closed ones are shown, 7 if not said; -1 is for ever."""
     server, box = notes_of(call), box_of(call.query("bbox"))
     days, limit = number(call, "closed", 7, -1, 100_000), number(call, "limit", 100, 1, 10_000)
-    replies = await notes_search.box_replies(call, server, box, days != 0, limit)
+    since, left = since_of(days), limit
+    replies = await notes_search.box_replies(call, server, box, notes_search.Asked(days != 0, since, limit))
     found = [*hidden.shown(call, await heads_of(call, replies, documents.SOME))]
-    since, left = datetime.now(timezone.utc) - timedelta(days=days), limit
     for place, it in enumerate(found):
-        is_old = days > 0 and it is not None and "closed_at" in it and moment_of(it["closed_at"]) < since
+        is_old = since is not None and it is not None and "closed_at" in it and moment_of(it["closed_at"]) < since
         if it is None or is_old or not left:
             found[place] = None
         else:
@@ -165,8 +169,7 @@ async def search_texts(call: Call) -> web.StreamResponse:
     """By words of their texts, users, moments; of a box or of all."""
     server, box = notes_of(call), box_of(call.query("bbox")) if call.query("bbox") is not None else None
     days, limit = number(call, "closed", 7, -1, 100_000), number(call, "limit", 100, 1, 1_000)
-    since = datetime.now(timezone.utc) - timedelta(days=days) if days > 0 else None
-    ids = await notes_search.searched(call, server, box, notes_search.wanted_of(call, days, since), limit)
+    ids = await notes_search.searched(call, server, box, notes_search.wanted_of(call, days, since_of(days)), limit)
     replies = [await call.ask("GET", f"notes/{it}", server=server) for it in ids]
     found = [*hidden.shown(call, await heads_of(call, replies, documents.ONE))]
     pieces = documents.notes(events_of(*replies), documents.ONE, found, form_of(call))

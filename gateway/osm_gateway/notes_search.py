@@ -25,27 +25,43 @@ WALKED = 2_000
 """Notes that a search without a box looks at, the newest first."""
 
 
-async def count_of(call: Call, reply: Spool) -> int:
-    """The notes of a reply, counted in turns."""
+async def counts_of(call: Call, reply: Spool, since: datetime | None) -> tuple[int, int]:
+    """The notes of a reply, and how many of them weren't closed before that moment, counted in turns."""
 
     def reading() -> Iterator[str]:
-        for it in events_of(reply):
-            yield "." if it.path == documents.SOME and it.sort is Sort.CLOSED else ""
+        closed = ""
+        for sort, path, value in events_of(reply):
+            if path == (*documents.SOME, "closed_at"):
+                closed = value
+            elif path == documents.SOME and sort is Sort.CLOSED:
+                yield "-" if since and closed and moment_of(closed) < since else "."
+                closed = ""
+            yield ""
 
-    return sum([len(part) async for part in call.gateway.turns.parts(reading())])
+    marks = "".join([part async for part in call.gateway.turns.parts(reading())])
+    return len(marks), marks.count(".")
 
 
-async def box_replies(call: Call, server: Links, box: str, closed: bool, limit: int) -> list[Spool]:
+@dataclass(frozen=True)
+class Asked:
+    """Of a box: whether closed notes too, and since when; and how many."""
+
+    closed: bool
+    since: datetime | None
+    limit: int
+
+
+async def box_replies(call: Call, server: Links, box: str, asked: Asked) -> list[Spool]:
     """Replies with the notes of a box. Where there are more than the server lists, of its quarters, which have no edge in common."""
-    boxes, full, asked, found = [[units_of(edge) for edge in box.split(",")]], list[Spool](), 0, 0
-    while boxes and found < limit and asked < ASKED:
+    boxes, full, parts, found = [[units_of(edge) for edge in box.split(",")]], list[Spool](), 0, 0
+    while boxes and found < asked.limit and parts < ASKED:
         west, south, east, north = boxes.pop()
-        query = {"bbox": ",".join(map(degrees_of, (west, south, east, north)))} | ({"closed": "true"} if closed else {})
-        reply, asked = await call.ask("GET", "notes", query, server=server), asked + 1
-        count = await count_of(call, reply) if limit > LISTED else 0
-        if count < LISTED or (west, south) == (east, north):
+        query = {"bbox": ",".join(map(degrees_of, (west, south, east, north)))} | ({"closed": "true"} if asked.closed else {})
+        reply, parts = await call.ask("GET", "notes", query, server=server), parts + 1
+        count, passing = await counts_of(call, reply, asked.since)
+        if count < LISTED or (west, south) == (east, north) or asked.limit <= min(passing, LISTED):
             full.append(reply)
-            found += count
+            found += passing
             continue
         reply.close()
         x, y = (west + east) // 2, (south + north) // 2
@@ -183,7 +199,7 @@ async def searched(call: Call, server: Links, box: str | None, wanted: Wanted, l
     """The ids of the notes that are asked for, in the order that is asked for."""
     found: dict[int, Seen] = {}
     if box is not None:
-        for reply in await box_replies(call, server, box, wanted.with_closed, MOST):
+        for reply in await box_replies(call, server, box, Asked(wanted.with_closed, wanted.closed_since, MOST)):
             found |= {it.head["id"]: it for it in await matches(call, reply, documents.SOME, wanted)}
             reply.close()
     else:

@@ -5,14 +5,13 @@ from __future__ import annotations
 import json
 import random
 import time
-from collections.abc import Iterator
-from contextlib import contextmanager
+from dataclasses import dataclass, field
 from datetime import datetime, timedelta, timezone
 from typing import Any
-from urllib.parse import parse_qs, urlencode, urlsplit
+from urllib.parse import parse_qs, urlencode
 
 from behind import USERS, Gateway, has, want
-from rows import Standing
+from rows import Request, Standing
 from serving import Link, Reply, Server
 
 SEED, COUNT, QUERIES = 20261201, 1000, 400
@@ -82,34 +81,28 @@ def drawn_rows(draw: random.Random, count: int) -> list[Row]:
     return rows
 
 
-class Listing(dict[str, Reply]):
-    """The replies of a server that has these changesets: each by its number, and the newest hundred of those that pass its own filters."""
+@dataclass
+class Listing(Standing):
+    """A server that has these changesets: it gives each by its number, and the newest hundred of those that pass its own filters."""
 
-    def __init__(self, rows: list[Row], pause: float = 0.0) -> None:
-        super().__init__()
-        self.rows, self.pause, self.reads = rows, pause, 0
+    rows: list[Row] = field(default_factory=list)
+    pause: float = 0.0
+    reads: int = 0
 
-    def get(self, path: str, default: Any = None) -> Any:
-        parts = urlsplit(path.removeprefix("/api/0.6/"))
-        name, _, number = parts.path.partition("/")
+    def reply(self, asked: Request) -> Reply:
+        name, _, number = asked.path.removeprefix("/api/0.6/").partition("/")
+        if name == "changesets":
+            query = {name: values[0] for name, values in parse_qs(asked.query).items()}
+            return whole({"changesets": [it for it in self.rows[::-1] if passes(it, query)][:100]})
         if name == "changeset" and int(number) <= len(self.rows):
             self.reads += 1
             time.sleep(self.pause)
-            return self.reply({"changeset": self.rows[int(number) - 1]})
-        if name == "changesets":
-            query = {name: values[0] for name, values in parse_qs(parts.query).items()}
-            return self.reply({"changesets": [it for it in self.rows[::-1] if passes(it, query)][:100]})
-        return default
-
-    def reply(self, members: Row) -> Reply:
-        return Reply(200, json.dumps({**members, "version": "0.6"}).encode(), False)
+            return whole({"changeset": self.rows[int(number) - 1]})
+        return self.next
 
 
-@contextmanager
-def before(rows: list[Row], pause: float = 0.0) -> Iterator[tuple[Gateway, Listing]]:
-    with Standing() as standing, Gateway(standing.port) as gateway:
-        standing.paths = listing = Listing(rows, pause)
-        yield gateway, listing
+def whole(members: Row) -> Reply:
+    return Reply(200, json.dumps({**members, "version": "0.6"}).encode(), False)
 
 
 def ids(gateway: Gateway, query: Query) -> list[int]:
@@ -151,17 +144,18 @@ def compared(gateway: Gateway, rows: list[Row], users: tuple[str, ...], queries:
 
 def drawn() -> str:
     rows = drawn_rows(random.Random(SEED), COUNT)
-    with before(rows) as (gateway, listing):
+    with Listing(rows=rows) as listing, Gateway(listing.port) as gateway:
         further = compared(gateway, rows, ("1", "2", "3"), QUERIES)
         # All of a user by pages, as clients read on: up to the moment of the last one that came.
-        page, pages = ids(gateway, {"display_name": "Ünï Cödé", "limit": "4"}), list[int]()
+        page, pages = ids(gateway, {"display_name": "bob", "limit": "50"}), list[int]()
         while page and page[-1] not in pages:
             pages += [number for number in page if number not in pages]
-            page = ids(gateway, {"user": "3", "limit": "4", "time": f"2000-01-01,{rows[page[-1] - 1]['created_at']}"})
-        want(pages, wanted(rows, {"user": "3"}), "all changesets of a user, page by page")
+            page = ids(gateway, {"user": "2", "limit": "50", "time": f"2000-01-01,{rows[page[-1] - 1]['created_at']}"})
+        want(pages, [it["id"] for it in rows[::-1] if it["uid"] == 2], "all changesets of a user, page by page")
         listing.reads = 0
-        want(ids(gateway, {"user": "3", "to": rows[600]["created_at"]}), wanted(rows, {"user": "3", "to": rows[600]["created_at"]}), "what is known")
-        want(listing.reads <= 60, True, f"reads where all is known: {listing.reads}")
+        query = {"user": "2", "to": rows[400]["created_at"], "limit": "20"}
+        want(ids(gateway, query), wanted(rows, query), "what is known")
+        want(listing.reads <= 25, True, f"reads where all is known: {listing.reads}")
         # A server that began anew has others under the same numbers.
         listing.rows = rows = drawn_rows(random.Random(SEED + 1), COUNT - 300)
         compared(gateway, rows, ("1", "2", "3"), 40)
@@ -171,17 +165,17 @@ def drawn() -> str:
 def slow() -> str:
     """What takes too long is told with a status at which clients try again, and is found then."""
     rows = drawn_rows(random.Random(SEED), 700)
-    query: Query = {"user": "3", "order": "oldest"}
-    with before(rows, 0.02) as (gateway, _):
+    query: Query = {"user": "2", "order": "oldest"}
+    with Listing(rows=rows, pause=0.04) as listing, Gateway(listing.port) as gateway:
         for tries in range(1, 5):
-            came = gateway.api("GET", "changesets.json?user=3&order=oldest&from=2026-01-01")
+            came = gateway.api("GET", f"changesets.json?{urlencode(query)}")
             if came.status == 200:
                 break
             has(came.text, "Older changesets are being read", "why it isn't answered yet")
             want((came.status, came.fields["Retry-After"]), (503, "5"), "when to try again")
-        want([it["id"] for it in json.loads(came.body)["changesets"]], wanted(rows, query)[:100], "a user's oldest")
+        want([it["id"] for it in json.loads(came.body)["changesets"]], wanted(rows, query), "a user's oldest hundred")
         want(tries > 1, True, "a search that takes too long")
-    return f"one of 600 at a slow server after {tries} tries"
+    return f"one at a slow server after {tries} tries"
 
 
 def at_a_server(program: str) -> str:

@@ -11,11 +11,15 @@ import threading
 import time
 import zlib
 from dataclasses import dataclass
+from datetime import datetime, timedelta, timezone
+from typing import Any
+from urllib.parse import parse_qs
 
 from bad_input import megabytes, raw
 from behind import ALICE, Came, Gateway, Site, basic, has, want
+from changesets_search import stamp, whole
 from large import map_of
-from rows import Standing
+from rows import Request, Standing
 from serving import Reply, Wrong
 
 NODES = 20_000
@@ -48,6 +52,31 @@ def digits(program: str) -> str:
         has(note, "<url>https://map.example:8443/api/0.6/notes/1</url>", "a note's link")
         has(gateway.well("GET", "notes/1.json"), '"comment_url":"https://map.example:8443/api/0.6/notes/1/comment"', "the same in JSON")
     return "numbers without end"
+
+
+class Notes(Standing):
+    """A server of notes that lists the newest hundred of a box: 1 to 60 are open, and 61 to 260 were closed a year ago."""
+
+    def reply(self, asked: Request) -> Reply:
+        query = {name: values[0] for name, values in parse_qs(asked.query).items()}
+        west, south, east, north = (round(float(edge) * 10_000_000) for edge in query["bbox"].split(","))
+        rows = [it for it in map(self.row, range(260, 0, -1)) if west <= it["lon7"] <= east and south <= it["lat7"] <= north]
+        return whole({"notes": [it for it in rows if "closed" in query or "closed_at" not in it][:100]})
+
+    def row(self, number: int) -> dict[str, Any]:
+        long_ago = stamp(datetime.now(timezone.utc) - timedelta(days=365))
+        it = {"comments": [], "date_created": long_ago, "id": number, "lat7": 7 * number, "lon7": 1_000 - 3 * number, "status": "open"}
+        return it if number <= 60 else it | {"closed_at": long_ago, "status": "closed"}
+
+
+def old_notes() -> str:
+    """Open notes behind two hundred that were closed long ago."""
+    with Notes() as noted, Gateway(noted.port, noted.port) as gateway:
+        for query, wanted in (("", range(1, 61)), ("&closed=7&limit=10000", range(1, 61)), ("&closed=400&limit=10000", range(1, 261)), ("&closed=-1", range(161, 261))):
+            found = json.loads(gateway.well("GET", f"notes.json?bbox=0,0,1,1{query}"))["features"]
+            want(sorted(it["properties"]["id"] for it in found), list(wanted), f"notes of a box by {query}")
+        want(len(json.loads(gateway.well("GET", "notes.json?bbox=0,0,1,1&limit=20"))["features"]), 20, "as many as are asked for")
+    return "notes behind a hundred that were closed long ago"
 
 
 # ---- strange replies
@@ -262,4 +291,4 @@ def outage() -> str:
 
 
 def run(program: str) -> str:
-    return "; ".join((digits(program), strange(), in_the_middle(), hung_up(program), full_room(), full_disk(), codings(program), outage()))
+    return "; ".join((digits(program), old_notes(), strange(), in_the_middle(), hung_up(program), full_room(), full_disk(), codings(program), outage()))

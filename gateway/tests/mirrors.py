@@ -231,7 +231,7 @@ def own_writes(program: str, creations: int) -> str:
         with before(counted.port, [one.port, two.port]) as gateway:
             play(gateway, creations)
             shares = one.reads, two.reads, counted.reads - creations
-            if min(shares[:2]) < creations // 20:
+            if min(shares[:2]) < creations // 50:
                 raise Wrong(f"reads at the mirrors and at the server: {shares}")
             one.level()
             two.level()

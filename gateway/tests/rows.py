@@ -13,7 +13,7 @@ import socketserver
 import threading
 from collections import Counter
 from dataclasses import dataclass, field
-from typing import Any
+from typing import Any, Self
 from urllib.parse import parse_qsl
 
 import forms
@@ -46,14 +46,17 @@ class Standing:
     next: Reply = field(default_factory=lambda: Reply(404, b'{"error":"no_path"}', False))
     paths: dict[str, Reply] = field(default_factory=dict)
 
-    def __enter__(self) -> Standing:
+    def reply(self, asked: Request) -> Reply:
+        return self.paths.get(asked.path, self.next)
+
+    def __enter__(self) -> Self:
         standing = self
 
         class Answering(socketserver.StreamRequestHandler):
             def handle(self) -> None:
                 while (found := request_of(self.rfile)) is not None:
                     standing.got.append(found)
-                    reply = standing.paths.get(found.path, standing.next)
+                    reply = standing.reply(found)
                     self.wfile.write(BODY.format(reply.status, len(reply.body)).encode() + reply.body)
 
         class Serving(socketserver.ThreadingTCPServer):
