@@ -32,7 +32,7 @@ from given_token import add_token
 from kept_journal import HEADER, Writing
 from kept_link import Lost
 from map_client import KINDS, Client, Element, Refused
-from osm_file import Box, Writer
+from osm_file import Box, Writer, box_around, box_of_nodes
 from own_mirror import Ended, OwnMirror
 
 BUILT = os.path.join(TOP, "crates", "osm_mirror", "out", "osm_mirror")
@@ -114,29 +114,14 @@ class Map:
                 yield body["changeset"]
 
 
-def box_of(lowest: Iterable[tuple[int, int, int, int]]) -> Box | None:
-    """The box of all boxes; none of none."""
-    found: Box | None = None
-    for west, south, east, north in lowest:
-        if found is None:
-            found = west, south, east, north
-        found = min(found[0], west), min(found[1], south), max(found[2], east), max(found[3], north)
-    return found
-
-
-def box_of_nodes(the_map: Map) -> Box | None:
-    nodes = (it for it in the_map.elements("node") if it["visible"])
-    return box_of((it["lon7"], it["lat7"], it["lon7"], it["lat7"]) for it in nodes)
-
-
 def box_of_changesets(the_map: Map) -> Box | None:
     boxes = (it for it in the_map.changesets() if "minlat7" in it)
-    return box_of((it["minlon7"], it["minlat7"], it["maxlon7"], it["maxlat7"]) for it in boxes)
+    return box_around((it["minlon7"], it["minlat7"], it["maxlon7"], it["maxlat7"]) for it in boxes)
 
 
 def write_elements(the_map: Map, now: str, past: str, headers: dict[str, str]) -> dict[str, int]:
     """The map and its history; answers how many versions of each kind there are in both."""
-    box, counts = box_of_nodes(the_map), dict.fromkeys((*KINDS, "versions"), 0)
+    box, counts = box_of_nodes(the_map.elements("node")), dict.fromkeys((*KINDS, "versions"), 0)
     with Writer(now, headers, box) as visible, Writer(past, headers, box) as every:
         for kind in KINDS:
             for newest, versions in the_map.histories(kind):

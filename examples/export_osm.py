@@ -6,6 +6,7 @@ id to the last one; then nobody should be editing. With a box, in degrees, it is
 in parts where the box is too large for one: relations come without those of their members that are elsewhere. With
 --replication, the address of the folder that replication/run writes, FILE says from which number on its changes are
 wanted (a .osm.pbf has room for that): then somebody may be editing, since what is newer comes with them once more.
+The file's head has the box, or that of all nodes, since some programs read no file without one.
 """
 
 from __future__ import annotations
@@ -109,7 +110,7 @@ def main() -> int:
         # Before the map is read, so that the file has all that the state stands for.
         headers = replication_headers(it.replication) if it.replication else {}
         elements = read_box(client, it.box) if it.box else read_all(client)
-        osm_file.write(it.file, elements.values(), headers)
+        osm_file.write(it.file, elements.values(), headers, it.box or osm_file.box_of_nodes(elements.values()))
     except (Refused, Lost, RuntimeError, OSError, KeyError) as why:
         print(f"export_osm.py: {why}", file=sys.stderr)
         return 1

@@ -90,9 +90,23 @@ class Writer:
         self.writer.close()
 
 
-def write(path: str, elements: Iterable[Element], headers: Mapping[str, str] | None = None) -> None:
+def box_around(boxes: Iterable[Box]) -> Box | None:
+    """The least box that has all of these; none of none."""
+    found: Box | None = None
+    for west, south, east, north in boxes:
+        if found is None:
+            found = west, south, east, north
+        found = min(found[0], west), min(found[1], south), max(found[2], east), max(found[3], north)
+    return found
+
+
+def box_of_nodes(elements: Iterable[Element]) -> Box | None:
+    return box_around((it["lon7"], it["lat7"], it["lon7"], it["lat7"]) for it in elements if "lat7" in it)
+
+
+def write(path: str, elements: Iterable[Element], headers: Mapping[str, str] | None = None, box: Box | None = None) -> None:
     """Nodes, then ways, then relations, each by id."""
     order = {kind: place for place, kind in enumerate(KINDS)}
-    with Writer(path, headers or {}) as writer:
+    with Writer(path, headers or {}, box) as writer:
         for it in sorted(elements, key=lambda it: (order[it["type"]], it["id"])):
             writer.add(it)

@@ -66,6 +66,12 @@ def by_osmosis(base: str, out: str, url: str, state: str, folder: str) -> None:
     run(["osmosis", "-q", "--read-xml-change", changes, "--read-pbf", base, "--apply-change", "--write-pbf", out, "omitmetadata=false"])
 
 
+def by_osmupdate(base: str, out: str, url: str, folder: str) -> None:
+    """`osmupdate` finds its place by the moment of the file, and has osmconvert apply what is newer."""
+    os.makedirs(folder)
+    run(["osmupdate", "--sporadic", f"--base-url={url}", f"--tempfiles={folder}/part", base, out], folder=folder)
+
+
 class Database:
     """A cluster of PostgreSQL of its own, with PostGIS, until the end of a `with`; of the user postgres where this is root."""
 

@@ -234,9 +234,10 @@ def followed(programs: Programs, folder: str) -> str:
             state, last = edited(running, session, server.port, base, begun, files.url)
         # No more files come, which a slow follower would go on after.
         export(server.port, wanted)
-        by = {name: os.path.join(folder, f"{name}.osm.pbf") for name in ("pyosmium", "osmosis", "nothing")}
+        by = {name: os.path.join(folder, f"{name}.osm.pbf") for name in ("pyosmium", "osmosis", "osmupdate", "nothing")}
         followers.by_pyosmium(base, by["pyosmium"])
         followers.by_osmosis(base, by["osmosis"], files.url, begun, os.path.join(folder, "osmosis"))
+        followers.by_osmupdate(base, by["osmupdate"], files.url, os.path.join(folder, "osmupdate"))
         rows = followers.by_osm2pgsql(base, wanted, folder)
         from_nothing(running.folder, by["nothing"])
         for name, path in by.items():
@@ -247,7 +248,7 @@ def followed(programs: Programs, folder: str) -> str:
     told = ", ".join(f"{count} {table}" for table, count in rows.items())
     return (
         f"{pieces} pieces, {versions} versions in {last.sequence} files: the {len(same.elements(wanted))} elements are the server's "
-        f"in pyosmium, osmosis and from nothing; osm2pgsql's tables are a fresh import's ({told})"
+        f"in pyosmium, osmosis, osmupdate and from nothing; osm2pgsql's tables are a fresh import's ({told})"
     )
 
 
