@@ -49,7 +49,13 @@ export const hasEditor = () => ask("/id/there").then((it) => it.there, () => fal
 export const history = async (kind, id) => (await ask(`${kind}/${id}/history.json`)).elements;
 /** An element with all that says where it is. */
 export const full = async (kind, id) => (await ask(`${kind}/${id}${kind === "node" ? "" : "/full"}.json`)).elements;
-export const changesets = async (name) => (await ask(`changesets.json${name === undefined ? "" : `?display_name=${encodeURIComponent(name)}`}`)).changesets;
+
+/** The newest hundred changesets that pass these parameters, and of a user where one is named. */
+export async function changesets(name, parameters = {}) {
+  const query = new URLSearchParams(name === undefined ? parameters : { display_name: name, ...parameters });
+  return (await ask(`changesets.json?${query}`)).changesets;
+}
+
 export const changeset = async (id) => (await ask(`changeset/${id}.json?include_discussion=true`)).changeset;
 export const comment = (id, text) => ask(`changeset/${id}/comment.json`, form({ text }));
 export const user = async () => (await ask("user/details.json")).user;

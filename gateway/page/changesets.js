@@ -11,6 +11,7 @@ const CHOSEN = { color: "#d6008f", weight: 3, fill: false, interactive: false };
 const DONE = { create: "#0a8a2a", modify: "#d98200", delete: "#c00020" };
 const DONE_WORDS = { create: "created", modify: "modified", delete: "deleted" };
 const LISTED = 300;
+const PAGE = 100;
 const AREA = 0.25;
 
 export const boxOf = (it) =>
@@ -40,18 +41,52 @@ export class Changesets {
     byId("boxes").addEventListener("change", () => this.showBoxes());
   }
 
+  /** Lists the newest ones anew. */
   async load() {
+    this.rows = [];
+    this.list.replaceChildren();
+    await this.add(() => api.changesets(this.name));
+    if (!this.list.children.length) this.list.replaceChildren(make("li", {}, "There are none yet."));
+    return this.rows;
+  }
+
+  /** Lists a page of those too that are older than the last one. */
+  async older() {
+    await this.add(() => (this.name === undefined ? this.before(this.rows.at(-1).id) : this.until(this.rows.at(-1))));
+    return this.rows;
+  }
+
+  /** Of everybody's, those of the numbers before this one. */
+  async before(id) {
+    const ids = Array.from({ length: Math.min(PAGE, id - 1) }, (_, place) => id - 1 - place);
+    return ids.length ? [...(await api.changesetsOf(ids)).values()] : [];
+  }
+
+  /** Of a user's, those that began up to the same moment; where a whole page did, those before it. */
+  async until(last) {
+    const found = await api.changesets(this.name, { time: `1970-01-01T00:00:00Z,${last.created_at}` });
+    if (found.length < PAGE || found.some((it) => it.id < last.id)) return found;
+    return api.changesets(this.name, { to: last.created_at });
+  }
+
+  /** Adds what comes of it that isn't listed, or says why nothing comes. Fewer than a page are the last ones. */
+  async add(found) {
+    this.list.querySelector(".wrong")?.remove();
+    byId("older").disabled = true;
     try {
-      this.rows = await api.changesets(this.name);
-      this.list.replaceChildren(...this.rows.map((it) => make("li", {}, this.row(it))));
+      const rows = await found();
+      const isNew = (it) => !this.rows.length || it.id < this.rows.at(-1).id;
+      const fresh = rows.filter(isNew);
+      this.list.append(...fresh.map((it) => make("li", {}, this.row(it))));
+      this.rows = [...this.rows, ...fresh];
+      byId("older").hidden = rows.length < PAGE;
       this.markCurrent();
-      if (!this.rows.length) this.list.replaceChildren(make("li", {}, "There are none yet."));
     } catch (why) {
-      this.list.replaceChildren(make("li", { class: "wrong" }, why.message));
+      this.list.append(make("li", { class: "wrong" }, why.message));
     }
+    byId("older").disabled = false;
     this.list.dataset.loaded = String(Number(this.list.dataset.loaded ?? 0) + 1);
     this.showBoxes();
-    return this.rows;
   }
 
   row(it) {
@@ -186,8 +221,8 @@ export class Changesets {
     this.clear();
     const rows = await this.load();
     if (name === undefined) return rows;
-    const more = rows.length === 100 ? " (the newest hundred)" : "";
-    this.panel.replaceChildren(make("h1", {}, name), make("p", { class: "small" }, `${rows.length} changesets${more}. `, link("/history", "Those of everybody")));
+    const count = rows.length < PAGE ? `${rows.length} changesets. ` : "The newest hundred changesets, and below them older ones. ";
+    this.panel.replaceChildren(make("h1", {}, name), make("p", { class: "small" }, count, link("/history", "Those of everybody")));
     return rows;
   }
 }

@@ -200,7 +200,8 @@ async function open() {
 /** Where the address says, or what it is of, or at the newest changeset that has a box, or the world. */
 async function start() {
   await open();
-  const rows = await changesets.load();
+  // An address of a user has listed theirs.
+  const rows = changesets.rows.length ? changesets.rows : await changesets.load();
   past.take(rows);
   if (map._loaded) return;
   const box = rows.map(boxOf).find((it) => it !== null);
@@ -209,6 +210,7 @@ async function start() {
 }
 
 listen(open);
+byId("older").addEventListener("click", async () => past.take(await changesets.older()));
 
 // ---- who calls
 

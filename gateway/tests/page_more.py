@@ -10,6 +10,7 @@ from typing import Any
 from behind import ALICE, BOB, Gateway, Site, has, want
 from page import LAT, LON, Page, street
 from selenium.webdriver import ActionChains, Keys
+from serving import Link
 
 FAR_LAT, FAR_LON = 46.0, 10.0
 """A place with more nodes than a map of the server has."""
@@ -192,6 +193,24 @@ def links(page: Page, way: int) -> None:
     page.until("what is there", lambda: page.text("#state") == "There is nothing here")
 
 
+def older(page: Page, gateway: Gateway) -> None:
+    """Changesets behind the newest hundred, which come by a button: those of a user, and those of all."""
+    link, numbers = Link(gateway.server, "utoken"), list[int]()
+    for _ in range(3):
+        numbers += [int(link.ask("PUT", "changeset/create").read()) for _ in range(75)]
+        time.sleep(1.1)
+    for path, wanted in (("/user/%C3%9Cn%C3%AF%20C%C3%B6d%C3%A9", numbers[::-1]), ("/history", list(range(numbers[-1], 0, -1)))):
+        visit(page, path)
+        listed: list[int] = []
+        while len(listed) < len(wanted):
+            if listed:
+                page.one("#older").click()
+            page.until(f"more than {len(listed)} at {path}", lambda: len(page.all("#changesets [data-id]")) > len(listed))  # noqa: B023
+            listed = [int(it.get_attribute("data-id")) for it in page.all("#changesets [data-id]")]
+            want(listed, wanted[: len(listed)], "the newest first")
+        page.until("the end of the list", lambda: not page.one("#older").is_displayed())
+
+
 # ---- the past, and keys
 
 
@@ -271,9 +290,10 @@ def run(program: str) -> str:
             links(page, number)
             past(page, gateway, number)
             keys(page)
+            older(page, gateway)
             want(severe(page), [], "errors of the page")
             far(page, gateway)
             without_leaflet(page)
         finally:
             page.driver.quit()
-    return "names, odd tags, twelve addresses, links in histories, the past in its panels, keys, 60,000 nodes from afar, no Leaflet"
+    return "names, odd tags, twelve addresses, changesets behind the newest hundred, links in histories, the past in its panels, keys, 60,000 nodes from afar, no Leaflet"
