@@ -11,6 +11,7 @@ PACKAGES = {
     "jsonschema": "python3-jsonschema",
     "matplotlib": "python3-matplotlib",
     "osmium": "python3-pyosmium",
+    "prometheus_client": "python3-prometheus-client",
     "psycopg2": "python3-psycopg2",
     "redis": "python3-redis",
     "tqdm": "python3-tqdm",

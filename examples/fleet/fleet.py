@@ -33,7 +33,7 @@ from typing import Any
 
 import scripts
 from engine import open_engine
-from levels import PAUSE, Readers, empty_without, lines_of, wait_for, wait_until_read
+from levels import PAUSE, Readers, empty_without, lines_of, wait_for, wait_for_numbers, wait_until_read
 from running import ENGINES, HERE, USERS, Front, Process, Redis, Watch
 from running import new_mirror, number, same_reads, script, url, wait_until, with_token
 from serving import Link, Server, Wrong, free_port, trial_status
@@ -57,7 +57,8 @@ class Fleet:
         self.engine = ENGINES[words.engine](folder)
         stack.callback(self.engine.kill)
         self.ports = [it.port for it in self.mirrors]
-        self.writer = self.add("writer.py", "--server", url(self.server.port), "--engine", self.engine.url)
+        self.shown = os.path.join(folder, "writer.prom")
+        self.writer = self.add("writer.py", "--server", url(self.server.port), "--engine", self.engine.url, "--metrics", self.shown)
         self.carriers = [self.add("carrier.py", "--mirror", url(port), "--engine", self.engine.url) for port in self.ports]
         self.kept = os.path.join(folder, "journal.txt")
         self.keeper = self.add("keep.py", self.kept, "--server", url(self.server.port))
@@ -240,11 +241,12 @@ def taken(fleet: Fleet, _: argparse.Namespace) -> None:
         fleet.carriers[0].start()
         fleet.level("a mirror")
         named = [word for port in fleet.ports for word in ("--mirror", url(port))]
-        words = ["--server", url(fleet.server.port), *named, "--write", front.included, "--pid", front.pid]
+        shown = os.path.join(fleet.folder, "level.prom")
+        words = ["--server", url(fleet.server.port), *named, "--write", front.included, "--pid", front.pid, "--metrics", shown]
         guard = fleet.add("level.py", *words, "--most", "10", "--seconds", "5")
         try:
             told = f"a fresh mirror in rotation: {empty} replies of an empty map, and with level.py {fresh_is_out(fleet, front)}"
-            print(f"{told}; {carriers_die(fleet, front)}; {all_behind(fleet, front)}", flush=True)
+            print(f"{told}; {carriers_die(fleet, front)}; {all_behind(fleet, front)}; {numbers_are_told(fleet, shown)}", flush=True)
         except Wrong as why:
             raise Wrong(f"{why}; level.py said {guard.said[-8:]}") from why
         guard.kill()
@@ -301,6 +303,23 @@ def all_behind(fleet: Fleet, front: Front) -> str:
     for port in fleet.ports:
         wait_for(front, port, True)
     return "where no mirror is level the server is read, and where it doesn't answer the mirrors are in again"
+
+
+def numbers_are_told(fleet: Fleet, shown: str) -> str:
+    """By level.py and by the writer, with a mirror that is gone and one that has all."""
+    fleet.carriers[3].kill()
+    fleet.kill_mirror(3)
+    pieces = number(fleet.server.port)
+    gone, here = (url(fleet.ports[place]) for place in (3, 0))
+    wait_for_numbers(shown, {
+        ("map_server_up", ""): 1, ("map_server_changes", ""): pieces, ("map_mirror_up", gone): 0, ("map_mirror_level", gone): 0,
+        ("map_mirror_up", here): 1, ("map_mirror_level", here): 1, ("map_mirror_changes", here): pieces,
+    }, ("map_mirror_changes", gone))  # fmt: skip
+    wait_for_numbers(fleet.shown, {("engine_changes", ""): pieces})
+    fleet.start_mirror(3)
+    fleet.carriers[3].start()
+    fleet.level("a mirror")
+    return "what is shown to Prometheus is so"
 
 
 def anew(fleet: Fleet, _: argparse.Namespace) -> None:

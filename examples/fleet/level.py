@@ -1,6 +1,6 @@
 #!/usr/bin/python3
 """Tells nginx which mirrors are level: examples/fleet/level.py --server URL --mirror URL [--mirror URL ..] --write FILE [--pid FILE]
-    [--most 100] [--seconds 3]
+    [--most 100] [--seconds 3] [--metrics FILE]
 
 Asks the server and each mirror for its number every second. A mirror is taken out that doesn't answer within a second, that is more than
 --most pieces behind, or that hasn't got after --seconds what the server had then, as one whose carrier has died. It is put back when it
@@ -18,13 +18,14 @@ import signal
 import sys
 import time
 from collections import deque
-from collections.abc import Sequence
+from collections.abc import Iterator, Sequence
 from concurrent.futures import ThreadPoolExecutor
 from urllib.parse import urlsplit
 
 import scripts
 from kept_link import Lost, Site
 from mirror import body_of
+from shown import Number, add_metrics, write_numbers, write_whole
 
 EACH = 1.0  # seconds from one look to the next
 WAIT = 1.0  # seconds for an answer
@@ -103,12 +104,20 @@ class Level:
         text = "# By level.py: which mirrors are level.\n" + "".join(it.line() for it in self.mirrors)
         if text == self.text:
             return False
-        with open(self.path + ".new", "w", encoding="utf-8") as file:
-            file.write(text)
-        os.chmod(self.path + ".new", 0o644)  # nginx reads it, as another user where it isn't root
-        os.replace(self.path + ".new", self.path)
+        write_whole(self.path, text.encode())
         self.text = text
         return True
+
+    def numbers(self) -> Iterator[Number]:
+        """What whoever watches the fleet is shown; of one that doesn't answer no number of pieces."""
+        yield Number("map_server_up", "1 where the server told its number within a second.", self.server.number is not None)
+        if self.server.number is not None:
+            yield Number("map_server_changes", "The number of its last accepted change.", self.server.number)
+        for it in self.mirrors:
+            yield Number("map_mirror_up", "1 where a mirror told its number within a second.", it.number is not None, it.url)
+            yield Number("map_mirror_level", "1 where nginx has it read.", it.is_in, it.url)
+            if it.number is not None:
+                yield Number("map_mirror_changes", "The number of a mirror's last change.", it.number, it.url)
 
 
 def read(path: str) -> str:
@@ -139,6 +148,8 @@ def run(words: argparse.Namespace) -> None:
     while True:
         now = time.monotonic()
         is_told = not level.look(now) and is_told
+        if words.metrics:
+            write_numbers(words.metrics, level.numbers())
         if not is_told and words.pid:
             is_told = reload_nginx(words.pid, trouble)
         time.sleep(max(0.0, now + EACH - time.monotonic()))
@@ -152,13 +163,14 @@ def main() -> int:
     parser.add_argument("--pid", metavar="FILE", help="the file of nginx's process; it isn't told without one")
     parser.add_argument("--most", type=int, default=100, help="pieces that a mirror may be behind")
     parser.add_argument("--seconds", type=float, default=3, help="within which it has to have what the server has")
+    add_metrics(parser)
     words = parser.parse_args()
     if words.most < 0 or words.seconds < EACH:
         parser.error(f"--most is 0 at least, and --seconds {EACH:.0f}")
     try:
         return scripts.run("level", lambda: run(words))
     except OSError as why:
-        scripts.say("level", f"{words.write} can't be written: {why}")
+        scripts.say("level", f"{why.filename or words.write} can't be written: {why.strerror}")
         return 1
 
 

@@ -7,6 +7,7 @@ import threading
 import time
 from collections.abc import Callable
 
+from prometheus_client.parser import text_fd_to_metric_families
 from running import Front
 from serving import Lost, Replies, Wrong, request
 
@@ -67,6 +68,22 @@ def wait_for(front: Front, port: int, is_in: bool, seconds: float = 60) -> float
             raise Wrong(f"after {seconds} seconds the mirror {port} isn't {'in' if is_in else 'out'}")
         time.sleep(0.02)
     return time.monotonic() - start
+
+
+def numbers_of(path: str) -> dict[tuple[str, str], float]:
+    """What a file for Prometheus has, by name and mirror, as its own reader reads it."""
+    with open(path, encoding="utf-8") as file:
+        families = list(text_fd_to_metric_families(file))
+    return {(it.name, it.labels.get("mirror", "")): it.value for family in families for it in family.samples}
+
+
+def wait_for_numbers(path: str, wanted: dict[tuple[str, str], float], never: tuple[str, str] = ("", ""), seconds: float = 30) -> None:
+    """Until the file has these, and one not at all."""
+    start = time.monotonic()
+    while not wanted.items() <= (found := numbers_of(path)).items() or never in found:
+        if time.monotonic() - start > seconds:
+            raise Wrong(f"after {seconds} seconds {path} has {found}, and not {wanted}")
+        time.sleep(0.1)
 
 
 def all_find(port: int, path: str) -> bool:

@@ -16,14 +16,23 @@ import scripts
 from engine import Behind, Engine, EngineLost, open_engine
 from feed import Feed
 from kept_link import Lost
+from shown import Number, add_metrics, write_numbers
 
+SHOWN_EACH = 1.0  # seconds between two times that numbers are written
 PAUSE = 0.01  # seconds between two questions where there is nothing new
 
 
 class Writer:
-    def __init__(self, server: str, token: str, engine: str, is_trusted: bool) -> None:
-        self.server, self.token, self.engine, self.is_trusted = server, token, engine, is_trusted
+    def __init__(self, words: argparse.Namespace) -> None:
+        self.server, self.token, self.engine, self.is_trusted = words.server, words.token, words.engine, words.trust_engine
+        self.metrics, self.shown = words.metrics, 0.0
         self.trouble = scripts.Trouble("writer")
+
+    def show(self, number: int) -> None:
+        """How many pieces the engine has, for whoever watches the fleet."""
+        if self.metrics and time.monotonic() - self.shown >= SHOWN_EACH:
+            self.shown = time.monotonic()
+            write_numbers(self.metrics, [Number("engine_changes", "The number of the last piece that the engine has.", number)])
 
     def run(self, is_new: bool) -> None:
         while True:
@@ -47,6 +56,7 @@ class Writer:
         feed = Feed(self.server, self.token, engine.ends(name))
         while True:
             number = feed.taken.number
+            self.show(number)
             try:
                 pieces = feed.next_pieces()
                 self.trouble.end()
@@ -67,8 +77,9 @@ def main() -> int:
     scripts.add_token(parser)
     parser.add_argument("--new", action="store_true", help="begin a new journal in the engine")
     parser.add_argument("--trust-engine", action="store_true", help="one that doesn't tell so has additions on the disk before it answers")
+    add_metrics(parser)
     words = parser.parse_args()
-    return scripts.run("writer", lambda: Writer(words.server, words.token, words.engine, words.trust_engine).run(words.new))
+    return scripts.run("writer", lambda: Writer(words).run(words.new))
 
 
 if __name__ == "__main__":
