@@ -5,10 +5,14 @@ of some runs, less that of the same run without it: the start of the program, an
 that is read. PROGRAM is crates/osm/out/osm where none is named.
 """
 
+from __future__ import annotations
+
 import json
 import os
 import sys
 import tempfile
+from collections.abc import Iterator
+from typing import Any
 
 RUNS = 5
 USERS = "1 alicetoken user alice\n"
@@ -16,7 +20,7 @@ NODES = 9_999
 MEMBERS = 32_000
 
 
-def request(method, path, body=None):
+def request(method: str, path: str, body: Any = None) -> bytes:
     head = f"{method} /api/0.6/{path} HTTP/1.1\r\nAuthorization: Bearer alicetoken\r\n"
     if body is None:
         return (head + "\r\n").encode()
@@ -24,37 +28,37 @@ def request(method, path, body=None):
     return f"{head}Content-Type: application/json\r\nContent-Length: {len(text)}\r\n\r\n{text}".encode()
 
 
-def opened(count=1):
+def opened(count: int = 1) -> bytes:
     return request("PUT", "changeset/create") * count
 
 
-def upload(changeset, action, elements):
+def upload(changeset: int, action: str, elements: list[dict[str, Any]]) -> bytes:
     return request("POST", f"changeset/{changeset}/upload", {"osmChange": [{action: elements}]})
 
 
-def node(number, tags=None):
+def node(number: int, tags: dict[str, str] | None = None) -> dict[str, Any]:
     place = {"lat7": 481_000_000 + number * 7, "lon7": 115_000_000 + number}
     return {"type": "node", "id": -number, **place, **({"tags": tags} if tags else {})}
 
 
-def nodes(changeset, count=NODES, tags=None):
+def nodes(changeset: int, count: int = NODES, tags: dict[str, str] | None = None) -> bytes:
     return upload(changeset, "create", [node(i + 1, tags) for i in range(count)])
 
 
-def eleven():
+def eleven() -> bytes:
     way = {"type": "way", "id": -1, "nodes": [-i for i in range(1, 11)]}
     return upload(1, "create", [node(i) for i in range(1, 11)] + [way])
 
 
-def single():
+def single() -> bytes:
     return request("PUT", "node/create", {**node(1), "changeset": 1})
 
 
-def gets(path, count=998):
+def gets(path: str, count: int = 998) -> bytes:
     return request("GET", path) * count
 
 
-def relation(version):
+def relation(version: int) -> bytes:
     """A relation of the first nodes; a later version is without the one in its middle."""
     refs = [i + 1 for i in range(MEMBERS) if not version or i != MEMBERS // 2]
     members = [{"type": "node", "ref": ref} for ref in refs]
@@ -63,7 +67,7 @@ def relation(version):
     return upload(5, "create", [{"type": "relation", "id": -1, "members": members}])
 
 
-def works():
+def works() -> Iterator[tuple[str, bytes, bytes]]:
     """For each work its name, what comes before it, and its requests."""
     two = {"highway": "bus_stop", "name": "Marienplatz"}
     one = opened() + eleven()
@@ -85,7 +89,7 @@ def works():
     yield "one member of 32,000 taken out", whole + relation(0), relation(1)
 
 
-def run(program, folder, requests):
+def run(program: str, folder: str, requests: bytes) -> tuple[float, int]:
     """The processor time in milliseconds, and the bytes written."""
     paths = [f"{folder}/{name}" for name in ("in", "out", "users")]
     for path, data in zip(paths, (requests, b"", USERS.encode())):
@@ -99,11 +103,11 @@ def run(program, folder, requests):
     return 1000 * (used.ru_utime + used.ru_stime), os.path.getsize(paths[1])
 
 
-def least(program, folder, requests):
+def least(program: str, folder: str, requests: bytes) -> tuple[float, int]:
     return min(run(program, folder, requests) for _ in range(RUNS))
 
 
-def main():
+def main() -> None:
     here = os.path.dirname(os.path.abspath(__file__))
     program = sys.argv[1] if len(sys.argv) > 1 else f"{here}/../crates/osm/out/osm"
     if not os.access(program, os.X_OK):
@@ -115,4 +119,5 @@ def main():
             print(f"{name}: {time - took:.1f} ms, {len(requests):,} bytes read, {size - written:,} written")
 
 
-main()
+if __name__ == "__main__":
+    main()

@@ -55,14 +55,17 @@ class Mapper:
 
     def upload(self, action: str, elements: list[Element]) -> list[dict[str, Any]]:
         change = {"osmChange": [{action: elements}]}
-        return self.client.ask("POST", f"changeset/{self.changeset}/upload", change)["diffResult"]
+        rows: list[dict[str, Any]] = self.client.ask("POST", f"changeset/{self.changeset}/upload", change)["diffResult"]
+        return rows
 
     def read(self, kind: str, number: int) -> Element:
-        return self.client.ask("GET", f"{kind}/{number}")["elements"][0]
+        it: Element = self.client.ask("GET", f"{kind}/{number}")["elements"][0]
+        return it
 
     def close(self) -> dict[str, Any]:
         self.client.ask("PUT", f"changeset/{self.changeset}/close")
-        return self.client.ask("GET", f"changeset/{self.changeset}")["changeset"]
+        it: dict[str, Any] = self.client.ask("GET", f"changeset/{self.changeset}")["changeset"]
+        return it
 
 
 def merged(base: Element, mine: Element, theirs: Element) -> Element:
@@ -84,7 +87,7 @@ def save(mapper: Mapper, base: Element, mine: Element) -> int:
     """Sends a changed element until no other version came between; its new version."""
     while True:
         try:
-            return mapper.upload("modify", [mine])[0]["new_version"]
+            return int(mapper.upload("modify", [mine])[0]["new_version"])
         except Refused as why:
             if why.error != "version":
                 raise

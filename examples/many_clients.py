@@ -93,7 +93,7 @@ class Client:
         if self.draw.random() < 0.5:
             rows = self.ask("GET", f"changesets?user={self.user}&open=true").read()["changesets"]
             if rows:
-                return rows[0]["id"]
+                return int(rows[0]["id"])
         return int(self.ask("PUT", "changeset/create", {"tags": {"by": self.name}}).body)
 
     def placed(self, shared: bool) -> dict[str, int]:
@@ -141,7 +141,7 @@ class Client:
         if not self.changeset:
             self.changeset = self.open()
         skips = self.draw.random() < 0.3
-        blocks = [{action: [it], **({"if-unused": True} if skips and action == "delete" else {})} for action, it in todo]
+        blocks = [{action: [it]} | ({"if-unused": True} if skips and action == "delete" else {}) for action, it in todo]
         reply = self.ask("POST", f"changeset/{self.changeset}/upload", {"osmChange": blocks})
         if reply.status == 200:
             self.accepted(todo, reply.read()["diffResult"])
@@ -238,8 +238,7 @@ class Client:
 
 
 def run(words: tuple[int, int, str, int, int, float]) -> Record:
-    *who, seconds = words
-    client = Client(*who)
+    client, seconds = Client(*words[:-1]), words[-1]
     try:
         return client.work(time.monotonic() + seconds)
     except (OSError, serving.Lost) as why:
@@ -371,7 +370,7 @@ class Past:
 
 
 def tell(records: list[Record], found: Map, faults: list[str]) -> None:
-    counts = sum((record.counts for record in records), collections.Counter())
+    counts: collections.Counter[str] = sum((record.counts for record in records), collections.Counter())
     links = counts.pop("links")
     uploads = sum(1 for record in records for _, it in record.seen if it)
     print(f"{len(records) - 1} clients, {links} links, {counts.total()} replies")

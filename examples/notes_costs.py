@@ -11,6 +11,7 @@ and sees that the next one is refused, that the note can be closed and that it s
 from __future__ import annotations
 
 import argparse
+import math
 import os
 import random
 import threading
@@ -67,7 +68,7 @@ def fill(link: Link, text: int) -> None:
 
 def side_of(notes: int, wanted: int) -> int:
     """The side of a square with so many notes on average."""
-    return round(EDGE * (wanted / notes) ** 0.5)
+    return round(EDGE * math.sqrt(wanted / notes))
 
 
 def main() -> None:

@@ -10,6 +10,7 @@ that each link holds a whole body, then the last bytes. Without links this part 
 from __future__ import annotations
 
 import argparse
+import socket
 import sys
 import time
 from concurrent.futures import ThreadPoolExecutor
@@ -53,10 +54,10 @@ def many_links(program: str, links: int, body: bytes) -> None:
     with Server(program, links, USERS) as server, ThreadPoolExecutor(links) as pool:
         prepared(server)
         streams = [connect(server.port, 600) for _ in range(links)]
-        list(pool.map(lambda stream: stream.sendall(data[:-1]), streams))
+        list(pool.map(socket.socket.sendall, streams, [data[:-1]] * links))
         time.sleep(1)
         held = server.megabytes()
-        list(pool.map(lambda stream: stream.sendall(data[-1:]), streams))
+        list(pool.map(socket.socket.sendall, streams, [data[-1:]] * links))
         statuses = sorted(set(pool.map(lambda stream: Replies(stream).next().status, streams)))
         for stream in streams:
             stream.close()
