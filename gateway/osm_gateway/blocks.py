@@ -47,7 +47,7 @@ class Blocks:
 
     def refuse(self, user: User) -> None:
         """With OSM's words, the reason behind them: here no page tells it to a user who has logged in."""
-        for it in self.active(user.id):
+        for it in self.active(user.id)[:1]:
             until = "until you have read it" if it.needs_view and it.ends <= now() else f"until {moment_text(it.ends)}"
             raise Refused(403, f"Your access to the API has been blocked, {until}, by /api/0.6/user_blocks/{it.id}: {it.reason}")
 
