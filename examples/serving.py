@@ -10,6 +10,7 @@ import socket
 import subprocess
 import tempfile
 import time
+from collections import deque
 from collections.abc import Callable, Iterable, Iterator, Sequence
 from contextlib import suppress
 from typing import Any, NamedTuple
@@ -46,11 +47,14 @@ def connect(port: int, wait: float = 120) -> socket.socket:
     return stream
 
 
-HELD: list[socket.socket] = []
+HELD: deque[socket.socket] = deque()
+MOST_HELD = 200  # far fewer than the files that a program may have open; by then a server has its port itself
 
 
 def free_port() -> int:
-    """A port that nobody else is given while this program runs: a socket has it, beside which a server that is told this port may listen."""
+    """A port that nobody else is given: a socket has it, beside which a server that is told this port may listen."""
+    while len(HELD) >= MOST_HELD:
+        HELD.popleft().close()
     held = socket.socket()
     held.setsockopt(socket.SOL_SOCKET, socket.SO_REUSEADDR, 1)
     held.bind(("127.0.0.1", 0))
