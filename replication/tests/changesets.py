@@ -104,6 +104,13 @@ def by_themselves() -> None:
         raise Wrong(f"a day later {followed.open} may be open")
 
 
+def once(programs: Programs, port: int, www: str) -> None:
+    """An end may come between state.txt and state.yaml: the next start makes up for it."""
+    status, said = Running(programs, port, www, "--once").end()
+    if status:
+        raise Wrong(f"it ends with status {status}: {said}")
+
+
 def changesets(programs: Programs, folder: str) -> str:
     www = os.path.join(folder, "www")
     by_themselves()
@@ -114,10 +121,11 @@ def changesets(programs: Programs, folder: str) -> str:
             with Running(programs, server.port, www) as running:
                 make_some(url(server.port))
                 running.wait_for(Session(url(server.port)))
+            once(programs, server.port, www)
             told = as_the_server(running.folder, url(server.port))
         os.remove(os.path.join(www, "changesets", "state.yaml"))  # as where a break came before it
-        status, said = Running(programs, server.port, www, "--once").end()
+        once(programs, server.port, www)
         count = as_the_server(running.folder, url(server.port))
-    if status or count != told:
-        raise Wrong(f"without state.yaml it ends with status {status}, {count} changesets and {told} before: {said}")
+    if count != told:
+        raise Wrong(f"without state.yaml there are {count} changesets, and {told} before")
     return f"{count} times a changeset is told of, and pyosmium reads of the last time what the server has; state.yaml goes with state.txt"
