@@ -18,10 +18,11 @@ import tempfile
 import threading
 import time
 from contextlib import ExitStack
+from functools import partial
 
 import scripts
-from running import HERE, Process, Wrong, answers, url
-from serving import Link, Unanswered, free_port, wait_for_answer
+from running import HERE, Process, answers, url
+from serving import Link, Unanswered, Wrong, free_port, trial_status, wait_for_answer
 from takeover import KINDS, LINKS, OUT, Trial
 
 GATEWAY = os.path.join(HERE, "..", "..", "gateway", "run")
@@ -107,8 +108,8 @@ def take_over(trial: Trial, gateway: int, kind: str) -> int:
     return answered
 
 
-def rounds(words: argparse.Namespace, folder: str) -> None:
-    with ExitStack() as stack:
+def rounds(words: argparse.Namespace) -> None:
+    with tempfile.TemporaryDirectory() as folder, ExitStack() as stack:
         trial = Trial(words, folder, stack)
         trial.level()
         gateway = begin_gateway(trial, stack)
@@ -129,13 +130,7 @@ def main() -> int:
     parser.add_argument("--seed", type=int, default=1)
     words = parser.parse_args()
     random.seed(words.seed)
-    with tempfile.TemporaryDirectory() as folder:
-        try:
-            rounds(words, folder)
-        except Wrong as why:
-            print(f"wrong: {why}")
-            return 1
-    return 0
+    return trial_status(partial(rounds, words))
 
 
 if __name__ == "__main__":
