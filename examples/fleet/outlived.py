@@ -12,7 +12,6 @@ from __future__ import annotations
 import argparse
 import http.client
 import os
-import random
 import sys
 import tempfile
 import threading
@@ -20,10 +19,9 @@ import time
 from contextlib import ExitStack
 from functools import partial
 
-import scripts
 from running import HERE, Process, answers, url
 from serving import Link, Unanswered, Wrong, free_port, trial_status, wait_for_answer
-from takeover import KINDS, LINKS, OUT, Trial
+from takeover import KINDS, LINKS, Trial, words_of
 
 GATEWAY = os.path.join(HERE, "..", "..", "gateway", "run")
 CONFIRM_SECONDS = 2
@@ -120,17 +118,7 @@ def rounds(words: argparse.Namespace) -> None:
 
 
 def main() -> int:
-    parser = argparse.ArgumentParser(usage=scripts.usage(__doc__))
-    parser.add_argument("--program", default=os.path.join(OUT, "osm", "out", "osm"))
-    parser.add_argument("--mirror", default=os.path.join(OUT, "osm_mirror", "out", "osm_mirror"))
-    parser.add_argument("--engine", choices=("redis", "postgresql"), default="redis")
-    parser.add_argument("--rounds", type=int, default=3)
-    parser.add_argument("--seconds", type=float, default=2)
-    parser.add_argument("--pause", type=float, default=0.02)
-    parser.add_argument("--seed", type=int, default=1)
-    words = parser.parse_args()
-    random.seed(words.seed)
-    return trial_status(partial(rounds, words))
+    return trial_status(partial(rounds, words_of(__doc__, 3)))
 
 
 if __name__ == "__main__":

@@ -204,18 +204,23 @@ def rounds(words: argparse.Namespace) -> None:
     print(f"{lost} of {answered} answered uploads are lost in {len(found)} takeovers, {most} at most in one, {1000 * before:.1f} ms at most")
 
 
-def main() -> int:
-    parser = argparse.ArgumentParser(usage=scripts.usage(__doc__))
+def words_of(doc: str | None, rounds: int) -> argparse.Namespace:
+    """The words of a trial in so many rounds, with the drawing begun by its seed."""
+    parser = argparse.ArgumentParser(usage=scripts.usage(doc))
     parser.add_argument("--program", default=os.path.join(OUT, "osm", "out", "osm"))
     parser.add_argument("--mirror", default=os.path.join(OUT, "osm_mirror", "out", "osm_mirror"))
     parser.add_argument("--engine", choices=tuple(ENGINES), default="redis")
-    parser.add_argument("--rounds", type=int, default=10)
+    parser.add_argument("--rounds", type=int, default=rounds)
     parser.add_argument("--seconds", type=float, default=2)
     parser.add_argument("--pause", type=float, default=0.02)
     parser.add_argument("--seed", type=int, default=1)
     words = parser.parse_args()
     random.seed(words.seed)
-    return trial_status(partial(rounds, words))
+    return words
+
+
+def main() -> int:
+    return trial_status(partial(rounds, words_of(__doc__, 10)))
 
 
 if __name__ == "__main__":
