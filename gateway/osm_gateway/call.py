@@ -121,6 +121,8 @@ class Call:
         self.form, self.texts = form_of(request), Texts()
         self.has_changed = False
         """Whether the server of the map was asked for a change, and nobody has waited for the mirrors since."""
+        self.breaks = 0
+        """Those of the server when this call asked it last."""
         self.caller: Caller = gateway.callers.of(request)
         self.token = self.caller.token
         request["user"] = self.caller.user.name if self.caller.user else None
@@ -253,7 +255,7 @@ class Call:
         if not self.has_changed or not words.confirmed_by or mirrors is None:
             return
         self.has_changed = False
-        if await mirrors.have_all(words.confirmed_by, words.confirm_seconds):
+        if await mirrors.have_all(words.confirmed_by, words.confirm_seconds, self.breaks):
             return
         if self.gateway.counts is not None:
             self.gateway.counts.add("unconfirmed")
@@ -262,6 +264,7 @@ class Call:
     async def replied(self, method: str, target: str, body: Spool | None, asked: Asked, links: Links, of_map: bool) -> Spool:
         self.has_changed = self.has_changed or of_map and method != "GET"
         if of_map and self.gateway.mirrors is not None:
+            self.breaks = self.gateway.mirrors.breaks
             reply = await self.gateway.mirrors.ask(self, method, target, body)
         else:
             reply = await links.ask(method, target, self.token, body, self.spool(always=method != "GET"))

@@ -149,6 +149,8 @@ class Mirrors:
         self.mirrors = [Mirror(address, count) for address in addresses]
         self.tasks: list[asyncio.Task[None]] = []
         self.waiting, self.hurry = 0, asyncio.Event()
+        self.breaks = 0
+        """How often the server gave no answer or had another journal: another one may stand at its address since."""
 
     # ---- looking
 
@@ -186,8 +188,10 @@ class Mirrors:
             async with asyncio.timeout(LOOKING):
                 found = await state_of(self.link, self.link.ask)
         except (Lost, TimeoutError):
+            self.breaks += 1
             return
         if not self.past.note(moment, found):
+            self.breaks += 1
             tell(f"the server begins its journal anew, at {found.number} changes")
             for mirror in self.mirrors:
                 mirror.most = 0
@@ -235,17 +239,17 @@ class Mirrors:
         finally:
             self.rested()
 
-    async def have_all(self, count: int, seconds: float) -> bool:
-        """Whether so many of them have all that the server has now, within so many seconds."""
+    async def have_all(self, count: int, seconds: float, breaks: int) -> bool:
+        """Whether so many of them have all that the server has now, within so many seconds; no longer where it broke since `breaks`."""
         now = time.monotonic()
         self.waiting += 1
         self.hurry.set()
         try:
             while sum(it.level >= now for it in self.mirrors) < count:
-                if time.monotonic() > now + seconds:
+                if time.monotonic() > now + seconds or self.breaks > breaks:
                     return False
                 await asyncio.sleep(QUICK)
-            return True
+            return self.breaks == breaks
         finally:
             self.rested()
 

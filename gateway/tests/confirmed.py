@@ -8,7 +8,9 @@ from __future__ import annotations
 import contextlib
 import os
 import random
+import shutil
 import signal
+import tempfile
 import threading
 import time
 from collections.abc import Iterator
@@ -98,6 +100,25 @@ def late(program: str) -> None:
             has(ask(metrics, "GET", "/metrics").text, "gateway_changes_unconfirmed_total 1\n", "the counts")
 
 
+def replaced(program: str) -> None:
+    """Another server, that lacks the change, stands at the server's address before a mirror has it: it isn't answered as done."""
+    with tempfile.TemporaryDirectory() as folder, ThreadPoolExecutor(1) as pool:
+        journal, copy = os.path.join(folder, "one"), os.path.join(folder, "other")
+        with Server(program, 24, USERS, command=("serve", "--journal", journal)) as server, Behind(server.port, 0.01) as mirror:
+            with confirming(server.port, [mirror], 1, "--confirm-seconds", "20") as gateway:
+                want(create(gateway).status, 200, "a change")
+                shutil.copy(journal, copy)
+                mirror.is_frozen = True
+                waiting = pool.submit(create, gateway)
+                time.sleep(1)
+                os.kill(server.pid, signal.SIGKILL)
+                server.process.wait()
+                with Server(program, 24, USERS, command=("serve", "--journal", copy), port=server.port):
+                    mirror.is_frozen = False
+                    came = waiting.result()
+        want(came.status, 424, f"a change of a server that is gone: {came.text[:300]}")
+
+
 def outlives(program: str, mirror: str, seed: int) -> int:
     """The server is killed under eight clients: each change that was answered is at a mirror. How many were."""
     answered: list[int] = []
@@ -135,6 +156,7 @@ def run(program: str) -> str:
     words(2)
     took = each(program, 1), each(program, 2)
     late(program)
+    replaced(program)
     halves = [f"by {count}: half within {1000 * it[len(it) // 2]:.0f} ms, all within {1000 * it[-1]:.0f} ms" for count, it in enumerate(took, 1)]
     told = "; ".join(halves)
     mirror = mirror_beside(program)
