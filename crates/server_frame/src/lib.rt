@@ -11,7 +11,7 @@ mod words;
 
 pub use link::{answer_link, answer_link_within, link_left_alone, link_left_alone_within};
 pub use link_workers::Outcome;
-pub use listening::{Listening, close_ports, open_ports};
+pub use listening::{Listening, close_ports, listen, open_ports};
 pub use standard::{LinkServer, run_standard};
-pub use users::{NoUsers, read_users};
+pub use users::{NoUsers, accept_users, read_users};
 pub use words::{lacking_status, words_of};

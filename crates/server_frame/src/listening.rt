@@ -1,10 +1,12 @@
 //! Listening at an address, with a worker for each port.
-ghost use Rattle.std.specs.Prelude.{◌≡◌, ◌<◌, ◌≤◌, map, vec_len, IfOk, MatchResult};
+ghost use Rattle.std.specs.Prelude.{◌≡◌, ◌<◌, ◌≤◌, ◌⊎◌, map, vec_len, IfOk, MatchResult};
 ghost use Rattle.osm_outside.specs.Told.{Told};
+ghost use Rattle.osm_outside.specs.Host.{OnlyPorts};
+ghost use Rattle.osm_outside.specs.Lent.{hand_out};
 ghost use Rattle.link_workers.specs.Back.{take_all};
-ghost use Rattle.server_frame.specs.Listening.{OpensNone, OpensPorts, outcome_status};
+ghost use Rattle.server_frame.specs.Listening.{LacksPorts, LacksRoomToListen, OpensNone, OpensPorts, outcome_status};
 
-use crate::users::{NoUsers, read_users};
+use crate::users::accept_users;
 use link_workers::{Outcome, give_back};
 use osm_outside::{Host, HostFault, PortOutside};
 use std::alloc::Global;
@@ -30,6 +32,26 @@ fn status_of(outcome: Outcome) -> u8
     }
 }
 
+/// Has the host listen for so many workers. Where there are no ports the error is the program's status.
+pub fn listen<H: Host>(
+    alloc: Global,
+    listening: Listening<'_>,
+    host: &mut H,
+) -> Result<Vec<H::Port>, u8>
+    ensures listens { OnlyPorts listening.entry.address.now (H.told host.old) (H.told host.new) }
+    ensures ports { MatchResult result
+        (λ ports. (H.told host.new).lent ≡ hand_out (H.told host.old).lent (map H.Port.told ports.items))
+        (λ status. LacksPorts (H.told host.old) (H.told host.new) status ⊎ LacksRoomToListen (H.told host.old) (H.told host.new) status) }
+    ensures count { IfOk result (λ ports. vec_len ports ≡ listening.entry.workers) }
+    ensures out { IfOk result (λ ports. vec_len ports ≤ (H.told host.new).lent.out) }
+{
+    match host.listen(alloc, listening.address, listening.workers) {
+        Ok(ports) => Ok(ports),
+        Err(HostFault::Failed) => Err(6),
+        Err(HostFault::Memory) => Err(5),
+    }
+}
+
 /// Reads the users of the text at that path, and then has the host listen for so many workers. Where
 /// there are no ports the error is the program's status.
 pub fn open_ports<H: Host>(
@@ -44,16 +66,13 @@ pub fn open_ports<H: Host>(
     ensures count { IfOk result (λ r. vec_len r.1 ≡ listening.entry.workers) }
     ensures out { IfOk result (λ r. vec_len r.1 ≤ (H.told host.new).lent.out) }
 {
-    let users = match read_users(alloc, users, host) {
+    let users = match accept_users(alloc, users, host) {
         Ok(users) => users,
-        Err(NoUsers::Failed) => return Err(3),
-        Err(NoUsers::Refused) => return Err(2),
-        Err(NoUsers::Memory) => return Err(5),
+        Err(status) => return Err(status),
     };
-    match host.listen(alloc, listening.address, listening.workers) {
+    match listen(alloc, listening, host) {
         Ok(ports) => Ok((users, ports)),
-        Err(HostFault::Failed) => Err(6),
-        Err(HostFault::Memory) => Err(5),
+        Err(status) => Err(status),
     }
 }
 

@@ -2,7 +2,7 @@
 ghost use Rattle.std.specs.Prelude.{◌≡◌};
 ghost use Rattle.server_frame.specs.Standard.{IsStarted, RunsStandard, ServesFrom, status_of};
 
-use crate::users::{NoUsers, read_users};
+use crate::users::accept_users;
 use http_link::{LinkEnd, Withheld};
 use osm_outside::{Clock, Host, Link, Outside};
 use std::alloc::Global;
@@ -75,10 +75,8 @@ pub fn run_standard<S: LinkServer, H: Host, R: Wait, L: Link>(
     ensures { RunsStandard S.serves users.now at (H.told host.old) (H.told host.new)
         (L.told standard.old) (L.told standard.new) result }
 {
-    match read_users(alloc, users, host) {
+    match accept_users(alloc, users, host) {
         Ok(users) => serve_from::<S, R, L>(rt, alloc, &users, at, standard),
-        Err(NoUsers::Failed) => 3,
-        Err(NoUsers::Refused) => 2,
-        Err(NoUsers::Memory) => 5,
+        Err(status) => status,
     }
 }

@@ -1,4 +1,7 @@
 //! The users of a server, from the host.
+ghost use Rattle.std.specs.Prelude.{MatchResult};
+ghost use Rattle.osm_outside.specs.Told.{Told};
+ghost use Rattle.server_frame.specs.Listening.{AcceptsUsers, LacksUsersToServe};
 ghost use Rattle.server_frame.specs.Users.{ReadsUsers, GivesTable};
 
 use osm_outside::{Host, HostFault};
@@ -23,6 +26,21 @@ pub fn read_users<H: Host>(alloc: Global, path: &str, host: &mut H) -> Result<Us
         Ok(text) => table_of(alloc, text.as_slice()),
         Err(HostFault::Failed) => Err(NoUsers::Failed),
         Err(HostFault::Memory) => Err(NoUsers::Memory),
+    }
+}
+
+/// The users of the text at that path. Where there are none the error is the program's status. The
+/// standard link is left alone.
+pub fn accept_users<H: Host>(alloc: Global, path: &str, host: &mut H) -> Result<UserTable, u8>
+    ensures { MatchResult result
+        (λ users. AcceptsUsers path.now (H.told host.old) (H.told host.new) users)
+        (λ status. (link : Told) → LacksUsersToServe path.now (H.told host.old) (H.told host.new) link link status) }
+{
+    match read_users(alloc, path, host) {
+        Ok(users) => Ok(users),
+        Err(NoUsers::Failed) => Err(3),
+        Err(NoUsers::Refused) => Err(2),
+        Err(NoUsers::Memory) => Err(5),
     }
 }
 
