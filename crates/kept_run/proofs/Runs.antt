@@ -54,5 +54,5 @@ module _ {F : Type 0} (moment : F → ℕ) (left_since : F → ℕ → List ℕ 
     fit = taken.fit;
     file = taken.file;
     back = taken.back;
-    runs = record { unserved = refl; comes_to = inr taken.opens };
+    runs = record { unserved = refl; comes_to = inr taken.lacks };
   })

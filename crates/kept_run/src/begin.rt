@@ -10,7 +10,7 @@ use journal_file::{Device, JournalFile};
 use journal_host::Journals;
 use kept_text::take_up;
 use osm_outside::{Host, Outside, PortOutside};
-use server_frame::{Listening, open_ports};
+use server_frame::{Listening, accept_users, listen};
 use std::alloc::Global;
 use std::thread::Threads;
 use user_table::UserTable;
@@ -52,9 +52,9 @@ fn take_up_fit<R: Threads + Sync, E: Send + Sync + Drop, S: KeptJournal<E> + Sen
     Err(8)
 }
 
-/// Takes up the journal in the file at that path, reads the users of the text at theirs, and opens so
-/// many ports at that address. Where it can't, the file is given back, and the error is the program's
-/// status. The standard link is left alone.
+/// Reads the users of the text at their path, takes up the journal in the file at that one, and opens
+/// so many ports at that address. Where there are no users, no file is asked for; where there are no
+/// ports, the file is given back. The error is the program's status. The standard link is left alone.
 pub fn begin_kept<
     R: Threads + Sync,
     E: Send + Sync + Drop,
@@ -80,12 +80,16 @@ pub fn begin_kept<
     ensures count { IfOk result (λ begun. vec_len begun.ports ≡ listening.entry.workers) }
     ensures out { IfOk result (λ begun. vec_len begun.ports ≤ (H.told host.new).lent.out) }
 {
+    let users = match accept_users(alloc, users, host) {
+        Ok(users) => users,
+        Err(status) => return Err(status),
+    };
     let (journal, file) = match take_up_fit::<R, E, S, J>(rt, alloc, path, journals) {
         Ok(taken) => taken,
         Err(status) => return Err(status),
     };
-    match open_ports(alloc, users, listening, host) {
-        Ok((users, ports)) => Ok(Begun {
+    match listen(alloc, listening, host) {
+        Ok(ports) => Ok(Begun {
             journal,
             file,
             users,

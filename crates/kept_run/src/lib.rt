@@ -1,5 +1,5 @@
-//! What every server does around its service whose journal is kept in a file: the journal is taken
-//! up, the users are read, and ports are opened, or the file is given back.
+//! What every server does around its service whose journal is kept in a file: the users are read, the
+//! journal is taken up, and ports are opened, or the file is given back.
 #![tactic(auto)]
 
 mod begin;
