@@ -96,8 +96,8 @@ fn serve_handed<V: Device + Drop + Send, R: Threads + Wait + Sync, P: Port + Dro
     mirror_kept_ports::<Brand, Brand, V, R, P>(rt, alloc, taken, opened, receipts, users, ports)
 }
 
-/// Takes up the entries in the file at that path, reads the users of the text at theirs, and serves the
-/// links of ports at that address. A reply is sent only once the file holds what it tells of.
+/// Reads the users of the text at their path, takes up the entries in the file at that one, and serves
+/// the links of ports at that address. A reply is sent only once the file holds what it tells of.
 pub fn run_listen_kept<H: Host, J: Journals, R: Threads + Wait + Sync, L: Link>(
     rt: &R,
     alloc: Global,
