@@ -145,4 +145,9 @@ impl Came {
             None => false,
         }
     }
+
+    /// Whether no file came back, so that none was given.
+    pub fn is_ungiven(&self) -> bool {
+        self.returned().is_none()
+    }
 }

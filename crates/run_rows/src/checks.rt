@@ -143,6 +143,7 @@ impl Played {
             Check::State => self.has_state(alloc, mixed, rest),
             Check::Untouched => Ok(self.came.is_untouched()),
             Check::Same => Ok(self.is_same(given)),
+            Check::Ungiven => Ok(self.came.is_ungiven()),
             Check::Unused => Ok(self.came.is_unused),
         }
     }

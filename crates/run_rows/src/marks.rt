@@ -52,6 +52,7 @@ pub enum Check {
     State,
     Untouched,
     Same,
+    Ungiven,
     Unused,
 }
 
@@ -79,7 +80,7 @@ const GIFTS: [(&str, Gift); 13] = [
     ("session", Gift::Session),
 ];
 
-const CHECKS: [(&str, Check); 18] = [
+const CHECKS: [(&str, Check); 19] = [
     ("status", Check::Status),
     ("ends", Check::Ends),
     ("ports", Check::Ports),
@@ -97,6 +98,7 @@ const CHECKS: [(&str, Check); 18] = [
     ("state", Check::State),
     ("untouched", Check::Untouched),
     ("same", Check::Same),
+    ("ungiven", Check::Ungiven),
     ("unused", Check::Unused),
 ];
 
