@@ -32,7 +32,8 @@ module _ {E F : Type 0} (text : List E → List ℕ) (is_entry : E → Type 0) (
     pub runs : RunsAccepted (serves journal file) users address workers host host' before after status
 
 -- There were no users: the giver of files wasn't asked for one, nobody listened, and the standard link was left alone.
-pub record AsksNoFile {F : Type 0} (users : List ℕ) (journals journals' : JournalsTold F) (host host' : HostTold) (before after : Told) (status : ℕ) : Type 0 where
+pub record AsksNoFile {F : Type 0} (users : List ℕ) (journals journals' : JournalsTold F)
+    (host host' : HostTold) (before after : Told) (status : ℕ) : Type 0 where
   pub files : journals' ≡ journals
   pub lacks : LacksUsersToServe users host host' before after status
 
@@ -58,7 +59,8 @@ module _ {F : Type 0} (moment : F → ℕ) (left_since : F → ℕ → List ℕ 
 
   -- The users were read and accepted, and no such journal was taken up: the host was asked for the users alone, and the standard link was
   -- left alone.
-  pub record ServesNothing (users path : List ℕ) (journals journals' : JournalsTold F) (host host' : HostTold) (before after : Told) (status : ℕ) : Type 0 where
+  pub record ServesNothing (users path : List ℕ) (journals journals' : JournalsTold F)
+      (host host' : HostTold) (before after : Told) (status : ℕ) : Type 0 where
     pub table : Users
     pub accepts : AcceptsUsers users host host' table
     pub lacks : LacksServed path journals journals' status
