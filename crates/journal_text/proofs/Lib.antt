@@ -5,5 +5,4 @@ mod Legal
 mod LinesRead
 mod PlainLine
 mod Sent
-mod InTurn
 pub mod Whole

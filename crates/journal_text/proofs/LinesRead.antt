@@ -1,9 +1,8 @@
 -- A text that is read line by line.
 use Rattle.std.proofs.Common.{◌≡◌, ℕ, suc, ◌+◌, ◌<◌, Bool, true, false, cond, not, List, [], ◌∷◌, ◌++◌, length, take, drop, Option, Some, None, refl, sym, ap, ◌∙◌, subst, arith, append_assoc, append-nil, length-append}
-use Rattle.std.specs.Prelude.{All, ◌==◌, nat_lt, Result, Ok, Err, IfErr}
-use Rattle.std.specs.Result.{IsErrAnd}
+use Rattle.std.specs.Prelude.{All, ◌==◌, nat_lt}
 use Rattle.std.specs.List.{position_or_len}
-use Rattle.std.proofs.lemmas.Bool.{and_parts, lt-ltb, ltb-true, eqb-true, true≢false}
+use Rattle.std.proofs.lemmas.Bool.{and_parts, lt-ltb, ltb-true, eqb-true}
 use Rattle.std.proofs.lemmas.List.Elements.{All-head, All-nil, All-push, All-tail}
 use Rattle.osm_base.specs.Parts.{is_byte, parted}
 use Rattle.osm_json.specs.Again.{is_one_line}
@@ -216,21 +215,6 @@ module _ (one_line : (e : Entry) → IsEntry e → is_one_line (line e) ≡ true
 
   pub all_read : (text : List ℕ) (journal : List Entry) → Reads version text journal [] → (text ≡ lines journal) × ((es : List Entry) → All (IsEntryIn version) es → text ≡ lines es → journal ≡ es)
   all_read text journal reads = (reads.is ∙ append-nil (lines journal), only_read text journal reads)
-
--- the exit of a fault
-pub at_exit : {X : Type 0} (P : JournalFault → Type 0) (result : Result X JournalFault) (f : JournalFault) → IsErrAnd result (λ e. e ≡ f) → P f → IfErr result P
-at_exit P (Ok x) f h k = tt
-at_exit P (Err e) f h k = rw h k
-
-pub no_rest : (rest : List ℕ) → (length rest == 0) ≡ true → rest ≡ []
-no_rest rest e = by rest (eqb-true (length rest) 0 e)
-  where
-    by : (rest : List ℕ) → length rest ≡ 0 → rest ≡ []
-    by [] e = refl
-    by (x ∷ xs) e = absurd (omega arith)
-
-pub some_rest : (rest : List ℕ) → (length rest == 0) ≡ false → rest ≡ [] → ⊥
-some_rest rest e none = true≢false (sym (ap (λ (xs : List ℕ). length xs == 0) none) ∙ e)
 
 -- ---- written
 

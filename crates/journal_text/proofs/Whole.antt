@@ -1,11 +1,11 @@
 -- What the lines behind a header give is what the text gives.
-use Rattle.std.proofs.Common.{◌≡◌, ℕ, ◌≤◌, List, ◌∷◌, ◌++◌, length, get_or, refl, sym, ap, ◌∙◌, subst, append_assoc, arith, Result, Ok, Err, IfOk, IfErr}
+use Rattle.std.proofs.Common.{◌≡◌, ℕ, ◌≤◌, List, ◌∷◌, ◌++◌, length, get_or, refl, sym, ap, ◌∙◌, subst, append_assoc, arith}
 use Rattle.std.proofs.lemmas.List.{append_cancel_left}
 use Rattle.std.specs.Prelude.{All}
 use Rattle.osm_model.specs.declared.commands.Entry.{Entry}
-use Rattle.journal_text.specs.Faults.{Begins, IsFault, IsJournalRead}
+use Rattle.journal_text.specs.Faults.{Begins, IsFault}
 use Rattle.journal_text.specs.Line.{line, IsEntry}
-use Rattle.journal_text.specs.Lines.{IsLinesFault, IsRefused}
+use Rattle.journal_text.specs.Lines.{IsLinesFault}
 use Rattle.journal_text.specs.Text.{header, lines, IsTextOf}
 use Rattle.journal_text.specs.Version.{IsEntryIn}
 use Rattle.osm_model.specs.Journal.{IsLegal}
@@ -48,16 +48,6 @@ module _ (version : Version) where
     illegal = fault.illegal;
   }
 
-  pub given_behind : {X F : Type 0} (view : X → List Entry) (result : Result X F) (text behind : List ℕ) → length text ≤ TEXT_LIMIT → text ≡ header version ++ behind
-      → IfOk result (λ found. behind ≡ lines (view found)) → IfOk result (λ found. IsLegal (view found)) → IfOk result (λ found. All (IsEntryIn version) (view found)) → IfOk result (λ found. IsTextOf text (view found))
-  given_behind view (Ok found) text behind within is same legal typed = record { version = version; legal = legal; typed = typed; is = is ∙ ap (λ ts. header version ++ ts) same; within = within }
-  given_behind view (Err fault) text behind within is same legal typed = tt
-
-  pub refused_behind : {X : Type 0} (result : Result X JournalFault) (text behind : List ℕ) → length text ≤ TEXT_LIMIT → text ≡ header version ++ behind
-      → IfErr result (λ fault. IsLinesFault version fault behind) → IfErr result (λ fault. IsFault fault text)
-  refused_behind (Ok found) text behind within is fault = tt
-  refused_behind (Err why) text behind within is fault = fault_behind why text behind within is fault
-
 -- ---- a text is of one version
 
 pub same_version : (a b : Version) (xs ys : List ℕ) → header a ++ xs ≡ header b ++ ys → a ≡ b
@@ -78,19 +68,3 @@ lines_of version text behind journal is of =
       append_cancel_left (header version) behind (lines journal) (sym is ∙ written),
       subst (λ v. All (IsEntryIn v) journal) same of.typed,
     )
-
-pub journal_behind : {X : Type 0} (view : X → List Entry) (result : Result X JournalFault) (version : Version) (text behind : List ℕ) → text ≡ header version ++ behind
-    → IfOk result (λ found. (es : List Entry) → All (IsEntryIn version) es → behind ≡ lines es → view found ≡ es) → IfErr result (λ fault. IsRefused version fault behind)
-    → (journal : List Entry) → IsTextOf text journal → IsJournalRead view result journal
-journal_behind {X = X} view result version text behind is only refused journal of =
-    let parts = lines_of version text behind journal is of in
-    by result only refused parts.0 parts.1
-  where
-    by : (result : Result X JournalFault) → IfOk result (λ found. (es : List Entry) → All (IsEntryIn version) es → behind ≡ lines es → view found ≡ es)
-        → IfErr result (λ fault. IsRefused version fault behind) → behind ≡ lines journal → All (IsEntryIn version) journal → IsJournalRead view result journal
-    by (Ok found) only refused same in_it = only journal in_it same
-    by (Err Memory) only refused same in_it = tt
-    by (Err Long) only refused same in_it = refused journal in_it of.legal same
-    by (Err Header) only refused same in_it = refused journal in_it of.legal same
-    by (Err (Line n)) only refused same in_it = refused journal in_it of.legal same
-    by (Err (Illegal n)) only refused same in_it = refused journal in_it of.legal same

@@ -1,5 +1,5 @@
 -- Why a text is not that of a journal.
-use Rattle.std.specs.Prelude.{◌≡◌, ℕ, ◌+◌, ◌≤◌, ◌<◌, List, [], ◌∷◌, ◌++◌, length, All, Result, Ok, Err, ⊤}
+use Rattle.std.specs.Prelude.{◌≡◌, ℕ, ◌+◌, ◌≤◌, ◌<◌, List, [], ◌∷◌, ◌++◌, length, All, ⊤}
 use Rattle.osm_model.specs.Journal.{IsLegal}
 use Rattle.osm_model.specs.declared.commands.Entry.{Entry}
 use Rattle.journal_text.specs.Line.{line}
@@ -55,12 +55,3 @@ IsFault Header text = (length text ≤ TEXT_LIMIT) × LacksHeader text
 IsFault (Line n) text = IsAtLine n text
 IsFault (Illegal n) text = IsAtIllegal n text
 IsFault Memory text = ⊤
-
--- the answer is this journal, unless memory ran out
-abbrev pub IsJournalRead : {X : Type 0} → (X → List Entry) → Result X JournalFault → List Entry → Type 0
-IsJournalRead view (Ok found) journal = view found ≡ journal
-IsJournalRead view (Err Memory) journal = ⊤
-IsJournalRead view (Err Long) journal = ⊥
-IsJournalRead view (Err Header) journal = ⊥
-IsJournalRead view (Err (Line n)) journal = ⊥
-IsJournalRead view (Err (Illegal n)) journal = ⊥

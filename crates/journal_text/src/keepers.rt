@@ -1,15 +1,13 @@
 //! Who keeps the entries of a text as they are read.
 //!
 //! Whether an entry may come next is judged by a keeper, a trait with one call, so that a text can
-//! be read onto any world that keeps the rules. The plain journal is one.
+//! be read onto any world that keeps the rules.
 ghost use Rattle.std.specs.Prelude.{◌≡◌, List, IfOk};
 ghost use Rattle.osm_model.specs.declared.commands.Entry.{Entry};
 ghost use Rattle.journal_text.specs.Kept.{may_follow, kept_by};
 
-use crate::turns::{is_in_turn, take};
 use osm_base::Memory;
 use osm_model::Entry;
-use plain_model::Journal;
 use std::alloc::Global;
 
 /// Keeps entries, each of which may follow those before it.
@@ -23,17 +21,4 @@ pub trait Keeper {
     fn keep(&mut self, alloc: Global, entry: Entry) -> Result<bool, Memory>
         ensures answer { IfOk result (λ b. b ≡ may_follow (kept self.old) entry) }
         ensures kept { kept self.new ≡ kept_by result (kept self.old) entry };
-}
-
-/// The plain journal, which judges on the plain map.
-impl Keeper for Journal {
-    ghost kept = { λ entries. entries };
-
-    fn keep(&mut self, alloc: Global, entry: Entry) -> Result<bool, Memory> {
-        if is_in_turn(self, &entry) {
-            take(alloc, self, entry)
-        } else {
-            Ok(false)
-        }
-    }
 }

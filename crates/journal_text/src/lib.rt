@@ -12,14 +12,13 @@ mod law;
 mod limits;
 mod line;
 mod read;
-mod turns;
 mod typed;
 mod versions;
 mod write;
 
 pub use entries::read_entry;
 pub use faults::{JournalFault, LineFault};
-pub use journals::{journal_text, lines_behind, read_journal, read_line, read_lines};
+pub use journals::{journal_text, lines_behind, read_line};
 pub use keepers::Keeper;
 pub use law::{legal_journals_grow, lines_are_plain, lines_are_read_in_turn, lines_tell_entries};
 pub use limits::TEXT_LIMIT;

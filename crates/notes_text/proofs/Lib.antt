@@ -2,8 +2,6 @@ mod Complete
 mod Coordinates
 mod Found
 mod Hearing
-mod Legal
-mod LinesRead
+mod LinesWritten
 mod PlainLine
 mod Sent
-mod Whole

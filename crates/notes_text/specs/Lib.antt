@@ -1,7 +1,4 @@
-pub mod Faults
 pub mod Heard
-pub mod Kept
 pub mod Line
-pub mod Lines
 pub mod Read
 pub mod Text

@@ -1,10 +1,9 @@
 -- The journal of notes as a text: a header and a line for each entry, each ended by byte 10.
-use Rattle.std.specs.Prelude.{◌≡◌, ℕ, ◌≤◌, List, [], ◌∷◌, ◌++◌, length, All, codes}
+use Rattle.std.specs.Prelude.{ℕ, List, [], ◌∷◌, ◌++◌, codes}
 use Rattle.hub_core.specs.Journal.{IsJournal}
 use Rattle.notes_core.specs.Machine.{note_rules}
 use Rattle.notes_core.specs.declared.commands.NoteEntry.{NoteEntry}
-use Rattle.notes_text.specs.Line.{line, IsEntry}
-use Rattle.notes_text.specs.declared.limits.TheConstants.{NOTES_TEXT_LIMIT}
+use Rattle.notes_text.specs.Line.{line}
 
 -- the first line, with the byte 10 that ends it
 abbrev pub header : List ℕ
@@ -20,10 +19,3 @@ text_of es = header ++ lines es
 -- each entry may follow those before it, by the rules of notes
 abbrev pub IsLegal : List NoteEntry → Type 0
 IsLegal es = IsJournal note_rules es
-
--- the text is that of this journal, whose entries are of their types
-pub record IsTextOf (text : List ℕ) (journal : List NoteEntry) : Type 0 where
-  pub legal : IsLegal journal
-  pub typed : All IsEntry journal
-  pub is : text ≡ text_of journal
-  pub within : length text ≤ NOTES_TEXT_LIMIT

@@ -5,13 +5,16 @@
 //! What is read is written again. Other lines are for the reader.
 #![tactic(auto)]
 
+mod texts;
+
 use notes_core::NoteEntry;
-use notes_text::{HEADER, NotesFault, lines_behind, read_notes};
+use notes_text::{HEADER, lines_behind};
 use osm_base::Memory;
 use row_tally::Tally;
 use std::alloc::{AllocError, Global};
 use std::io;
 use std::process::ExitCode;
+use texts::{TextFault, read_text};
 
 /// A line of a text, or a piece of one.
 fn add(text: &mut String, line: &str) -> Result<(), AllocError> {
@@ -31,24 +34,24 @@ fn is_written_so(alloc: Global, text: &str, entries: &[NoteEntry]) -> Result<boo
     Ok(written.as_slice() == text.as_bytes())
 }
 
-fn fault(alloc: Global, why: NotesFault) -> Result<String, Memory> {
+fn fault(alloc: Global, why: TextFault) -> Result<String, Memory> {
     match why {
-        NotesFault::Long => Ok(String::from_str(alloc, "long")?),
-        NotesFault::Header => Ok(String::from_str(alloc, "header")?),
-        NotesFault::Line { line } => Ok(format!(in alloc; "line {line}")?),
-        NotesFault::Illegal { line } => Ok(format!(in alloc; "illegal {line}")?),
-        NotesFault::Memory => Err(Memory),
+        TextFault::Header => Ok(String::from_str(alloc, "header")?),
+        TextFault::Line { line } => Ok(format!(in alloc; "line {line}")?),
+        TextFault::Illegal { line } => Ok(format!(in alloc; "illegal {line}")?),
+        TextFault::Memory => Err(Memory),
     }
 }
 
 /// What a text is read as.
 fn reading(alloc: Global, text: &str) -> Result<String, Memory> {
-    let entries = match read_notes(alloc, text.as_bytes()) {
-        Ok(entries) => entries,
+    let book = match read_text(alloc, text) {
+        Ok(book) => book,
         Err(why) => return fault(alloc, why),
     };
+    let entries = book.journal();
     let count = entries.len();
-    if is_written_so(alloc, text, entries.as_slice())? {
+    if is_written_so(alloc, text, entries)? {
         Ok(format!(in alloc; "reads {count}")?)
     } else {
         Ok(format!(in alloc; "is written otherwise, and reads {count}")?)

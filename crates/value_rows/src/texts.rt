@@ -1,6 +1,7 @@
 //! Texts and what they are read as: bodies of requests, and journals. docs/ROWS.md has their format.
 mod bodies;
 mod journals;
+mod keepers;
 mod told;
 
 use osm_base::Memory;

@@ -1,6 +1,8 @@
 //! What a journal's text is read as, as a text.
+use super::keepers::PlainKeeper;
 use super::{TextFault, numbered, said};
-use journal_text::{JournalFault, entry_line, read_journal};
+use journal_text::{JournalFault, TEXT_LIMIT, Version, entry_line, read_line, split_header};
+use osm_base::split_once;
 use osm_model::Entry;
 use std::alloc::{AllocError, Global};
 
@@ -58,10 +60,44 @@ fn fault(alloc: Global, why: JournalFault) -> Result<String, TextFault> {
     }
 }
 
+/// Reads the lines behind a header, each ended by byte 10, and has their entries kept.
+fn read_lines(
+    alloc: Global,
+    version: Version,
+    lines: &[u8],
+    keeper: &mut PlainKeeper,
+) -> Result<(), JournalFault> {
+    let mut rest = lines;
+    for number in 2..u64::MAX {
+        if rest.is_empty() {
+            return Ok(());
+        }
+        let Some((line, behind)) = split_once(rest, b'\n') else {
+            return Err(JournalFault::Line { line: number });
+        };
+        read_line(alloc, version, line, number, keeper)?;
+        rest = behind;
+    }
+    Ok(())
+}
+
+/// A keeper of the entries of a text.
+fn read_journal(alloc: Global, text: &[u8]) -> Result<PlainKeeper, JournalFault> {
+    if text.len() > TEXT_LIMIT {
+        return Err(JournalFault::Long);
+    }
+    let Some((version, lines)) = split_header(text) else {
+        return Err(JournalFault::Header);
+    };
+    let mut keeper = PlainKeeper::new(alloc);
+    read_lines(alloc, version, lines, &mut keeper)?;
+    Ok(keeper)
+}
+
 /// `reads N` with the number of entries, or the fault with its line.
 pub fn reading(alloc: Global, text: &str) -> Result<String, TextFault> {
     match read_journal(alloc, text.as_bytes()) {
-        Ok(entries) => read(alloc, text, entries.as_slice()),
+        Ok(keeper) => read(alloc, text, keeper.entries()),
         Err(why) => fault(alloc, why),
     }
 }

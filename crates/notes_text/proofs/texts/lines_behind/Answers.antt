@@ -4,7 +4,7 @@ use Rattle.std.proofs.lemmas.List.{take_more}
 use Rattle.std.proofs.lemmas.List.Elements.{All-more}
 use Rattle.notes_text.specs.Line.{line, IsEntry}
 use Rattle.notes_text.specs.Text.{lines}
-use Rattle.notes_text.proofs.LinesRead.{lines_more}
+use Rattle.notes_text.proofs.LinesWritten.{lines_more}
 use Rattle.notes_text.proofs.texts.lines_behind.Goals as goal
 
 pub loop-entry-preserved : goal.loop-entry-preserved

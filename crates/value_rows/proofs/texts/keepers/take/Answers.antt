@@ -2,8 +2,8 @@ use Rattle.std.proofs.Common.{◌≡◌, ap, sym, ◌∙◌, Ok}
 use Rattle.osm_base.specs.declared.memory.Memory.{Memory}
 use Rattle.osm_model.specs.Journal.{journal_after}
 use Rattle.journal_text.specs.Kept.{kept_by}
-use Rattle.journal_text.proofs.InTurn.{grown, grown_so, lengths_same}
-use Rattle.journal_text.proofs.turns.take.Goals as goal
+use Rattle.value_rows.proofs.InTurn.{grown, grown_so, lengths_same}
+use Rattle.value_rows.proofs.texts.keepers.take.Goals as goal
 
 pub returns-clause-answer : goal.returns-clause-answer
 returns-clause-answer c =
