@@ -3,8 +3,8 @@
 
 Runs `rt ci`, or the COMMAND, at the top of the repository, and looks each second at the checks that run in it and in copies that it
 makes. For each crate it tells the processor minutes of its proof and of its wrong bodies, and when the proof began and ended, in
-minutes from the start; then the chain of crates, each standing on the one before, that took longest. A crate that was kept from an
-earlier run has no row, so `rt ci --anew` is what tells of all. The status is the command's.
+minutes from the start; then the chain of crates, each standing on the one before, that took longest. Some kits keep what an earlier
+run proved: a crate that was kept has no row, and `rt ci --anew` tells of all there. The status is the command's.
 """
 
 from __future__ import annotations
