@@ -1,9 +1,8 @@
 //! The plain program: commands carried out by the map's rules, over lists alone, and a journal of them.
 //!
 //! The plain program and its journal are a crate of their own, plain_model, above the model. Tests
-//! stand on it, and the reading of a journal's text, which judges on a plain journal; the indexed
-//! world, the reads and the law of plans need the definitions alone, and are proved without
-//! waiting for the plain program.
+//! alone stand on it; the indexed world, the reads, the journal's text and the law of plans need
+//! the definitions alone, and are proved without waiting for the plain program.
 #![tactic(auto)]
 
 mod acts;
