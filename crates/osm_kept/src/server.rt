@@ -126,7 +126,7 @@ fn serve_handed<V: Device + Drop + Send, R: Threads + Wait + Sync, P: Port + Dro
     serve_kept_ports::<Brand, Brand, V, R, P>(rt, alloc, seats, receipts, twins, file, users, ports)
 }
 
-/// Takes up the journal in the file at that path, reads the users of the text at theirs, and serves
+/// Reads the users of the text at their path, takes up the journal in the file at that one, and serves
 /// the links of ports at that address. A reply is sent only once the file holds what it tells of.
 pub fn run_serve_kept<H: Host, J: Journals, R: Threads + Wait + Sync, L: Link>(
     rt: &R,
