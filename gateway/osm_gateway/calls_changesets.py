@@ -18,6 +18,7 @@ from .changesets_past import Search
 from .created_once import changeset_created
 from .degrees import units_of
 from .made_again import operations_of
+from .plain_rows import rows_at
 from .refusals import Asked, Operations, Refused
 from .rows import Changeset
 from .times import moment_of
@@ -85,7 +86,7 @@ async def upload(call: Call) -> web.StreamResponse:
 
 async def download(call: Call) -> web.StreamResponse:
     reply = await call.ask("GET", f"changeset/{call.path('id')}/download")
-    events = events_of(reply)
+    events = events_of(reply, rows=rows_at)
     pieces = documents.download_json(events) if call.wants_json else documents.download_xml(events, call.texts)
     return await call.answer_in_parts(pieces)
 

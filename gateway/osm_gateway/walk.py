@@ -4,9 +4,11 @@ from __future__ import annotations
 
 import json
 import re
-from collections.abc import Iterator
+from collections.abc import Callable, Iterator
 from enum import Enum, auto
 from typing import Any, NamedTuple
+
+from .rows import ACTIONS
 
 Path = tuple[str, ...]
 """The members from the outermost value on; an item of a list is `*`."""
@@ -14,6 +16,8 @@ Path = tuple[str, ...]
 SPACE = re.compile(r"[ \t\r\n]*")
 EXPONENT = 3
 """Characters from which on a part of a number behind its whole digits is read as such: a point and a digit, or `e-5`."""
+AHEAD = 1 << 12
+"""Characters that are there where items are taken as they stand: more than most elements have."""
 BEGINNING = 9
 """Characters of an item's beginning: `{"changes` of an element of the server, where a member of a relation has `{"ref":1,`."""
 
@@ -22,6 +26,8 @@ class Sort(Enum):
     OPENED = auto()
     VALUE = auto()
     CLOSED = auto()
+    ROWS = auto()
+    """Several items of a list, taken as they stand."""
 
 
 class Event(NamedTuple):
@@ -39,14 +45,21 @@ def no_number(text: str) -> Any:
 
 
 
+Rows = Callable[[str, int], tuple[list[Any], int]]
+"""Takes the items of a list that stand at a place of a text in a form that it knows, and tells where the last one ends."""
+
+
 class Walk:
     """Reads the text that an iterator gives piece by piece.
 
-    `opened` has the paths whose lists or objects are opened. `longest` is the most characters that a value may have, or 0.
+    `opened` has the paths whose lists or objects are opened. `longest` is the most characters that a value may have, or 0. `rows` takes
+    the items of the lists of elements, as many as it can.
     """
 
-    def __init__(self, pieces: Iterator[str], opened: frozenset[Path], longest: int = 0, parse_float: Any = None) -> None:
-        self.pieces, self.opened, self.longest = pieces, opened, longest
+    def __init__(
+        self, pieces: Iterator[str], opened: frozenset[Path], longest: int = 0, parse_float: Any = None, rows: Rows | None = None
+    ) -> None:
+        self.pieces, self.opened, self.longest, self.rows = pieces, opened, longest, rows
         self.scan = json.JSONDecoder(parse_float=parse_float, parse_constant=no_number).raw_decode
         self.text, self.place, self.ended, self.is_tried = "", 0, False, False
 
@@ -131,15 +144,28 @@ class Walk:
         if self.next_character() == "]":
             self.place += 1
             return
-        plain = path not in self.opened
+        plain, rows = path not in self.opened, self.rows if path in ELEMENTS else None
         while True:
-            if plain:
+            if rows:
+                yield self.taken(rows, path)
+            elif plain:
                 for value in self.several():
                     yield Event(Sort.VALUE, path, value)
             else:
                 yield from self.value(path)
             if self.take(",]") == "]":
                 return
+
+    def taken(self, rows: Rows, path: Path) -> Event:
+        """The next items as they stand, or one that is read."""
+        self.next_character()
+        if len(self.text) - self.place < AHEAD and not self.ended:
+            self.more()  # the last row of a piece would be read twice
+        found, end = rows(self.text, self.place)
+        if not found:
+            return Event(Sort.VALUE, path, self.whole())
+        self.place = end
+        return Event(Sort.ROWS, path, found)
 
     def several(self) -> list[Any]:
         """The next items of a list, as many objects as are there whole, or one.
@@ -174,9 +200,11 @@ class Walk:
                 return
 
 
+ELEMENTS: frozenset[Path] = frozenset({("elements", "*")} | {("osmChange", "*", action, "*") for action in ACTIONS})
+"""The elements of a reply."""
 OPENED: frozenset[Path] = frozenset(
     {(), ("elements",), ("changesets",), ("diffResult",), ("osmChange",), ("osmChange", "*")}
-    | {("osmChange", "*", action) for action in ("create", "modify", "delete")}
+    | {("osmChange", "*", action) for action in ACTIONS}
     | {("note",), ("note", "comments"), ("notes",), ("notes", "*"), ("notes", "*", "comments")}
 )
 """What is opened of a reply of the server, and of a change in OSM's JSON."""
