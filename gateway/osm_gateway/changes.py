@@ -4,30 +4,26 @@ from __future__ import annotations
 
 import json
 from collections.abc import Iterator
-from dataclasses import dataclass
-from typing import Any
+from typing import Any, NamedTuple
 
 from .refusals import Operations
 
 ENCODER = json.JSONEncoder(ensure_ascii=False, separators=(",", ":"))
 
 
-@dataclass(frozen=True)
-class Begun:
+class Begun(NamedTuple):
     """A block of a change begins."""
 
     action: str
 
 
-@dataclass(frozen=True)
-class Operation:
+class Operation(NamedTuple):
     """An element of the block that began last, in the server's form."""
 
     row: dict[str, Any]
 
 
-@dataclass(frozen=True)
-class Ended:
+class Ended(NamedTuple):
     """The block ends."""
 
     if_unused: bool = False
@@ -37,19 +33,22 @@ Found = Begun | Operation | Ended
 
 
 def change_of(found: Iterator[Found | None], operations: Operations) -> Iterator[str]:
-    """The server's JSON of a change, piece by piece; notes the operations."""
+    """The server's JSON of a change, piece by piece; notes the operations. They are written together up to where None is found."""
     yield '{"osmChange":['
-    block, row, action, start = "", "", "", 0
+    block, comma, action, start, rows = "", "", "", 0, list[dict[str, Any]]()
     for it in found:
+        if isinstance(it, Operation):
+            operations.add(it.row["type"], it.row.get("id", 0))
+            rows.append(it.row)
+            continue
+        if rows:
+            yield comma + ENCODER.encode(rows)[1:-1]
+            comma, rows = ",", []
         if it is None:
             yield ""
-        elif isinstance(it, Operation):
-            operations.add(it.row["type"], it.row.get("id", 0))
-            yield row + ENCODER.encode(it.row)
-            row = ","
         elif isinstance(it, Begun):
             yield f'{block}{{"{it.action}":['
-            block, row, action, start = ",", "", it.action, len(operations.ids)
+            block, comma, action, start = ",", "", it.action, len(operations.ids)
         else:
             operations.end_block(start, action, it.if_unused)
             yield '],"if-unused":true}' if it.if_unused else "]}"

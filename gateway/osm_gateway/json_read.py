@@ -86,15 +86,15 @@ def element_of(it: Any, action: str, kind: str = "") -> dict[str, Any]:
 # ---- whole documents
 
 
-def change(pieces: Iterator[str]) -> Iterator[Found]:
-    """An osmChange, as a list of blocks by action or of elements that each say their `action`."""
+def change(pieces: Iterator[str]) -> Iterator[Found | None]:
+    """An osmChange, as a list of blocks by action or of elements that each say their `action`; None behind each element."""
     try:
         yield from change_found(pieces)
     except NotJson as why:
         raise refuse(str(why)) from None
 
 
-def change_found(pieces: Iterator[str]) -> Iterator[Found]:
+def change_found(pieces: Iterator[str]) -> Iterator[Found | None]:
     seen, rest, begun = False, dict[str, Any](), ""
     for sort, path, value in walk(pieces).events():
         if path[:1] != ("osmChange",):
@@ -110,6 +110,7 @@ def change_found(pieces: Iterator[str]) -> Iterator[Found]:
             yield Begun(begun)
         elif len(path) == 4:
             yield Operation(element_of(value, path[2]))
+            yield None
         elif len(path) == 3 and sort is Sort.VALUE:
             rest[path[2]] = value
         elif len(path) == 2:
