@@ -46,11 +46,11 @@ def several(rows: Iterable[MemberFields]) -> str:
 def plain(rows: list[Fields]) -> str:
     """Elements as they stand in the server's reply."""
     written = []
-    for changeset, number, lat, lon, refs, parts, has, others, timestamp, kind, uid, user, version, _ in rows:
+    for changeset, number, lat, lon, refs, parts, has, timestamp, kind, uid, user, version, _ in rows:
         place = f',"lat":{degrees_in(lat)},"lon":{degrees_in(lon)}' if lat else ""
         more = f',"nodes":[{refs}]' if refs else f',"members":[{several(members_of(parts))}]' if parts else ""
-        if has or others:
-            more += f',"tags":{tags(has or others)}'
+        if has:
+            more += f',"tags":{tags(has)}'
         written.append(f"{start(kind, number, place, timestamp, version, changeset, user, uid)}{more}}}")
     return ",\n".join(written)
 

@@ -16,8 +16,8 @@ Path = tuple[str, ...]
 SPACE = re.compile(r"[ \t\r\n]*")
 EXPONENT = 3
 """Characters from which on a part of a number behind its whole digits is read as such: a point and a digit, or `e-5`."""
-AHEAD = 1 << 12
-"""Characters that are there where items are taken as they stand: more than most elements have."""
+AHEAD = 1 << 15
+"""Characters that are there before an item isn't taken as it stands: its end may not have come."""
 BEGINNING = 9
 """Characters of an item's beginning: `{"changes` of an element of the server, where a member of a relation has `{"ref":1,`."""
 
@@ -61,7 +61,7 @@ class Walk:
     ) -> None:
         self.pieces, self.opened, self.longest, self.rows = pieces, opened, longest, rows
         self.scan = json.JSONDecoder(parse_float=parse_float, parse_constant=no_number).raw_decode
-        self.text, self.place, self.ended, self.is_tried = "", 0, False, False
+        self.text, self.place, self.ended, self.is_tried, self.is_read = "", 0, False, False, False
 
     def events(self) -> Iterator[Event]:
         yield from self.value(())
@@ -147,7 +147,7 @@ class Walk:
         plain, rows = path not in self.opened, self.rows if path in ELEMENTS else None
         while True:
             if rows:
-                yield self.taken(rows, path)
+                yield from self.taken(rows, path)
             elif plain:
                 for value in self.several():
                     yield Event(Sort.VALUE, path, value)
@@ -156,16 +156,19 @@ class Walk:
             if self.take(",]") == "]":
                 return
 
-    def taken(self, rows: Rows, path: Path) -> Event:
-        """The next items as they stand, or one that is read."""
+    def taken(self, rows: Rows, path: Path) -> Iterator[Event]:
+        """The next items as they stand. Where the next one can't be taken it is read, and where the one before couldn't either, several."""
         self.next_character()
-        if len(self.text) - self.place < AHEAD and not self.ended:
-            self.more()  # the last row of a piece would be read twice
         found, end = rows(self.text, self.place)
-        if not found:
-            return Event(Sort.VALUE, path, self.whole())
-        self.place = end
-        return Event(Sort.ROWS, path, found)
+        if not found and len(self.text) - self.place < AHEAD and self.more():
+            found, end = rows(self.text, self.place)
+        if found:
+            self.place, self.is_read = end, False
+            yield Event(Sort.ROWS, path, found)
+            return
+        for value in self.several() if self.is_read else [self.whole()]:
+            yield Event(Sort.VALUE, path, value)
+        self.is_read = True
 
     def several(self) -> list[Any]:
         """The next items of a list, as many objects as are there whole, or one.

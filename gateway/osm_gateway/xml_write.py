@@ -57,25 +57,24 @@ def start(
 
 def plain(texts: Texts, rows: list[Fields]) -> str:
     """Elements as they stand in the server's reply."""
-    written = []
-    for changeset, number, lat, lon, refs, parts, has, others, timestamp, kind, uid, user, version, _ in rows:
+    written, known_tags = [], texts.tags
+    for changeset, number, lat, lon, refs, parts, has, timestamp, kind, uid, user, version, _ in rows:
         place = f' lat="{degrees_in(lat)}" lon="{degrees_in(lon)}"' if lat else ""
         inner = nodes(refs) if refs else members(texts, members_of(parts)) if parts else ""
         if has:
-            inner += plain_tags(texts, has)
-        elif others:
-            inner += tags(texts, tags_of(others))
+            inner += known_tags.get(has) or plain_tags(texts, has)
         end = f">\n{inner}</{kind}>\n" if inner else "/>\n"
         written.append(f"{start(texts, kind, number, version, changeset, timestamp, user, uid)}{place}{end}")
     return "".join(written)
 
 
 def plain_tags(texts: Texts, text: str) -> str:
-    """Tags with nothing to escape."""
-    parts = text.split('"')
-    if not is_each_once(parts[1::4]):
-        return tags(texts, tags_of(text))
-    return TAG * (len(parts) // 4) % tuple(parts[1::2])
+    """Tags as they stand in the server's reply."""
+    parts = text.replace("&", "&amp;").replace("<", "&lt;").replace(">", "&gt;").split('"')
+    is_plain = is_each_once(parts[1::4])
+    it = TAG * (len(parts) // 4) % tuple(parts[1::2]) if is_plain else tags(texts, tags_of(text))
+    texts.keep_tags(text, it)
+    return it
 
 
 def start_of(texts: Texts, it: Element) -> str:
