@@ -2,18 +2,18 @@
 
 from __future__ import annotations
 
-import json
 from collections.abc import Iterable, Iterator, Sequence
 from json.encoder import encode_basestring as text_of  # type: ignore[attr-defined]
 from typing import Any
 
+from .changes import ENCODER
 from .degrees import degrees_in, degrees_of
 from .discussions import Remark
 from .people import User
 from .plain_rows import Fields, is_each_once, members_of, tags_of
 from .rows import SLICE, Box, Changeset, Comment, Counts, Done, Element, MemberFields, Note, Whole, edges, member_fields
 from .times import utc
-from .xml_write import BEGINNING, GENERATOR, paragraph
+from .xml_write import BEGINNING, GENERATOR, note_rows, paragraph
 
 licence = ""
 """Members that each document has besides; set once, at the start."""
@@ -23,7 +23,7 @@ def head() -> str:
     return f'{{"version":"0.6","generator":"{GENERATOR}"{licence}'
 
 
-value_of = json.JSONEncoder(ensure_ascii=False, separators=(",", ":")).encode
+value_of = ENCODER.encode
 
 
 def document(**members: str) -> str:
@@ -113,12 +113,7 @@ def user(it: User, counts: Counts, mine: bool) -> str:
 
 def note_start(it: Note, site: str) -> str:
     """What stands before the comments of a note."""
-    here = f"{site}/api/0.6/notes/{it['id']}"
-    rows: dict[str, Any] = {"id": it["id"], "url": here}
-    rows |= {f"{call}_url": f"{here}/{call}" for call in (("comment", "close") if it["status"] == "open" else ("reopen",))}
-    rows |= {"date_created": utc(it["date_created"]), "status": it["status"]}
-    if "closed_at" in it:
-        rows["closed_at"] = utc(it["closed_at"])
+    rows = note_rows(it, site, "closed_at")
     place = f'{{"type":"Point","coordinates":[{degrees_of(it["lon7"])},{degrees_of(it["lat7"])}]}}'
     return f'{{"type":"Feature","geometry":{place},"properties":{value_of(rows)[:-1]},"comments":['
 

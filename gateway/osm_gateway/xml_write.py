@@ -163,14 +163,18 @@ def comment(texts: Texts, it: Comment) -> str:
     return f"<comment>{inner(texts, 'date', utc(it['date']))}{who}{said}</comment>\n"
 
 
-def note_start(texts: Texts, it: Note, site: str) -> str:
-    """What stands before the comments of a note."""
+def note_rows(it: Note, site: str, closing: str) -> dict[str, str | int]:
+    """What a note has besides its place and its comments, with that name for when it was closed."""
     here = f"{site}/api/0.6/notes/{it['id']}"
-    rows = {"id": str(it["id"]), "url": here}
+    rows: dict[str, str | int] = {"id": it["id"], "url": here}
     rows |= {f"{call}_url": f"{here}/{call}" for call in (("comment", "close") if it["status"] == "open" else ("reopen",))}
     rows |= {"date_created": utc(it["date_created"]), "status": it["status"]}
-    if "closed_at" in it:
-        rows["date_closed"] = utc(it["closed_at"])
+    return rows | ({closing: utc(it["closed_at"])} if "closed_at" in it else {})
+
+
+def note_start(texts: Texts, it: Note, site: str) -> str:
+    """What stands before the comments of a note."""
+    rows = note_rows(it, site, "date_closed")
     place = f'<note lon="{degrees_of(it["lon7"])}" lat="{degrees_of(it["lat7"])}">'
     return f"{place}{''.join(inner(texts, name, value) for name, value in rows.items())}<comments>"
 
