@@ -32,24 +32,25 @@ class Ended(NamedTuple):
 Found = Begun | Operation | Ended
 
 
-def change_of(found: Iterator[Found | None], operations: Operations) -> Iterator[str]:
-    """The server's JSON of a change, piece by piece; notes the operations. They are written together up to where None is found."""
+def change_of(found: Iterator[Found | None], operations: Operations, together: int = 1) -> Iterator[str]:
+    """The server's JSON of a change, piece by piece; notes the operations. So many are written together, or up to where None is found."""
     yield '{"osmChange":['
     block, comma, action, start, rows = "", "", "", 0, list[dict[str, Any]]()
     for it in found:
         if isinstance(it, Operation):
             operations.add(it.row["type"], it.row.get("id", 0))
             rows.append(it.row)
-            continue
+            if len(rows) < together:
+                continue
         if rows:
             yield comma + ENCODER.encode(rows)[1:-1]
             comma, rows = ",", []
-        if it is None:
+        elif it is None:
             yield ""
-        elif isinstance(it, Begun):
+        if isinstance(it, Begun):
             yield f'{block}{{"{it.action}":['
             block, comma, action, start = ",", "", it.action, len(operations.ids)
-        else:
+        elif isinstance(it, Ended):
             operations.end_block(start, action, it.if_unused)
             yield '],"if-unused":true}' if it.if_unused else "]}"
     yield "]}"

@@ -333,10 +333,10 @@ def xml_wanted(data: bytes) -> Any:
 # ---- what the gateway makes of it
 
 
-def sent(found: Iterator[Any]) -> Any:
+def sent(found: Iterator[Any], together: int = 1) -> Any:
     """What the server gets, or Invalid."""
     try:
-        return json.loads("".join(change_of(found, Operations())).encode("utf-8"))
+        return json.loads("".join(change_of(found, Operations(), together)).encode("utf-8"))
     except (Refused, UnicodeError) as why:
         if isinstance(why, Refused) and why.status != 400:
             raise Wrong(f"the status of a refusal is {why.status}: {why.text}") from None
@@ -373,7 +373,7 @@ def text_cuts(it: Drawn, data: bytes) -> list[bytes]:
 
 
 def xml_read_of(pieces: list[bytes]) -> Any:
-    return sent(ChangeReader().read(iter(pieces)))
+    return sent(ChangeReader().read(iter(pieces)), PIECE)
 
 
 def outcome(do: Callable[[], Any]) -> Any:
