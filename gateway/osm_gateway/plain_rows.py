@@ -10,7 +10,7 @@ import re
 
 from .rows import MemberFields
 
-WINDOW = 1 << 15
+WINDOW = 1 << 14
 """Characters in which rows are taken at once: a turn can end behind them. A longer row isn't taken."""
 Fields = tuple[str, ...]
 """changeset, id, lat7, lon7, nodes, members, tags, timestamp, type, uid, user, version, and what stands behind the last row. Empty is what
