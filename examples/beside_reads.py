@@ -8,14 +8,11 @@ alone, and then both at once. Prints uploads a second, maps a second and how lon
 from __future__ import annotations
 
 import argparse
-import os
-import subprocess
 import tempfile
 import threading
 import time
 
-import load
-from load import CHANGESETS, LUA, TOKEN, told, wrk
+from load import CHANGESETS, TOKEN, uploads_in_quarter
 from serving import OSM, Link, Server
 
 USERS = f"1 {TOKEN} user alice\n2 bobtoken moderator bob\n"
@@ -75,17 +72,12 @@ def main() -> None:
     words = parser.parse_args()
     with tempfile.TemporaryDirectory() as folder, Server(words.program, 2 * LINKS, USERS) as server:
         fill(server.port, words.nodes)
-        script = os.path.join(folder, "upload.lua")
-        with open(script, "w", encoding="utf-8") as file:
-            file.write(LUA)
-        share = CHANGESETS // 4 // load.threads_for(LINKS)
         plays = (("uploads alone", 0, True), ("maps alone", LINKS, False), ("both", LINKS, True), ("uploads alone", 0, True))
         for place, (name, links, uploads) in enumerate(plays):
             readers = [Reader(server.port) for _ in range(links)]
             before, parts = time.perf_counter(), []
             if uploads:
-                line = wrk(server.port, "", LINKS, words.seconds, "-s", script, str(1 + place * (CHANGESETS // 4)), str(share))
-                run = told(subprocess.run(line, capture_output=True, text=True, check=True).stdout)
+                run = uploads_in_quarter(server.port, folder, place, LINKS, words.seconds)
                 parts.append(f"{run.rate:,.0f} uploads a second, {run.refused} refused")
             else:
                 time.sleep(words.seconds)

@@ -9,14 +9,11 @@ middle of the journal over and over, and then alone once more. Prints uploads a 
 from __future__ import annotations
 
 import argparse
-import os
-import subprocess
 import tempfile
 import threading
 import time
 
-import load
-from load import CHANGESETS, LUA, TOKEN, told, wrk
+from load import CHANGESETS, TOKEN, uploads_in_quarter
 from serving import OSM, Link, Server
 
 USERS = f"1 {TOKEN} user alice\n2 bobtoken moderator bob\n"
@@ -68,16 +65,10 @@ def main() -> None:
     words = parser.parse_args()
     with tempfile.TemporaryDirectory() as folder, Server(words.program, LINKS + 1, USERS) as server:
         fill(server.port, words.entries)
-        script = os.path.join(folder, "upload.lua")
-        with open(script, "w", encoding="utf-8") as file:
-            file.write(LUA)
-        share = CHANGESETS // 4 // load.threads_for(LINKS)
         plays = (("alone", None), ("beside a follower from the first piece", (1, 1)), ("beside one piece", (words.entries // 2, 0)), ("alone", None))
         for place, (name, consumer) in enumerate(plays):
             follower = Consumer(server.port, *consumer) if consumer else None
-            first = 1 + place * (CHANGESETS // 4)
-            line = wrk(server.port, "", LINKS, words.seconds, "-s", script, str(first), str(share))
-            run = told(subprocess.run(line, capture_output=True, text=True, check=True).stdout)
+            run = uploads_in_quarter(server.port, folder, place, LINKS, words.seconds)
             print(f"{name}: {run.rate:,.0f} uploads a second, {run.refused} refused" + (f"; {follower.end()}" if follower else ""), flush=True)
 
 

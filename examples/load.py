@@ -121,6 +121,15 @@ def wrk(port: int, path: str, links: int, time_s: int, *more: str) -> list[str]:
     return ["wrk", f"-t{threads_for(links)}", f"-c{links}", f"-d{time_s}s", "--latency", *more[:2], url, *more[2:]]
 
 
+def uploads_in_quarter(port: int, folder: str, place: int, links: int, time_s: int) -> Run:
+    """Uploads for so long, in that quarter of the changesets."""
+    script, share = os.path.join(folder, "upload.lua"), CHANGESETS // 4
+    with open(script, "w", encoding="utf-8") as file:
+        file.write(LUA)
+    line = wrk(port, "", links, time_s, "-s", script, str(1 + place * share), str(share // threads_for(links)))
+    return told(subprocess.run(line, capture_output=True, text=True, check=True).stdout)
+
+
 def told(text: str) -> Run:
     found = re.search(r"(\d+) requests in", text), re.search(r"Requests/sec: +([\d.]+)", text), re.search(r" 99% +(\S+)", text)
     refused = re.search(r"Non-2xx or 3xx responses: (\d+)", text)

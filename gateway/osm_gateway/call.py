@@ -32,7 +32,7 @@ from .room import Room, Share
 from .spool import Coding, Spool
 from .store import Store
 from .turns import Turns
-from .walk import OPENED, Event, NotJson, Walk
+from .walk import OPENED, Event, NotJson, Rows, Walk
 from .words import Words
 from .xml_texts import Texts
 
@@ -356,11 +356,11 @@ def head_of(reply: web.StreamResponse) -> int:
     return int(writer.output_size)
 
 
-def events_of(*spools: Spool) -> Iterator[Event]:
-    """What the replies have, one after another."""
+def events_of(*spools: Spool, rows: Rows | None = None) -> Iterator[Event]:
+    """What the replies have, one after another; `rows` takes elements as they stand."""
     for spool in spools:
         try:
-            yield from Walk(spool.texts(), OPENED).events()
+            yield from Walk(spool.texts(), OPENED, rows=rows).events()
         except (NotJson, UnicodeDecodeError) as why:
             raise Refused(502, f"The server's reply can't be read: {why}") from None
 

@@ -18,8 +18,10 @@ from .changesets_past import Search
 from .created_once import changeset_created
 from .degrees import units_of
 from .made_again import operations_of
+from .plain_rows import rows_at
 from .refusals import Asked, Operations, Refused
 from .rows import Changeset
+from .spool import PIECE
 from .times import moment_of
 from .xml_read import ChangeReader, TagsReader
 
@@ -74,8 +76,9 @@ async def upload(call: Call) -> web.StreamResponse:
     call.user()
     number, operations = call.path("id"), Operations()
     body, is_json = await call.document()
-    found = json_read.change(texts_of(body)) if is_json else ChangeReader().read(body.pieces())
-    sent = await call.sent(change_of(found, operations))
+    # What is found in a piece of XML is there at once, and is written together.
+    found, together = (json_read.change(texts_of(body)), 1) if is_json else (ChangeReader().read(body.pieces()), PIECE)
+    sent = await call.sent(change_of(found, operations, together))
     body.close()
     change = Change("POST", f"changeset/{number}/upload", sent, Asked(number, operations), lambda: operations_of(sent), lambda: unended(sent))
     reply = await made_once(call, change)
@@ -85,7 +88,7 @@ async def upload(call: Call) -> web.StreamResponse:
 
 async def download(call: Call) -> web.StreamResponse:
     reply = await call.ask("GET", f"changeset/{call.path('id')}/download")
-    events = events_of(reply)
+    events = events_of(reply, rows=rows_at)
     pieces = documents.download_json(events) if call.wants_json else documents.download_xml(events, call.texts)
     return await call.answer_in_parts(pieces)
 

@@ -15,6 +15,7 @@ from .call import Call, box_of, events_of
 from .changes import ENCODER
 from .changes_once import Change, made_once, redacted
 from .made_again import Made
+from .plain_rows import rows_at
 from .refusals import Asked, Operations, Refused
 from .spool import Spool
 from .xml_read import ElementReader
@@ -24,7 +25,7 @@ VERSIONS = 100
 
 
 async def elements(call: Call, *replies: Spool) -> web.StreamResponse:
-    events = events_of(*replies)
+    events = events_of(*replies, rows=rows_at)
     if call.wants_json:
         return await call.answer_in_parts(documents.elements_json(events))
     # osmosis writes a bound of its own and can't write another one behind it.

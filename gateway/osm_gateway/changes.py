@@ -4,30 +4,26 @@ from __future__ import annotations
 
 import json
 from collections.abc import Iterator
-from dataclasses import dataclass
-from typing import Any
+from typing import Any, NamedTuple
 
 from .refusals import Operations
 
 ENCODER = json.JSONEncoder(ensure_ascii=False, separators=(",", ":"))
 
 
-@dataclass(frozen=True)
-class Begun:
+class Begun(NamedTuple):
     """A block of a change begins."""
 
     action: str
 
 
-@dataclass(frozen=True)
-class Operation:
+class Operation(NamedTuple):
     """An element of the block that began last, in the server's form."""
 
     row: dict[str, Any]
 
 
-@dataclass(frozen=True)
-class Ended:
+class Ended(NamedTuple):
     """The block ends."""
 
     if_unused: bool = False
@@ -36,21 +32,25 @@ class Ended:
 Found = Begun | Operation | Ended
 
 
-def change_of(found: Iterator[Found | None], operations: Operations) -> Iterator[str]:
-    """The server's JSON of a change, piece by piece; notes the operations."""
+def change_of(found: Iterator[Found | None], operations: Operations, together: int = 1) -> Iterator[str]:
+    """The server's JSON of a change, piece by piece; notes the operations. So many are written together, or up to where None is found."""
     yield '{"osmChange":['
-    block, row, action, start = "", "", "", 0
+    block, comma, action, start, rows = "", "", "", 0, list[dict[str, Any]]()
     for it in found:
-        if it is None:
-            yield ""
-        elif isinstance(it, Operation):
+        if isinstance(it, Operation):
             operations.add(it.row["type"], it.row.get("id", 0))
-            yield row + ENCODER.encode(it.row)
-            row = ","
-        elif isinstance(it, Begun):
+            rows.append(it.row)
+            if len(rows) < together:
+                continue
+        if rows:
+            yield comma + ENCODER.encode(rows)[1:-1]
+            comma, rows = ",", []
+        elif it is None:
+            yield ""
+        if isinstance(it, Begun):
             yield f'{block}{{"{it.action}":['
-            block, row, action, start = ",", "", it.action, len(operations.ids)
-        else:
+            block, comma, action, start = ",", "", it.action, len(operations.ids)
+        elif isinstance(it, Ended):
             operations.end_block(start, action, it.if_unused)
             yield '],"if-unused":true}' if it.if_unused else "]}"
     yield "]}"

@@ -7,6 +7,8 @@ from decimal import ROUND_HALF_UP, Context, Decimal
 
 LONGEST = 100
 """Characters of a decimal that is read."""
+USUAL = re.compile(r"(-?[0-9]{1,3})\.([0-9]{1,7})")
+"""A decimal that is a number of whole units."""
 DECIMAL = re.compile(r"[+-]?(?:[0-9]+(?:\.[0-9]*)?|\.[0-9]+)(?:[eE][+-]?[0-9]{1,3})?")
 EXACT = Context(prec=2 * LONGEST)
 
@@ -22,6 +24,9 @@ def rounded(value: Decimal) -> int:
 
 def units_of(text: str) -> int:
     """The units that a decimal in degrees stands for, with an exponent too: Java's clients write 5.0E-4."""
+    usual = USUAL.fullmatch(text)
+    if usual:
+        return int(usual[1] + usual[2].ljust(7, "0"))
     text = text.strip(" \t\r\n")
     if len(text) > LONGEST or not DECIMAL.fullmatch(text):
         raise NotDecimal(text[:LONGEST])
@@ -32,3 +37,10 @@ def degrees_of(units: int) -> str:
     """The decimal with seven places."""
     text = f"{units:08}" if units >= 0 else f"{units:09}"
     return f"{text[:-7]}.{text[-7:]}"
+
+
+def degrees_in(units: str) -> str:
+    """The same of units as JSON has them."""
+    if len(units) > 8 or len(units) == 8 and units[0] != "-":
+        return f"{units[:-7]}.{units[-7:]}"
+    return degrees_of(int(units))

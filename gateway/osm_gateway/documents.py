@@ -2,7 +2,7 @@
 
 from __future__ import annotations
 
-from collections.abc import Callable, Iterator
+from collections.abc import Callable, Iterable, Iterator
 from typing import Any, NamedTuple, cast
 
 from . import json_write, xml_write
@@ -69,13 +69,17 @@ def notes(events: Events, base: Path, wanted: list[Note | None], form: NoteForm)
 # ---- XML
 
 
+def xml_elements(texts: Texts, sort: Sort, value: Any) -> Iterable[str]:
+    return (xml_write.plain(texts, value),) if sort is Sort.ROWS else xml_write.element(texts, value)
+
+
 def elements_xml(events: Events, texts: Texts, bounded: bool = True) -> Pieces:
     yield xml_write.opened("osm")
-    for event in events:
-        if event.path == ("elements", "*"):
-            yield from xml_write.element(texts, event.value)
-        elif event.path == ("bounds",) and bounded:
-            yield xml_write.bounds(event.value)
+    for sort, path, value in events:
+        if path == ("elements", "*"):
+            yield from xml_elements(texts, sort, value)
+        elif path == ("bounds",) and bounded:
+            yield xml_write.bounds(value)
     yield xml_write.closed("osm")
 
 
@@ -83,7 +87,7 @@ def download_xml(events: Events, texts: Texts) -> Pieces:
     yield xml_write.opened("osmChange")
     for sort, path, value in events:
         if len(path) == 4:
-            yield from xml_write.element(texts, value)
+            yield from xml_elements(texts, sort, value)
         elif len(path) == 3 and sort is not Sort.VALUE:
             yield f"<{'/' if sort is Sort.CLOSED else ''}{path[2]}>\n"
     yield xml_write.closed("osmChange")
@@ -105,6 +109,10 @@ def listed_xml(items: Iterator[Any], write: Callable[[Any], str]) -> Pieces:
 # ---- JSON
 
 
+def json_elements(sort: Sort, value: Any) -> Iterable[str]:
+    return (json_write.plain(value),) if sort is Sort.ROWS else json_write.element(value)
+
+
 def parted(items: Iterator[Iterator[str]]) -> Pieces:
     """The items with commas between them."""
     comma = ""
@@ -117,13 +125,13 @@ def parted(items: Iterator[Iterator[str]]) -> Pieces:
 def elements_json(events: Events) -> Pieces:
     yield json_write.head()
     comma = ',"elements":[\n'
-    for event in events:
-        if event.path == ("elements", "*"):
+    for sort, path, value in events:
+        if path == ("elements", "*"):
             yield comma
-            yield from json_write.element(event.value)
+            yield from json_elements(sort, value)
             comma = ",\n"
-        elif event.path == ("bounds",):
-            yield f',"bounds":{json_write.bounds(event.value)}'
+        elif path == ("bounds",):
+            yield f',"bounds":{json_write.bounds(value)}'
     yield ("" if comma == ",\n" else comma) + "\n]}\n"
 
 
@@ -133,7 +141,7 @@ def download_json(events: Events) -> Pieces:
     for sort, path, value in events:
         if len(path) == 4:
             yield row
-            yield from json_write.element(value)
+            yield from json_elements(sort, value)
             row = ",\n"
         elif len(path) == 3 and sort is Sort.OPENED:
             yield f'{block}{{"{path[2]}":['

@@ -12,6 +12,7 @@ from .rows import ACTIONS, KINDS
 from .walk import OPENED, NotJson, Sort, Walk
 from .xml_elements import FARTHEST
 
+LARGE = 1 << 63
 LONGEST = 1 << 22
 """Characters of an element, far more than one with limits has."""
 
@@ -31,9 +32,16 @@ def walk(pieces: Iterator[str]) -> Walk:
 def whole(it: Any, name: str) -> int:
     if type(it) is not int:
         raise refuse(f"{name} is not a number" if it is not None else f"{name} is missing")
-    if abs(it) >= 1 << 63:
+    if abs(it) >= LARGE:
         raise refuse(f"{name} is too large a number")
     return it
+
+
+def refs_of(rows: list[Any]) -> list[int]:
+    """Numbers of nodes; they are looked at one by one where one of them is none."""
+    if set(map(type, rows)) == {int} and -LARGE < min(rows) and max(rows) < LARGE:
+        return rows
+    return [whole(ref, "ref") for ref in rows]
 
 
 def place(it: Any, name: str) -> int:
@@ -75,7 +83,7 @@ def element_of(it: Any, action: str, kind: str = "") -> dict[str, Any]:
         row["lat7"], row["lon7"] = place(it.get("lat"), "lat"), place(it.get("lon"), "lon")
     elif found == "way":
         nodes = it.get("nodes")
-        row["nodes"] = [whole(ref, "ref") for ref in nodes] if isinstance(nodes, list) else [whole(None, "nodes")]
+        row["nodes"] = refs_of(nodes) if isinstance(nodes, list) else [whole(None, "nodes")]
     else:
         row["members"] = members_of(it.get("members"))
     if "tags" in it:

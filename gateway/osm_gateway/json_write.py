@@ -2,17 +2,18 @@
 
 from __future__ import annotations
 
-import json
-from collections.abc import Iterator, Sequence
+from collections.abc import Iterable, Iterator, Sequence
 from json.encoder import encode_basestring as text_of  # type: ignore[attr-defined]
 from typing import Any
 
-from .degrees import degrees_of
+from .changes import ENCODER
+from .degrees import degrees_in, degrees_of
 from .discussions import Remark
 from .people import User
-from .rows import Box, Changeset, Comment, Counts, Done, Element, Note, edges
+from .plain_rows import Fields, is_each_once, members_of, tags_of
+from .rows import SLICE, Box, Changeset, Comment, Counts, Done, Element, MemberFields, Note, Whole, edges, member_fields
 from .times import utc
-from .xml_write import BEGINNING, GENERATOR, SLICE, paragraph
+from .xml_write import BEGINNING, GENERATOR, note_rows, paragraph
 
 licence = ""
 """Members that each document has besides; set once, at the start."""
@@ -22,8 +23,7 @@ def head() -> str:
     return f'{{"version":"0.6","generator":"{GENERATOR}"{licence}'
 
 
-def value_of(it: Any) -> str:
-    return json.dumps(it, ensure_ascii=False, separators=(",", ":"))
+value_of = ENCODER.encode
 
 
 def document(**members: str) -> str:
@@ -31,19 +31,42 @@ def document(**members: str) -> str:
     return head() + "".join(f',"{name}":{value}' for name, value in members.items()) + "}\n"
 
 
+def start(kind: str, number: Whole, place: str, timestamp: str, version: Whole, changeset: Whole, user: str, uid: Whole) -> str:
+    """What an element begins with, `place` being where it lies."""
+    return (
+        f'{{"type":"{kind}","id":{number}{place},"timestamp":"{timestamp}","version":{version},"changeset":{changeset},'
+        f'"user":{text_of(user)},"uid":{uid}'
+    )
+
+
+def several(rows: Iterable[MemberFields]) -> str:
+    return ",".join([f'{{"type":"{kind}","ref":{ref},"role":{text_of(role)}}}' for ref, role, kind in rows])
+
+
+def plain(rows: list[Fields]) -> str:
+    """Elements as they stand in the server's reply."""
+    written = []
+    for changeset, number, lat, lon, refs, parts, has, timestamp, kind, uid, user, version, _ in rows:
+        place = f',"lat":{degrees_in(lat)},"lon":{degrees_in(lon)}' if lat else ""
+        more = f',"nodes":[{refs}]' if refs else f',"members":[{several(members_of(parts))}]' if parts else ""
+        if has:
+            more += f',"tags":{tags(has)}'
+        written.append(f"{start(kind, number, place, timestamp, version, changeset, user, uid)}{more}}}")
+    return ",\n".join(written)
+
+
+def tags(text: str) -> str:
+    return f"{{{text}}}" if is_each_once(text.split('"')[1::4]) else value_of(tags_of(text))
+
+
 def element(it: Element) -> Iterator[str]:
-    start = f'{{"type":"{it["type"]}","id":{it["id"]}'
-    if "lat7" in it:
-        start += f',"lat":{degrees_of(it["lat7"])},"lon":{degrees_of(it["lon7"])}'
-    start += f',"timestamp":"{it["timestamp"]}","version":{it["version"]},"changeset":{it["changeset"]}'
-    start += f',"user":{text_of(it["user"])},"uid":{it["uid"]}'
-    if "redaction" in it:
-        start += f',"redaction":{it["redaction"]}'
+    place = f',"lat":{degrees_of(it["lat7"])},"lon":{degrees_of(it["lon7"])}' if "lat7" in it else ""
+    more = f',"redaction":{it["redaction"]}' if "redaction" in it else ""
     if not it["visible"]:
-        start += ',"visible":false'
+        more += ',"visible":false'
     if "nodes" in it:
-        start += ',"nodes":[' + ",".join(map(str, it["nodes"])) + "]"
-    yield start
+        more += ',"nodes":[' + ",".join(map(str, it["nodes"])) + "]"
+    yield start(it["type"], it["id"], place, it["timestamp"], it["version"], it["changeset"], it["user"], it["uid"]) + more
     if "members" in it:
         yield from members(it)
     yield f',"tags":{value_of(it["tags"])}}}' if it.get("tags") else "}"
@@ -53,8 +76,7 @@ def members(it: Element) -> Iterator[str]:
     rows = it["members"]
     yield ',"members":['
     for place in range(0, len(rows), SLICE):
-        part = [f'{{"type":"{row["type"]}","ref":{row["ref"]},"role":{text_of(row["role"])}}}' for row in rows[place : place + SLICE]]
-        yield ("," if place else "") + ",".join(part)
+        yield ("," if place else "") + several(map(member_fields, rows[place : place + SLICE]))
     yield "]"
 
 
@@ -91,12 +113,7 @@ def user(it: User, counts: Counts, mine: bool) -> str:
 
 def note_start(it: Note, site: str) -> str:
     """What stands before the comments of a note."""
-    here = f"{site}/api/0.6/notes/{it['id']}"
-    rows: dict[str, Any] = {"id": it["id"], "url": here}
-    rows |= {f"{call}_url": f"{here}/{call}" for call in (("comment", "close") if it["status"] == "open" else ("reopen",))}
-    rows |= {"date_created": utc(it["date_created"]), "status": it["status"]}
-    if "closed_at" in it:
-        rows["closed_at"] = utc(it["closed_at"])
+    rows = note_rows(it, site, "closed_at")
     place = f'{{"type":"Point","coordinates":[{degrees_of(it["lon7"])},{degrees_of(it["lat7"])}]}}'
     return f'{{"type":"Feature","geometry":{place},"properties":{value_of(rows)[:-1]},"comments":['
 

@@ -2,18 +2,29 @@
 
 from __future__ import annotations
 
+from collections.abc import Callable
+from operator import itemgetter
 from typing import Literal, NamedTuple, NotRequired, TypedDict
 
 Kind = Literal["node", "way", "relation"]
+Whole = int | str
+"""A whole number, or its digits."""
 KINDS: tuple[Kind, ...] = ("node", "way", "relation")
 ACTIONS = ("create", "modify", "delete")
 SIDES = ("minlat", "minlon", "maxlat", "maxlon")
+SLICE = 1000
+"""Members that are written in one piece."""
 
 
 class Member(TypedDict):
     type: Kind
     ref: int
     role: str
+
+
+MemberFields = tuple[Whole, str, str]
+"""A member's ref, role and type."""
+member_fields: Callable[[Member], MemberFields] = itemgetter("ref", "role", "type")
 
 
 class Element(TypedDict):

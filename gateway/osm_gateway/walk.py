@@ -4,9 +4,11 @@ from __future__ import annotations
 
 import json
 import re
-from collections.abc import Iterator
+from collections.abc import Callable, Iterator
 from enum import Enum, auto
 from typing import Any, NamedTuple
+
+from .rows import ACTIONS
 
 Path = tuple[str, ...]
 """The members from the outermost value on; an item of a list is `*`."""
@@ -14,6 +16,8 @@ Path = tuple[str, ...]
 SPACE = re.compile(r"[ \t\r\n]*")
 EXPONENT = 3
 """Characters from which on a part of a number behind its whole digits is read as such: a point and a digit, or `e-5`."""
+AHEAD = 1 << 15
+"""Characters that are there before an item isn't taken as it stands: its end may not have come."""
 BEGINNING = 9
 """Characters of an item's beginning: `{"changes` of an element of the server, where a member of a relation has `{"ref":1,`."""
 
@@ -22,6 +26,8 @@ class Sort(Enum):
     OPENED = auto()
     VALUE = auto()
     CLOSED = auto()
+    ROWS = auto()
+    """Several items of a list, taken as they stand."""
 
 
 class Event(NamedTuple):
@@ -39,16 +45,23 @@ def no_number(text: str) -> Any:
 
 
 
+Rows = Callable[[str, int], tuple[list[Any], int]]
+"""Takes the items of a list that stand at a place of a text in a form that it knows, and tells where the last one ends."""
+
+
 class Walk:
     """Reads the text that an iterator gives piece by piece.
 
-    `opened` has the paths whose lists or objects are opened. `longest` is the most characters that a value may have, or 0.
+    `opened` has the paths whose lists or objects are opened. `longest` is the most characters that a value may have, or 0. `rows` takes
+    the items of the lists of elements, as many as it can.
     """
 
-    def __init__(self, pieces: Iterator[str], opened: frozenset[Path], longest: int = 0, parse_float: Any = None) -> None:
-        self.pieces, self.opened, self.longest = pieces, opened, longest
+    def __init__(
+        self, pieces: Iterator[str], opened: frozenset[Path], longest: int = 0, parse_float: Any = None, rows: Rows | None = None
+    ) -> None:
+        self.pieces, self.opened, self.longest, self.rows = pieces, opened, longest, rows
         self.scan = json.JSONDecoder(parse_float=parse_float, parse_constant=no_number).raw_decode
-        self.text, self.place, self.ended, self.is_tried = "", 0, False, False
+        self.text, self.place, self.ended, self.is_tried, self.is_read = "", 0, False, False, False
 
     def events(self) -> Iterator[Event]:
         yield from self.value(())
@@ -131,15 +144,31 @@ class Walk:
         if self.next_character() == "]":
             self.place += 1
             return
-        plain = path not in self.opened
+        plain, rows = path not in self.opened, self.rows if path in ELEMENTS else None
         while True:
-            if plain:
+            if rows:
+                yield from self.taken(rows, path)
+            elif plain:
                 for value in self.several():
                     yield Event(Sort.VALUE, path, value)
             else:
                 yield from self.value(path)
             if self.take(",]") == "]":
                 return
+
+    def taken(self, rows: Rows, path: Path) -> Iterator[Event]:
+        """The next items as they stand. Where the next one can't be taken it is read, and where the one before couldn't either, several."""
+        self.next_character()
+        found, end = rows(self.text, self.place)
+        if not found and len(self.text) - self.place < AHEAD and self.more():
+            found, end = rows(self.text, self.place)
+        if found:
+            self.place, self.is_read = end, False
+            yield Event(Sort.ROWS, path, found)
+            return
+        for value in self.several() if self.is_read else [self.whole()]:
+            yield Event(Sort.VALUE, path, value)
+        self.is_read = True
 
     def several(self) -> list[Any]:
         """The next items of a list, as many objects as are there whole, or one.
@@ -174,9 +203,11 @@ class Walk:
                 return
 
 
+ELEMENTS: frozenset[Path] = frozenset({("elements", "*")} | {("osmChange", "*", action, "*") for action in ACTIONS})
+"""The elements of a reply."""
 OPENED: frozenset[Path] = frozenset(
     {(), ("elements",), ("changesets",), ("diffResult",), ("osmChange",), ("osmChange", "*")}
-    | {("osmChange", "*", action) for action in ("create", "modify", "delete")}
+    | {("osmChange", "*", action) for action in ACTIONS}
     | {("note",), ("note", "comments"), ("notes",), ("notes", "*"), ("notes", "*", "comments")}
 )
 """What is opened of a reply of the server, and of a change in OSM's JSON."""

@@ -31,6 +31,8 @@ class Reading:
     action: str
     row: dict[str, Any]
     tags: dict[str, str] = field(default_factory=dict)
+    nodes: list[int] | None = None
+    """Those of a way, which are in its row too."""
 
     def bad(self, why: str) -> Refused:
         """What OSM says of an element that it can't read."""
@@ -41,6 +43,8 @@ class Reading:
         text = attributes.get(name)
         if text is None:
             raise self.bad(missing)
+        if len(text) < 19 and text.isascii() and text.isdigit():
+            return int(text)
         number = whole_number(text)
         if number is None:
             raise self.bad(f"{name} is not a number: {text[:100]}")
@@ -67,10 +71,11 @@ class Reading:
         self.tags[key] = value
 
     def child(self, name: str, attributes: Attributes) -> None:
-        if name == "tag":
+        if name == "nd":
+            if self.nodes is not None:
+                self.nodes.append(self.number(attributes, "ref", "nd is missing ref"))
+        elif name == "tag":
             self.tag(attributes)
-        elif name == "nd" and "nodes" in self.row:
-            self.row["nodes"].append(self.number(attributes, "ref", "nd is missing ref"))
         elif name == "member" and "members" in self.row:
             self.row["members"].append(self.member(attributes))
 
@@ -98,6 +103,8 @@ def start_of(kind: str, attributes: Attributes, action: str, alone: bool) -> Rea
         return it
     if kind == "node":
         it.row["lat7"], it.row["lon7"] = it.place(attributes, "lat"), it.place(attributes, "lon")
+    elif kind == "way":
+        it.row["nodes"] = it.nodes = []
     else:
-        it.row["nodes" if kind == "way" else "members"] = []
+        it.row["members"] = []
     return it

@@ -86,6 +86,21 @@ class ChangeReader(Reader):
         self.reading: Reading | None = None
         self.found: list[Found] = []
 
+    def start(self, name: str, attributes: Attributes) -> None:
+        """What lies in an element is most of a change, and takes a shorter way."""
+        path = self.path
+        if len(path) == 3 and self.reading:
+            path.append(name)
+            self.reading.child(name, attributes)
+        else:
+            super().start(name, attributes)
+
+    def end(self, name: str) -> None:
+        if len(self.path) > 3:
+            self.path.pop()
+        else:
+            super().end(name)
+
     def opened(self, name: str, attributes: Attributes) -> None:
         depth = len(self.path)
         if depth == 1 and name != "osmChange":
@@ -99,8 +114,6 @@ class ChangeReader(Reader):
             if name not in KINDS:
                 raise Refused(400, f"Unknown element type {name}, choices are node, way, relation")
             self.reading = start_of(name, attributes, self.action, alone=False)
-        elif depth == 4 and self.reading:
-            self.reading.child(name, attributes)
 
     def closed(self, _: str) -> None:
         if len(self.path) == 3 and self.reading:

@@ -11,8 +11,8 @@ SPECIAL = re.compile("[^\x20-\x21\x23-\x25\x27-\x3b\x3d\x3f-\ud7ff\ue000-\ufffd\
 ESCAPES = {"&": "&amp;", "<": "&lt;", ">": "&gt;", '"': "&quot;", "\t": "&#9;", "\n": "&#10;", "\r": "&#13;"}
 
 
-KEPT, SHORT = 20_000, 64
-"""Texts that are kept as they stand in XML, and the most characters of one: keys, values and names come again and again."""
+KEPT, TAGS_KEPT, SHORT = 20_000, 2_000, 64
+"""Texts and tags that are kept as they stand in XML, and the most characters of one: many elements have the same ones."""
 
 
 class Known(dict[str, str]):
@@ -32,6 +32,8 @@ class Texts:
     def __init__(self) -> None:
         self.lost = 0
         self.known = Known(self.written)
+        self.tags: dict[str, str] = {}
+        """All tags of an element, as they stand in the server's reply, with what they are in XML."""
 
     def one(self, found: re.Match[str]) -> str:
         escape = ESCAPES.get(found[0])
@@ -48,6 +50,12 @@ class Texts:
                 self.known.clear()
             self.known[text] = it
         return it
+
+    def keep_tags(self, text: str, it: str) -> None:
+        if len(text) <= SHORT:
+            if len(self.tags) >= TAGS_KEPT:
+                self.tags.clear()
+            self.tags[text] = it
 
     def __call__(self, text: str) -> str:
         return self.known[text]

@@ -4,19 +4,18 @@ from __future__ import annotations
 
 from collections.abc import Iterable, Iterator, Sequence
 
-from .degrees import degrees_of
+from .degrees import degrees_in, degrees_of
 from .discussions import Remark
 from .people import User
-from .rows import Box, Changeset, Comment, Counts, Done, Element, Member, Note, edges
+from .plain_rows import Fields, is_each_once, members_of, tags_of
+from .rows import SLICE, Box, Changeset, Comment, Counts, Done, Element, MemberFields, Note, Whole, edges, member_fields
 from .times import utc
 from .xml_texts import Texts
 
 GENERATOR = "Hegunsap"
 BEGINNING = "1970-01-01T00:00:00Z"
 HEAD = '<?xml version="1.0" encoding="UTF-8"?>\n'
-SLICE = 1000
-"""Members that are written in one piece."""
-
+TAG = '  <tag k="%s" v="%s"/>\n'
 
 licence = ""
 """Attributes that each document has besides (--copyright, --attribution, --license); set once, at the start."""
@@ -35,39 +34,75 @@ def tags(texts: Texts, it: dict[str, str]) -> str:
     return "".join([f'  <tag k="{known[key]}" v="{known[value]}"/>\n' for key, value in it.items()])
 
 
-def members(texts: Texts, rows: list[Member]) -> str:
+def nodes(refs: str) -> str:
+    """Nodes of a way, as numbers with commas between them."""
+    between = '"/>\n  <nd ref="'
+    return f'  <nd ref="{refs.replace(",", between)}"/>\n'
+
+
+def members(texts: Texts, rows: Iterable[MemberFields]) -> str:
     known = texts.known
-    return "".join([f'  <member type="{row["type"]}" ref="{row["ref"]}" role="{known[row["role"]]}"/>\n' for row in rows])
+    return "".join([f'  <member type="{kind}" ref="{ref}" role="{known[role]}"/>\n' for ref, role, kind in rows])
 
 
-def start(texts: Texts, it: Element) -> str:
+def start(
+    texts: Texts, kind: str, number: Whole, version: Whole, changeset: Whole, timestamp: str, user: str, uid: Whole, visible: str = "true"
+) -> str:  # fmt: skip
+    """What each element begins with, up to where it lies."""
+    return (
+        f'<{kind} id="{number}" visible="{visible}" version="{version}" changeset="{changeset}" timestamp="{timestamp}" '
+        f'user="{texts.known[user]}" uid="{uid}"'
+    )
+
+
+def plain(texts: Texts, rows: list[Fields]) -> str:
+    """Elements as they stand in the server's reply."""
+    written, known_tags = [], texts.tags
+    for changeset, number, lat, lon, refs, parts, has, timestamp, kind, uid, user, version, _ in rows:
+        place = f' lat="{degrees_in(lat)}" lon="{degrees_in(lon)}"' if lat else ""
+        inner = nodes(refs) if refs else members(texts, members_of(parts)) if parts else ""
+        if has:
+            inner += known_tags.get(has) or plain_tags(texts, has)
+        end = f">\n{inner}</{kind}>\n" if inner else "/>\n"
+        written.append(f"{start(texts, kind, number, version, changeset, timestamp, user, uid)}{place}{end}")
+    return "".join(written)
+
+
+def plain_tags(texts: Texts, text: str) -> str:
+    """Tags as they stand in the server's reply."""
+    parts = text.replace("&", "&amp;").replace("<", "&lt;").replace(">", "&gt;").split('"')
+    is_plain = is_each_once(parts[1::4])
+    it = TAG * (len(parts) // 4) % tuple(parts[1::2]) if is_plain else tags(texts, tags_of(text))
+    texts.keep_tags(text, it)
+    return it
+
+
+def start_of(texts: Texts, it: Element) -> str:
     """The start of an element's tag, without its end."""
     more = f' redaction="{it["redaction"]}"' if "redaction" in it else ""
     if "lat7" in it:
         more += f' lat="{degrees_of(it["lat7"])}" lon="{degrees_of(it["lon7"])}"'
-    return (
-        f'<{it["type"]} id="{it["id"]}" visible="{"true" if it["visible"] else "false"}" version="{it["version"]}" '
-        f'changeset="{it["changeset"]}" timestamp="{it["timestamp"]}" user="{texts.known[it["user"]]}" uid="{it["uid"]}"{more}'
-    )
+    visible = "true" if it["visible"] else "false"
+    return start(texts, it["type"], it["id"], it["version"], it["changeset"], it["timestamp"], it["user"], it["uid"], visible) + more
 
 
 def element(texts: Texts, it: Element) -> Iterable[str]:
     rows = it.get("members") or ()
     if len(rows) > SLICE:
         return sliced(texts, it)
-    nodes, has = it.get("nodes"), it.get("tags")
-    inner = '  <nd ref="' + '"/>\n  <nd ref="'.join(map(str, nodes)) + '"/>\n' if nodes else members(texts, rows) if rows else ""
+    refs, has = it.get("nodes"), it.get("tags")
+    inner = nodes(",".join(map(str, refs))) if refs else members(texts, map(member_fields, rows)) if rows else ""
     if has:
         inner += tags(texts, has)
-    return (f"{start(texts, it)}>\n{inner}</{it['type']}>\n" if inner else f"{start(texts, it)}/>\n",)
+    return (f"{start_of(texts, it)}>\n{inner}</{it['type']}>\n" if inner else f"{start_of(texts, it)}/>\n",)
 
 
 def sliced(texts: Texts, it: Element) -> Iterator[str]:
     """A relation with many members, in several pieces."""
-    yield f"{start(texts, it)}>\n"
+    yield f"{start_of(texts, it)}>\n"
     rows = it["members"]
     for place in range(0, len(rows), SLICE):
-        yield members(texts, rows[place : place + SLICE])
+        yield members(texts, map(member_fields, rows[place : place + SLICE]))
     yield f"{tags(texts, it.get('tags', {}))}</{it['type']}>\n"
 
 
@@ -128,14 +163,18 @@ def comment(texts: Texts, it: Comment) -> str:
     return f"<comment>{inner(texts, 'date', utc(it['date']))}{who}{said}</comment>\n"
 
 
-def note_start(texts: Texts, it: Note, site: str) -> str:
-    """What stands before the comments of a note."""
+def note_rows(it: Note, site: str, closing: str) -> dict[str, str | int]:
+    """What a note has besides its place and its comments, with that name for when it was closed."""
     here = f"{site}/api/0.6/notes/{it['id']}"
-    rows = {"id": str(it["id"]), "url": here}
+    rows: dict[str, str | int] = {"id": it["id"], "url": here}
     rows |= {f"{call}_url": f"{here}/{call}" for call in (("comment", "close") if it["status"] == "open" else ("reopen",))}
     rows |= {"date_created": utc(it["date_created"]), "status": it["status"]}
-    if "closed_at" in it:
-        rows["date_closed"] = utc(it["closed_at"])
+    return rows | ({closing: utc(it["closed_at"])} if "closed_at" in it else {})
+
+
+def note_start(texts: Texts, it: Note, site: str) -> str:
+    """What stands before the comments of a note."""
+    rows = note_rows(it, site, "date_closed")
     place = f'<note lon="{degrees_of(it["lon7"])}" lat="{degrees_of(it["lat7"])}">'
     return f"{place}{''.join(inner(texts, name, value) for name, value in rows.items())}<comments>"
 

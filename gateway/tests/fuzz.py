@@ -29,6 +29,7 @@ from behind import want
 from osm_gateway import documents, json_read
 from osm_gateway.call import events_of
 from osm_gateway.changes import change_of
+from osm_gateway.plain_rows import rows_at
 from osm_gateway.refusals import Operations, Refused
 from osm_gateway.spool import PIECE, Coding, Spool
 from osm_gateway.walk import OPENED, NotJson, Walk
@@ -333,10 +334,10 @@ def xml_wanted(data: bytes) -> Any:
 # ---- what the gateway makes of it
 
 
-def sent(found: Iterator[Any]) -> Any:
+def sent(found: Iterator[Any], together: int = 1) -> Any:
     """What the server gets, or Invalid."""
     try:
-        return json.loads("".join(change_of(found, Operations())).encode("utf-8"))
+        return json.loads("".join(change_of(found, Operations(), together)).encode("utf-8"))
     except (Refused, UnicodeError) as why:
         if isinstance(why, Refused) and why.status != 400:
             raise Wrong(f"the status of a refusal is {why.status}: {why.text}") from None
@@ -373,7 +374,7 @@ def text_cuts(it: Drawn, data: bytes) -> list[bytes]:
 
 
 def xml_read_of(pieces: list[bytes]) -> Any:
-    return sent(ChangeReader().read(iter(pieces)))
+    return sent(ChangeReader().read(iter(pieces)), PIECE)
 
 
 def outcome(do: Callable[[], Any]) -> Any:
@@ -513,10 +514,12 @@ def of_reply(it: Drawn) -> str:
                 del row[name]
         rows.append({**row, "id": it.number(), "version": it.number(), "timestamp": "2026-11-30T08:00:00Z", "uid": 1, "user": it.text(), "visible": True})
     wanted = {"elements": rows, "version": "0.6"}
-    text = json.dumps(wanted, ensure_ascii=it.draw.random() < 0.5, separators=(",", ":"))
+    # In the order of their names as the server has them, so that rows are taken as they stand.
+    text = json.dumps(wanted, ensure_ascii=it.draw.random() < 0.5, separators=(",", ":"), sort_keys=it.draw.random() < 0.7)
     spool = Spool()
     spool.write(text.encode())
-    events = lambda: Walk(iter(it.cuts(text)), OPENED).events() if it.draw.random() < 0.8 else events_of(spool)  # noqa: E731
+    rows = it.draw.choice((None, rows_at))
+    events = lambda: Walk(iter(it.cuts(text)), OPENED, rows=rows).events() if it.draw.random() < 0.8 else events_of(spool, rows=rows)  # noqa: E731
     want(forms.json_document_of("".join(documents.elements_json(events())).encode()), wanted, f"{text} as JSON")
     want(forms.document_of("".join(documents.elements_xml(events(), Texts())).encode()), wanted, f"{text} as XML")
     spool.close()

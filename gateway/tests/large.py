@@ -13,6 +13,7 @@ from dataclasses import dataclass, field
 from behind import Gateway, want
 from osm_gateway import documents, turns
 from osm_gateway.call import events_of
+from osm_gateway.plain_rows import rows_at
 from osm_gateway.spool import Spool
 from osm_gateway.xml_texts import Texts
 from rows import Standing
@@ -92,7 +93,7 @@ def turns_of(reply: bytes) -> tuple[float, int]:
     """The most processor time of a turn over this reply, whatever else the machine does, and how many turns there were."""
     spool = Spool()
     spool.write(reply)
-    pieces, longest, count, ended = documents.elements_xml(events_of(spool), Texts()), 0.0, 0, False
+    pieces, longest, count, ended = documents.elements_xml(events_of(spool, rows=rows_at), Texts()), 0.0, 0, False
     while not ended:
         before = time.thread_time()
         _, ended = turns.turn(pieces)
