@@ -32,6 +32,7 @@ from .room import Room, Share
 from .spool import Coding, Spool
 from .store import Store
 from .turns import Turns
+from .users_file import UsersFile
 from .walk import OPENED, Event, NotJson, Walk
 from .words import Words
 from .xml_texts import Texts
@@ -69,6 +70,7 @@ class Gateway:
     notes: Links | None
     room: Room
     store: Store
+    users: UsersFile
     turns: Turns = field(default_factory=Turns)
     once: Once = field(default_factory=Once)
     mirrors: Mirrors | None = None
