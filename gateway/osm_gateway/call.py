@@ -21,7 +21,7 @@ from .discussions import Discussions
 from .doubts import Once
 from .json_read import DecimalText
 from .limits import Rates, address_of
-from .links import InDoubt, Links
+from .links import InDoubt, Links, Reply
 from .log import shown, tell, where
 from .metrics import Counts
 from .mirrors import Mirrors
@@ -265,17 +265,22 @@ class Call:
 
     async def replied(self, method: str, target: str, body: Spool | None, asked: Asked, links: Links, of_map: bool) -> Spool:
         self.has_changed = self.has_changed or of_map and method != "GET"
-        if of_map and self.gateway.mirrors is not None:
-            self.breaks = self.gateway.mirrors.breaks
-            reply = await self.gateway.mirrors.ask(self, method, target, body)
-        else:
-            reply = await links.ask(method, target, self.token, body, self.spool(always=method != "GET"))
+        reply = await self.asked_as(self.token, method, target, body, links, of_map)
+        if reply.status == 401 and method == "GET" and self.caller.user is not None:
+            # A user or a token of a new users text isn't known there before its next start: a read is answered as anybody's.
+            reply = await self.asked_as(None, method, target, body, links, of_map)
         if reply.status == 200:
             return reply.body
         refused = refusal(reply.status, reply.body.whole(), asked)
         if reply.status >= 500 and method != "GET":
             raise InDoubt(links.name, f"the answer has the status {reply.status}", refused if refused.said else None)
         raise refused
+
+    async def asked_as(self, token: str | None, method: str, target: str, body: Spool | None, links: Links, of_map: bool) -> Reply:
+        if of_map and self.gateway.mirrors is not None:
+            self.breaks = self.gateway.mirrors.breaks
+            return await self.gateway.mirrors.ask(self, token, method, target, body)
+        return await links.ask(method, target, token, body, self.spool(always=method != "GET"))
 
     async def value(self, *words: Any, **more: Any) -> Any:
         """The same, of a small reply, as a value."""

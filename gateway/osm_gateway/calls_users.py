@@ -23,6 +23,7 @@ from .users_text import ROLES, Draft
 
 TITLE = "Users"
 ANEW = "once the server, and that of notes, has been started anew with this text"
+BUTTONS = {"rename": "Rename", "token": "Give a new token", "promote": "Make a moderator", "demote": "Make an ordinary user", "out": "Take out"}
 FORBIDDEN = "Only a moderator may do this"
 SLOW = "Not all processes of this gateway have read the new text yet. Look at what they tell, or have them read it by SIGHUP."
 
@@ -58,20 +59,20 @@ def add(draft: Draft, given: Given, above: int) -> Done:
     token = new_token()
     it = draft.add(given.get("new", ""), "moderator" in given, token, above)
     what = f"{it.name} was added, with the id {it.id}, as a {ROLES[it.moderator]}"
-    return Done(it, what, f"{it.name} reads here alone, and changes something {ANEW}.", token)
+    return Done(it, what, f"{it.name} reads alone, and changes the map and notes {ANEW}.", token)
 
 
 def rename(draft: Draft, given: Given, _: int) -> Done:
     number = chosen(given)
     before = draft.user(number).name
     it = draft.rename(number, given.get("other", ""))
-    return Done(it, f"{before} was renamed to {it.name}", f"Changes have the new name {ANEW}; those of before keep the old one.")
+    return Done(it, f"{before} was renamed to {it.name}", f"It is taken here at once. Changes have it {ANEW}; those of before keep the old one.")
 
 
 def renew(draft: Draft, given: Given, _: int) -> Done:
     token = new_token()
     it = draft.renew(chosen(given), token)
-    means = f"The old one is refused here at once, with all tokens of OAuth. With the new one {it.name} reads alone, and changes something {ANEW}."
+    means = f"The old one is refused here at once, with all tokens of OAuth. With the new one {it.name} reads alone, and changes the map and notes {ANEW}."
     return Done(it, f"{it.name} has a new token", means, token)
 
 
@@ -178,11 +179,10 @@ def row(it: User) -> list[str]:
 
 
 def for_chosen() -> str:
-    buttons = (("rename", "Rename"), ("token", "Give a new token"), ("promote", "Make a moderator"), ("demote", "Make an ordinary user"), ("out", "Take out"))
     return (
         "<h2>The user who is chosen above</h2>\n"
         + pages.entry("Another name", "other", more='maxlength="255" autocomplete="off"')
-        + "".join(pages.button("do", value, label) for value, label in buttons)
+        + "".join(pages.button("do", value, label) for value, label in BUTTONS.items())
     )
 
 

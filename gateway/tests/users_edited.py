@@ -133,12 +133,17 @@ def changes(program: str, gateway: Gateway) -> None:
     page = done(gateway, "add", new=name, moderator="yes")
     token = token_of(page)
     want(text_of(gateway), f"{ODD}\r\n4 {token} moderator {name}\r\n{KEPT.format(4)}\r\n", "a text with one more")
-    has(page, "reads here alone, and changes something once the server", "what is said to a new user")
+    has(page, "reads alone, and changes the map and notes once the server", "what is said to a new user")
     want(table(page), rows + [("4", name, "moderator", "")], "the table with one more")
     want(stat.S_IMODE(os.stat(path_of(gateway)).st_mode), 0o640, "the mode of the text")
     takes(program, gateway)
     want(json.loads(details(gateway, basic(name, token)).text)["user"]["id"], 4, "who is new")
-    want(gateway.api("PUT", "changeset/create", "", basic(name, token)).status, 401, "a change by who is new, before the server knows")
+    reads = [
+        gateway.api("GET", path, who=basic(name, token)).status for path in ("map?bbox=0,0,0.1,0.1", "changesets", "notes?bbox=0,0,1,1", "node/1")
+    ]
+    want(reads, [200, 200, 200, 404], "reads by who is new, before the servers know")
+    for method, path in (("PUT", "changeset/create"), ("POST", "notes?lat=1&lon=1&text=x")):
+        want(gateway.api(method, path, "", basic(name, token)).status, 401, f"{path} by who is new, before the servers know")
     want(token in shown(gateway), False, "the token, a second time")
     others(program, gateway, {"name": name, "token": token})
 
@@ -149,7 +154,7 @@ def others(program: str, gateway: Gateway, new: dict[str, str]) -> None:
 
     def step(do: str, before: str, after: str, **fields: str) -> str:
         nonlocal wanted
-        page = done(gateway, do, who=new, **fields)
+        page = done(gateway, do, 200, new, **fields)
         want(wanted.count(before), 1, before)
         wanted = wanted.replace(before, after.format(token=re.findall("<code>(.*)</code>", page)[0] if "{token}" in after else ""))
         want(text_of(gateway), wanted, f"the text behind {do}")
@@ -159,7 +164,8 @@ def others(program: str, gateway: Gateway, new: dict[str, str]) -> None:
     step("rename", "user/1000000 alice", "user/1000000 alicia the 2nd", user="1", other="alicia the 2nd")
     want((details(gateway, ALICE).status, details(gateway, basic("alicia the 2nd", "alicetoken")).status), (401, 200), "her names")
     step("demote", "002 bobtoken moderator/7", "002 bobtoken user/7", user="2")
-    want((post(gateway, HIS).status, gateway.api("POST", "user_blocks", "user=1&period=1&reason=x", BOB).status), (403, 403), "who is no moderator now")
+    ends = post(gateway, HIS).status, gateway.api("POST", "user_blocks", "user=1&period=1&reason=x", BOB).status
+    want(ends, (403, 403), "who is no moderator now")
     for do, text in (("demote", "is the last moderator"), ("out", "is the last moderator")):
         before = text_of(gateway)
         came = post(gateway, new | {"do": do, "seen": seen(shown(gateway, new)), "user": "4"})
@@ -202,9 +208,9 @@ def strangers(gateway: Gateway) -> None:
     """Who may not, and pages of other hosts; a GET does nothing."""
     before, stamp = text_of(gateway), seen(shown(gateway))
     out = {"do": "out", "user": "1", "seen": stamp}
-    for who, status in (({"name": "bob", "token": "x"}, 401), ({"name": "alice", "token": "bobtoken"}, 401), ({"name": "alice", "token": "alicetoken"}, 403)):
-        came = post(gateway, who | out)
-        want((came.status, "<table" in came.text), (status, False), f"{who}: {came.text}")
+    for name, token, status in (("bob", "x", 401), ("alice", "bobtoken", 401), ("alice", "alicetoken", 403)):
+        came = post(gateway, out | {"name": name, "token": token})
+        want((came.status, "<table" in came.text), (status, False), f"{name}, {token}: {came.text}")
     want(post(gateway, out, who=BOB).status, 401, "a field Authorization alone")
     for origin in ("https://elsewhere.example", "null"):
         want(post(gateway, HIS | out, Origin=origin).status, 403, f"a page of {origin}")
@@ -395,7 +401,8 @@ def drawn_text(drawn: random.Random) -> str:
     lines = []
     for number in drawn.sample(range(1, 30), drawn.randint(1, 6)):
         limit = drawn.choice(("", "/5", "/007"))
-        lines.append(f"{drawn.choice(('', '0'))}{number} t{number} {drawn.choice(('user', 'moderator'))}{limit} {drawn.choice(('A', ' B', 'ü '))}{number}")
+        role, name = drawn.choice(("user", "moderator")), drawn.choice(("A", " B", "ü "))
+        lines.append(f"{drawn.choice(('', '0'))}{number} t{number} {role}{limit} {name}{number}")
     for line in ("", "# a comment", "# highest id: 12", "@large-from 8", "#1 t1 user A1"):
         lines.insert(drawn.randint(0, len(lines)), line)
     text = "".join(line + drawn.choice(("\n", "\n", "\r\n")) for line in lines)
@@ -459,7 +466,7 @@ def run(program: str) -> str:
         ids(program, gateway.server)
         guesses(gateway.server)
         unallowed(gateway.server)
-    with Site(program, more=("--edit-users",)) as gateway:
+    with Site(program, notes=True, more=("--edit-users",)) as gateway:
         changes(program, gateway)
     with tempfile.TemporaryDirectory() as folder:
         with Site(program, more=("--edit-users", "--processes", "3", "--data", os.path.join(folder, "own"))) as gateway:
