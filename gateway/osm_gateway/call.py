@@ -53,6 +53,8 @@ WHOLE = 1 << 16
 
 
 READS = ("GET", "HEAD", "OPTIONS")
+MODERATORS = "show_redactions="
+"""Of a read that has more for moderators: nobody else's answer stands for it."""
 
 
 class Form(Enum):
@@ -266,8 +268,9 @@ class Call:
     async def replied(self, method: str, target: str, body: Spool | None, asked: Asked, links: Links, of_map: bool) -> Spool:
         self.has_changed = self.has_changed or of_map and method != "GET"
         reply = await self.asked_as(self.token, method, target, body, links, of_map)
-        if reply.status == 401 and method == "GET" and self.caller.user is not None:
+        if reply.status == 401 and method == "GET" and self.caller.user is not None and MODERATORS not in target:
             # A user or a token of a new users text isn't known there before its next start: a read is answered as anybody's.
+            self.dropped(reply.body)
             reply = await self.asked_as(None, method, target, body, links, of_map)
         if reply.status == 200:
             return reply.body
@@ -286,10 +289,13 @@ class Call:
         """The same, of a small reply, as a value."""
         reply = await self.ask(*words, **more)
         found = json.loads(reply.whole())
-        # A call may ask for thousands of these.
+        self.dropped(reply)
+        return found
+
+    def dropped(self, reply: Spool) -> None:
+        """Before the call's end: it may ask for thousands of small ones."""
         reply.close()
         self.spools.remove(reply)
-        return found
 
     async def work(self, pieces: Iterable[str]) -> None:
         """Carries out in turns what tells nothing."""

@@ -174,7 +174,7 @@ def listed(gateway: Gateway, moderator: User, parts: Iterable[str], status: int 
 
 
 def row(it: User) -> list[str]:
-    choice = f'<label><input type="radio" name="user" value="{it.id}"> {it.id}</label>'
+    choice = f'<label><input type="radio" name="user" value="{it.id}" aria-label="{it.id}, {escape(it.name)}"> {it.id}</label>'
     return [choice, escape(it.name), ROLES[it.moderator], "" if it.limit is None else f"{it.limit:,}"]
 
 

@@ -142,7 +142,7 @@ def changes(program: str, gateway: Gateway) -> None:
         gateway.api("GET", path, who=basic(name, token)).status for path in ("map?bbox=0,0,0.1,0.1", "changesets", "notes?bbox=0,0,1,1", "node/1")
     ]
     want(reads, [200, 200, 200, 404], "reads by who is new, before the servers know")
-    for method, path in (("PUT", "changeset/create"), ("POST", "notes?lat=1&lon=1&text=x")):
+    for method, path in (("GET", "node/1/history?show_redactions=true"), ("PUT", "changeset/create"), ("POST", "notes?lat=1&lon=1&text=x")):
         want(gateway.api(method, path, "", basic(name, token)).status, 401, f"{path} by who is new, before the servers know")
     want(token in shown(gateway), False, "the token, a second time")
     others(program, gateway, {"name": name, "token": token})
