@@ -95,7 +95,9 @@ def write_like(path: str, data: bytes, old: str, like: os.stat_result) -> None:
     with suppress(FileNotFoundError):
         os.unlink(path)
     with open(os.open(path, os.O_WRONLY | os.O_CREAT | os.O_EXCL | os.O_CLOEXEC, 0o600), "wb") as file:
-        os.fchown(file.fileno(), like.st_uid, like.st_gid)
+        own = os.fstat(file.fileno())
+        if (own.st_uid, own.st_gid) != (like.st_uid, like.st_gid):  # else it isn't called, as a service may be kept from that
+            os.fchown(file.fileno(), like.st_uid, like.st_gid)
         os.fchmod(file.fileno(), stat.S_IMODE(like.st_mode))
         for rights in rights_of(old):
             os.setxattr(file.fileno(), RIGHTS, rights)

@@ -2,7 +2,10 @@
 
 from __future__ import annotations
 
+import asyncio
+import contextlib
 import fcntl
+import io
 import json
 import os
 import random
@@ -18,9 +21,12 @@ from html import unescape
 from urllib.parse import urlencode
 
 from behind import ALICE, BOB, Came, Gateway, Site, basic, has, refuses_to_start, want
+from osm_gateway import users_file
 from osm_gateway.people import BadUsers, People, people_of
+from osm_gateway.processes import Columns
 from osm_gateway.refusals import Refused
-from osm_gateway.users_file import Found, replace_text
+from osm_gateway.store import Store
+from osm_gateway.users_file import Found, UsersFile, read_people, replace_text
 from osm_gateway.users_text import Draft
 from serving import Wrong
 
@@ -367,6 +373,23 @@ def files(folder: str) -> None:
         want((why.status, Found.at(path).data, sorted(os.listdir(folder))), (409, b"new", ["link", "text", "text.lock"]), "what stays")
 
 
+def slow(folder: str) -> None:
+    """A process that doesn't read the new text is told of; and an id that was seen is kept where the text has it no longer."""
+    path = os.path.join(folder, "slow")
+    with open(path, "w") as file:
+        file.write("1 a moderator A\n7 b user B\n")
+    store, reads = Store(), Columns(1, 2)
+    it = UsersFile(path, read_people(path), store, reads, None)
+    users_file.READING = 0.2
+    want(asyncio.run(it.read_everywhere()), False, "whether both have read it")
+    reads.all[1][0] = time.monotonic() + 60
+    with open(path, "w") as file:
+        file.write("1 a moderator A\n")
+    want((asyncio.run(it.read_everywhere()), it.people.highest, it.highest()), (True, 1, 7), "whether both have read it, and ids")
+    store.do("INSERT INTO preferences VALUES (9, 'k', 'v')")
+    want(it.highest(), 9, "an id of whom something is kept")
+
+
 # ---- the text alone
 
 
@@ -455,6 +478,8 @@ def drawn_changes(program: str, path: str, count: int) -> None:
 def run(program: str) -> str:
     with tempfile.TemporaryDirectory() as folder:
         files(folder)
+        with contextlib.redirect_stderr(io.StringIO()):
+            slow(folder)
     with tempfile.TemporaryDirectory() as folder:
         count = rules(program, os.path.join(folder, "users"))
         drawn_changes(program, os.path.join(folder, "users"), 1000)
