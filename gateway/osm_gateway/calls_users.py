@@ -118,8 +118,8 @@ async def edit(gateway: Gateway, request: web.Request) -> web.StreamResponse:
 
 
 def asking(name: str = "", wrong: str = "", status: int = 200) -> web.Response:
-    told = [pages.paragraph(wrong, "wrong")] if wrong else []
-    return pages.page(TITLE, pages.form(*told, pages.who(name), pages.button("do", "show", "Show the users")), status=status)
+    why = [pages.paragraph(wrong, "wrong")] if wrong else []
+    return pages.page(TITLE, pages.form(*why, pages.who(name), pages.button("do", "show", "Show the users")), status=status)
 
 
 async def changed(gateway: Gateway, moderator: User, given: Given) -> list[str]:
