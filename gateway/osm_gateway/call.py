@@ -21,7 +21,7 @@ from .discussions import Discussions
 from .doubts import Once
 from .json_read import DecimalText
 from .limits import Rates, address_of
-from .links import InDoubt, Links
+from .links import InDoubt, Links, Reply
 from .log import shown, tell, where
 from .metrics import Counts
 from .mirrors import Mirrors
@@ -32,6 +32,7 @@ from .room import Room, Share
 from .spool import Coding, Spool
 from .store import Store
 from .turns import Turns
+from .users_file import UsersFile
 from .walk import OPENED, Event, NotJson, Rows, Walk
 from .words import Words
 from .xml_texts import Texts
@@ -52,6 +53,8 @@ WHOLE = 1 << 16
 
 
 READS = ("GET", "HEAD", "OPTIONS")
+MODERATORS = "show_redactions="
+"""Of a read that has more for moderators: nobody else's answer stands for it."""
 
 
 class Form(Enum):
@@ -69,6 +72,7 @@ class Gateway:
     notes: Links | None
     room: Room
     store: Store
+    users: UsersFile
     turns: Turns = field(default_factory=Turns)
     once: Once = field(default_factory=Once)
     mirrors: Mirrors | None = None
@@ -263,11 +267,11 @@ class Call:
 
     async def replied(self, method: str, target: str, body: Spool | None, asked: Asked, links: Links, of_map: bool) -> Spool:
         self.has_changed = self.has_changed or of_map and method != "GET"
-        if of_map and self.gateway.mirrors is not None:
-            self.breaks = self.gateway.mirrors.breaks
-            reply = await self.gateway.mirrors.ask(self, method, target, body)
-        else:
-            reply = await links.ask(method, target, self.token, body, self.spool(always=method != "GET"))
+        reply = await self.asked_as(self.token, method, target, body, links, of_map)
+        if reply.status == 401 and method == "GET" and self.caller.user is not None and MODERATORS not in target:
+            # A user or a token of a new users text isn't known there before its next start: a read is answered as anybody's.
+            self.dropped(reply.body)
+            reply = await self.asked_as(None, method, target, body, links, of_map)
         if reply.status == 200:
             return reply.body
         refused = refusal(reply.status, reply.body.whole(), asked)
@@ -275,14 +279,23 @@ class Call:
             raise InDoubt(links.name, f"the answer has the status {reply.status}", refused if refused.said else None)
         raise refused
 
+    async def asked_as(self, token: str | None, method: str, target: str, body: Spool | None, links: Links, of_map: bool) -> Reply:
+        if of_map and self.gateway.mirrors is not None:
+            self.breaks = self.gateway.mirrors.breaks
+            return await self.gateway.mirrors.ask(self, token, method, target, body)
+        return await links.ask(method, target, token, body, self.spool(always=method != "GET"))
+
     async def value(self, *words: Any, **more: Any) -> Any:
         """The same, of a small reply, as a value."""
         reply = await self.ask(*words, **more)
         found = json.loads(reply.whole())
-        # A call may ask for thousands of these.
+        self.dropped(reply)
+        return found
+
+    def dropped(self, reply: Spool) -> None:
+        """Before the call's end: it may ask for thousands of small ones."""
         reply.close()
         self.spools.remove(reply)
-        return found
 
     async def work(self, pieces: Iterable[str]) -> None:
         """Carries out in turns what tells nothing."""

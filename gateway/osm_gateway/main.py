@@ -21,10 +21,11 @@ from .links import Address, Links
 from .log import CommonLog, hear_faults, tell
 from .metrics import Counts
 from .mirrors import Mirrors
-from .people import BadUsers, People, people_of
-from .processes import Shared, is_taken, run
+from .people import BadUsers, People
+from .processes import Columns, Shared, is_taken, run
 from .room import MEGABYTE, Room
 from .store import BadStore, Store
+from .users_file import UsersFile, read_people
 from .words import Words, read_words
 from .xml_texts import Texts
 
@@ -34,29 +35,13 @@ LINE = 1 << 14
 FILES = 1 << 16
 
 
-def read_people(path: str) -> People:
+def first_people(words: Words) -> People:
+    if words.edit_users and os.path.exists(words.users) and not os.path.isfile(words.users):
+        raise SystemExit(f"gateway: {words.users} is no plain file, which --edit-users needs")
     try:
-        with open(path, encoding="utf-8", newline="\n") as file:
-            return people_of(file.read())
-    except OSError as why:
-        raise BadUsers(f"the users text can't be read: {why}") from None
-    except (BadUsers, UnicodeDecodeError) as why:
-        raise BadUsers(f"{path}: {why}") from None
-
-
-def first_people(path: str) -> People:
-    try:
-        return read_people(path)
+        return read_people(words.users)
     except BadUsers as why:
         raise SystemExit(f"gateway: {why}") from None
-
-
-def read_again(path: str, people: People) -> None:
-    """At SIGHUP. A text that can't be read changes nothing."""
-    try:
-        tell(f"the users text was read again, with {people.take(read_people(path))}")
-    except BadUsers as why:
-        tell(f"the users are those of before: {why}")
 
 
 def many_files() -> None:
@@ -101,15 +86,20 @@ class Common:
     floors: Floors
     counts: Counts | None
     shared: Shared | None
+    reads: Columns
+    """When each has read the users text last."""
+    parent: int | None
 
     @staticmethod
     def of(words: Words) -> Common:
         servers = ("map", *(("notes",) if words.notes else ()), *(it.url for it in words.mirrors))
         counts = Counts(CALLS, servers, words.processes) if words.metrics else None
-        return Common(Floors(words.processes), counts, Shared() if words.processes > 1 else None)
+        shared, parent = (Shared(), os.getpid()) if words.processes > 1 else (None, None)
+        return Common(Floors(words.processes), counts, shared, Columns(1, words.processes), parent)
 
     def begin(self, process: int) -> None:
         self.floors.begin(process)
+        self.reads.begin(process)
         if self.counts is not None:
             self.counts.columns.begin(process)
 
@@ -120,7 +110,7 @@ def gateway_of(words: Words, people: People, store: Store, common: Common) -> Ga
     mirrors = Mirrors(server, words.mirrors, words.links, common.floors) if words.mirrors else None
     return Gateway(
         words, people, server, notes, Room(words.room * MEGABYTE, tell), store,
-        once=Once(shared=common.shared), mirrors=mirrors, counts=common.counts,
+        UsersFile(words.users, people, store, common.reads, common.parent), once=Once(shared=common.shared), mirrors=mirrors, counts=common.counts,
     )  # fmt: skip
 
 
@@ -163,7 +153,7 @@ async def serve(words: Words, gateway: Gateway, is_shared: bool) -> int:
     if not words.data:
         tell("authorizations, preferences and discussions are in memory alone: --data names a file for them")
     ended = told_to_end()
-    asyncio.get_running_loop().add_signal_handler(signal.SIGHUP, read_again, words.users, gateway.people)
+    asyncio.get_running_loop().add_signal_handler(signal.SIGHUP, gateway.users.read_again)
     runners = [
         await listen(
             app_of(gateway), (words.host, words.port), is_shared, access_log_class=CommonLog, access_log=None if words.quiet else CommonLog.sink(),
@@ -190,7 +180,7 @@ async def serve(words: Words, gateway: Gateway, is_shared: bool) -> int:
 
 def main() -> int:
     words = read_words()
-    people = first_people(words.users)
+    people = first_people(words)
     check_editor(words.id)
     licensed(words)
     many_files()

@@ -259,29 +259,29 @@ class Mirrors:
         if not self.waiting:
             self.hurry.clear()
 
-    async def ask(self, call: Call, method: str, target: str, body: Spool | None) -> Reply:
+    async def ask(self, call: Call, token: str | None, method: str, target: str, body: Spool | None) -> Reply:
         """Of a mirror where one may answer, else of the server. What a change reads before and behind it is the server's."""
         address, name = guesser_of(call.request), call.caller.user.name if call.caller.user else None
         if call.request.method in ("GET", "HEAD"):
             mirror = await self.mirror_for(address, name)
-            reply = await self.asked(mirror, call, target) if mirror is not None else None
+            reply = await self.asked(mirror, call, token, target) if mirror is not None else None
             if call.gateway.counts is not None:
                 call.gateway.counts.add("reads", mirror.url if mirror is not None and reply is not None else "map")
             if reply is not None:
                 return reply
         try:
-            return await self.server.ask(method, target, call.token, body, call.spool(always=method != "GET"))
+            return await self.server.ask(method, target, token, body, call.spool(always=method != "GET"))
         finally:
             self.floors.raise_to_now(address, SEEN)
             if method != "GET":
                 for key in keys_of(address, name):
                     self.floors.raise_to_now(key, WRITTEN)
 
-    async def asked(self, mirror: Mirror, call: Call, target: str) -> Reply | None:
+    async def asked(self, mirror: Mirror, call: Call, token: str | None, target: str) -> Reply | None:
         """None where the mirror can't answer."""
         spool = call.spool()
         try:
-            reply = await mirror.links.ask("GET", target, call.token, None, spool)
+            reply = await mirror.links.ask("GET", target, token, None, spool)
             if reply.status < 500:
                 return reply
         except NoAnswer:

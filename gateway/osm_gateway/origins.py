@@ -40,7 +40,7 @@ def check_host(words: Words, request: web.Request) -> None:
 
 def cors(request: web.Request, reply: web.StreamResponse) -> None:
     """Never with credentials of the browser's own, so that `*` gives nothing away."""
-    if OPEN.fullmatch(request.path) or request.method in ("GET", "HEAD") and not request.path.startswith("/oauth2/"):
+    if OPEN.fullmatch(request.path) or request.method in ("GET", "HEAD") and not request.path.startswith(("/oauth2/", "/users")):
         reply.headers["Access-Control-Allow-Origin"] = "*"
         reply.headers["Access-Control-Expose-Headers"] = EXPOSED
 

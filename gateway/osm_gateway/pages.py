@@ -63,6 +63,16 @@ def button(name: str, value: str, label: str, unchecked: bool = False) -> str:
     return f'<button name="{name}" value="{escape(value)}"{" formnovalidate" if unchecked else ""}>{escape(label)}</button>\n'
 
 
+def hidden(name: str, value: str) -> str:
+    return f'<input type="hidden" name="{name}" value="{escape(value)}">\n'
+
+
+def table(heads: Iterable[str], rows: Iterable[Iterable[str]]) -> str:
+    """Cells are HTML, as parts of a page are."""
+    lines = "".join(f"<tr>{''.join(f'<td>{cell}</td>' for cell in row)}</tr>\n" for row in rows)
+    return f"<table>\n<tr>{''.join(f'<th>{escape(head)}</th>' for head in heads)}</tr>\n{lines}</table>\n"
+
+
 def form(*parts: str) -> str:
     """To the address of the page itself, with its parameters."""
     return f'<form method="post">\n{"".join(parts)}</form>\n'

@@ -29,6 +29,7 @@ CREATE TABLE IF NOT EXISTS blocks (id INTEGER PRIMARY KEY AUTOINCREMENT, user IN
     reason TEXT NOT NULL) STRICT;
 CREATE INDEX IF NOT EXISTS blocks_of_user ON blocks (user);
 CREATE TABLE IF NOT EXISTS hidden_notes (id INTEGER PRIMARY KEY, user INTEGER NOT NULL, at INTEGER NOT NULL) STRICT;
+CREATE TABLE IF NOT EXISTS highest_user (one INTEGER PRIMARY KEY CHECK (one = 1), id INTEGER NOT NULL) STRICT;
 """
 """Moments are seconds since 1970; `secret`, `hash` and `code` are SHA-256 of what a caller shows, so the file gives no token away."""
 

@@ -13,7 +13,7 @@ from .links import Address
 
 USAGE = """gateway/run --server URL --users FILE [--notes URL] [--listen ADDRESS] [--host NAME].. [--public-url URL] [--data FILE] [--id FOLDER]
     [--rate N] [--guesses N] [--copyright TEXT] [--attribution URL] [--license URL] [--links N] [--room MB] [--processes N]
-    [--mirrors URL,URL.. [--confirmed-by K [--confirm-seconds S]]] [--metrics ADDRESS] [--quiet]"""
+    [--mirrors URL,URL.. [--confirmed-by K [--confirm-seconds S]]] [--metrics ADDRESS] [--edit-users] [--quiet]"""
 
 
 @dataclass(frozen=True)
@@ -46,6 +46,8 @@ class Words:
     confirmed_by: int = 0
     """How many mirrors have a change before its answer is sent."""
     confirm_seconds: float = 30.0
+    edit_users: bool = False
+    """Whether moderators change the users text by a page."""
 
 
 LICENCE = ("copyright", "attribution", "license")
@@ -126,6 +128,7 @@ def parser_of() -> argparse.ArgumentParser:
     add("--confirmed-by", type=number(0, 64), default=0, metavar="K", help="answer a change only once so many mirrors have it")
     add("--confirm-seconds", type=decimal(0.1, 250), default=30.0, metavar="S", help="how long they have for it, 30 seconds if not said")
     add("--metrics", type=place, metavar="ADDRESS", help="where counts are shown to Prometheus, as 127.0.0.1:9100; else nowhere")
+    add("--edit-users", action="store_true", help="moderators add, change and take out users by the page /users, which writes the users text")
     add("--quiet", action="store_true", help="no line for each request")
     return parser
 
@@ -145,5 +148,5 @@ def read_words(words: list[str] | None = None) -> Words:
     licence = tuple((name, getattr(it, name)) for name in LICENCE if getattr(it, name))
     return Words(
         it.server, it.notes, it.users, host, port, hosts, public, it.links, it.room, it.quiet, it.data, it.id, it.rate, it.guesses, licence,
-        it.processes, it.mirrors, it.metrics, it.confirmed_by, it.confirm_seconds,
+        it.processes, it.mirrors, it.metrics, it.confirmed_by, it.confirm_seconds, it.edit_users,
     )  # fmt: skip
