@@ -31,7 +31,7 @@ from io import BufferedReader, FileIO
 from itertools import chain
 from typing import Any, NamedTuple
 
-from journal_lines import CONTROL, FORMS, KINDS, Entry, Form, Path, Unfit, place_of
+from journal_lines import CONTROL, FORMS, KINDS, Counts, Entry, Form, Path, Unfit, by_name, place_of
 
 OSM = os.path.join(os.path.dirname(os.path.abspath(__file__)), "..", "osm")
 LONGEST = 1 << 28  # bytes of a line that is read, and of a text that `replay` reads
@@ -83,7 +83,7 @@ class Found:
     calls: dict[int, int] = field(default_factory=dict)
     """Of each session its last call."""
     acts: Counter[str] = field(default_factory=Counter)
-    counts: Counter[tuple[str, str]] = field(default_factory=Counter)
+    counts: Counts = field(default_factory=dict)
     gate: int | None = None
     torn: bool = False
     """One byte that is no gate stands at the end of the file."""
@@ -108,7 +108,8 @@ class Found:
         self.last = entry.at
         self.calls[entry.session] = entry.call
         self.acts[entry.act] += 1
-        self.counts.update(entry.counts)
+        for operation, count in entry.counts.items():
+            self.counts[operation] = self.counts.get(operation, 0) + count
         self.entries += 1
         self.end += len(line)
 
@@ -246,7 +247,7 @@ class Replay:
                 line = sum(part.count(END) for part in parts(file, begins)) + 1
             return Fault(line, begins, begins, f"the rules of the map refuse this line of {end - begins} bytes", by_rules=True)
         visible = {kind: came.told.get(f"{kind}s", -1) for kind in KINDS}
-        created = {kind: found.counts["create", kind] for kind in KINDS}
+        created = {kind: by_name(found.counts)["create", kind] for kind in KINDS}
         if came.told.get("entries") != found.entries or any(not 0 <= visible[it] <= created[it] for it in KINDS):
             raise Unable(f"replay tells {came.told}, and here {found.entries} entries were read that create {created}")
         return None
@@ -279,7 +280,7 @@ def end_between(file: BufferedReader, low: int, high: int) -> int | None:
 
 def facts_of(path: str, found: Found, process: int | None, is_verified: bool) -> dict[str, Any]:
     operations: dict[str, dict[str, int]] = {}
-    for (action, kind), count in sorted(found.counts.items()):
+    for (action, kind), count in sorted(by_name(found.counts).items()):
         operations.setdefault(action, {})[kind] = count
     return {
         "file": path,
@@ -356,7 +357,7 @@ def lines_of_fault(facts: dict[str, Any]) -> Iterator[str]:
     yield f"wrong: line {fault['line']}, from byte {fault['begins']} on, at byte {fault['byte']}: {fault['why']}"
     if facts["journal"]:
         if not fault["by_rules"]:
-            yield f"behind what was read of it: {rest['bytes']} bytes with {rest['entries']} lines as of entries"
+            yield f"behind that line: {rest['bytes']} bytes with {rest['entries']} lines as of entries"
         yield f"a copy of what stands before it: head -c {fault['begins']} FILE > COPY (what is lost then: docs/JOURNAL.md)"
 
 
@@ -399,20 +400,19 @@ def verify(found: Found, replay: Replay) -> bool:
     return True
 
 
-def tell(path: str, as_json: bool, replay: Replay | None) -> int:
-    """Prints what there is to tell of a file, with the status to end with."""
-    with plain_file(path) as file:
-        found, process = read(file), holder(os.fstat(file.fileno()))
+def look(path: str, replay: Replay | None) -> tuple[dict[str, Any], Unable | None]:
+    """What there is to tell of a file, and why not all of it can be told."""
     unable, verified = None, False
     try:
-        verified = replay is not None and verify(found, replay)
-    except Unable as why:
-        unable = why
-    facts = facts_of(path, found, process, verified)
-    print(json.dumps(facts) if as_json else "\n".join(lines_of(facts)), flush=True)
-    if unable:
-        raise unable
-    return 1 if found.fault else 0
+        with plain_file(path) as file:
+            found, process = read(file), holder(os.fstat(file.fileno()))
+        try:
+            verified = replay is not None and verify(found, replay)
+        except Unable as why:
+            unable = why
+    except OSError as failed:
+        raise Unable(f"{path} can't be read: {failed.strerror}") from None
+    return facts_of(path, found, process, verified), unable
 
 
 def main(given: list[str] | None = None) -> int:
@@ -423,12 +423,15 @@ def main(given: list[str] | None = None) -> int:
     parser.add_argument("--program", default=OSM)
     words = parser.parse_args(given)
     try:
-        return tell(words.file, words.json, Replay(words.program, words.file) if words.verify else None)
+        facts, unable = look(words.file, Replay(words.program, words.file) if words.verify else None)
     except Unable as why:
         print(f"journal: {why}", file=sys.stderr)
-    except OSError as why:
-        print(f"journal: {words.file} can't be read: {why.strerror}", file=sys.stderr)
-    return 2
+        return 2
+    print(json.dumps(facts) if words.json else "\n".join(lines_of(facts)), flush=True)
+    if unable:
+        print(f"journal: {unable}", file=sys.stderr)
+        return 2
+    return 1 if facts["fault"] else 0
 
 
 if __name__ == "__main__":

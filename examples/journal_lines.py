@@ -19,6 +19,7 @@ from typing import Any, NamedTuple
 
 Path = tuple[str | int, ...]
 Check = Callable[[Any, Path], None]
+Counts = dict[tuple[bytes, bytes], int]
 WIDE, SIGNED, SESSIONS = 1 << 64, 1 << 63, 1 << 32
 LAT7, LON7 = 900_000_000, 1_800_000_000
 CHARACTERS, NODES, MEMBERS = 255, 2_000, 32_000
@@ -42,8 +43,8 @@ class Entry(NamedTuple):
     call: int
     session: int
     act: str
-    counts: Counter[tuple[str, str]]
-    """How many operations there are of each action and kind."""
+    counts: Counts
+    """How many operations there are of each action, by what tells their kinds."""
 
 
 # ---- shapes of values
@@ -308,7 +309,7 @@ def notes_bytes() -> re.Pattern[bytes]:
 
 
 # In a text a quotation mark stands behind a backslash, so none of these is found in one.
-ACT = re.compile(rb'"command":\{"act":"([a-z_]+)"')
+BEFORE_ACT = b',"command":{"act":"'
 TAGS = re.compile(rf'"tags":\{{((?:{ANY_TEXT}:{ANY_TEXT},?+)*+)\}}'.encode())
 OPERATION = re.compile(rb'\{"(?:(create|modify|delete)":\[|id":-?[0-9]+,"(lat7|nodes|members|type":"[a-z]+))')
 CONTROL = re.compile(rb"[\x00-\x1f]")
@@ -331,26 +332,26 @@ def keys_rise(found: bytes) -> bool:
     return all(map(operator.lt, keys, keys[1:]))
 
 
-class Operations(NamedTuple):
-    """Those of an entry."""
+def operations_of(line: bytes) -> tuple[list[bytes], Counts]:
+    """The actions of a line's blocks, and how many operations there are."""
+    blocks: list[bytes] = []
+    counts: Counts = {}
+    action = b""
+    for begun, mark in OPERATION.findall(line):
+        if begun:
+            action = begun
+            blocks.append(begun)
+        else:
+            counts[action, mark] = counts.get((action, mark), 0) + 1
+    return blocks, counts
 
-    blocks: list[str]
-    counts: Counter[tuple[str, str]]
-    """How many of each action there are for each kind."""
 
-
-NONE = Operations([], Counter())
-
-
-def operations_of(line: bytes) -> Operations:
-    marks = OPERATION.findall(line)
-    begins = [place for place, (begun, _) in enumerate(marks) if begun]
-    found = Operations([marks[it][0].decode() for it in begins], Counter())
-    for action, begin, end in zip(found.blocks, begins, [*begins[1:], len(marks)]):
-        for (_, mark), count in Counter(marks[begin + 1 : end]).items():
-            kind = KIND_BY.get(mark) or mark.decode().rpartition('"')[2]
-            found.counts[action, kind] += count
-    return found
+def by_name(counts: Counts) -> Counter[tuple[str, str]]:
+    """The same by the names of actions and kinds."""
+    names: Counter[tuple[str, str]] = Counter()
+    for (action, mark), count in counts.items():
+        names[action.decode(), KIND_BY.get(mark) or mark.decode().rpartition('"')[2]] += count
+    return names
 
 
 # ---- lines
@@ -417,8 +418,9 @@ class Form:
         match = self.plain.fullmatch(line)
         if not match or not is_utf8(line) or not all(map(keys_rise, TAGS.findall(line))):
             return None
-        act = ACT.findall(line)[0].decode()
-        blocks, counts = operations_of(line) if act in WITH_BLOCKS else NONE
+        begin = match.end(2) + len(BEFORE_ACT)
+        act = line[begin : line.index(b'"', begin)].decode()
+        blocks, counts = operations_of(line) if act in WITH_BLOCKS else ([], {})
         # Neighbours may both be deletions, where one is `if-unused`.
         if any(map(operator.eq, blocks, blocks[1:])):
             return None
@@ -440,7 +442,7 @@ class Form:
         except Bad as why:
             place = len(words[: place_of(words, why.path, why.name)].encode())
             raise Unfit(place, f"{told(why.path)}: {why.why}" if why.path else why.why) from None
-        return Entry(value["at"], value["call"], value["session"], value["command"]["act"], operations_of(line).counts)
+        return Entry(value["at"], value["call"], value["session"], value["command"]["act"], operations_of(line)[1])
 
 
 FORMS = (

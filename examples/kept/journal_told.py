@@ -86,7 +86,6 @@ class Trial:
         self.program, self.folder, self.ports = program, folder, Ports()
         self.faults: list[str] = []
         self.counts: collections.Counter[str] = collections.Counter()
-        self.number = 0
 
     def wants(self, what: str, wanted: object, found: object) -> None:
         if wanted != found:
@@ -188,7 +187,7 @@ class Trial:
             self.wants("by the shapes", entry, form.slowly(line[:-1]))
             change = json.loads(line)["command"].get("osmChange", [])
             sums = collections.Counter((action, row["type"]) for block in change for action in block for row in rows_of(block[action]))
-            self.wants("operations", sums, entry.counts)
+            self.wants("operations", sums, journal_lines.by_name(entry.counts))
 
     def try_faults(self, it: Journal) -> None:
         for old, new, why in FAULTS:
