@@ -26,33 +26,16 @@ module _ {F : Type 0} (moment : F → ℕ) (left_since : F → ℕ → List ℕ 
     fit = begins.fit;
     file = file;
     back = back;
-    runs = record {
-      unserved = refl;
-      comes_to = inl (record {
-        opened = opened;
-        users = table;
-        ports = ports;
-        opens = begins.opens;
-        returned = returned;
-        back = closed;
-        outcome = outcome;
-        served = serve;
-        status_is = is;
-      });
+    served = record {
+      opened = opened;
+      users = table;
+      ports = ports;
+      opens = begins.opens;
+      returned = returned;
+      back = closed;
+      outcome = outcome;
+      served = serve;
+      status_is = is;
     };
-  })
-
-  -- nothing was served
-  pub unserved : (users address : List ℕ) (workers : ℕ) (path : List ℕ) (journals journals' : JournalsTold F) (host host' : HostTold) (link : Told) (status : ℕ)
-      → BeginsNone moment left_since faults text is_entry is_legal fits users address path journals journals' host host' link link status
-      → RunsKept moment left_since faults text is_entry is_legal fits serves users address workers path journals journals' host host' link link status
-  unserved users address workers path journals journals' host host' link status (inr nothing) = inr nothing
-  unserved users address workers path journals journals' host host' link status (inl taken) = inl (record {
-    journal = taken.journal;
-    lent = taken.lent;
-    taken = taken.taken;
-    fit = taken.fit;
-    file = taken.file;
-    back = taken.back;
-    runs = record { unserved = refl; comes_to = inr taken.lacks };
+    link_stays = refl;
   })

@@ -1,9 +1,23 @@
--- A journal that was taken up and isn't gone on from.
-use Rattle.std.proofs.Common.{◌≡◌, ℕ, List, refl, sym, ap, ◌∙◌, subst}
+-- A file that was taken up, and a journal of it that isn't gone on from.
+use Rattle.std.proofs.Common.{◌≡◌, ℕ, List, length, refl, sym, ap, ◌∙◌, subst, arith}
+use Rattle.std.proofs.lemmas.List.{take_all}
 use Rattle.journal_host.specs.Told.{JournalsTold, taken_back}
-use Rattle.kept_text.specs.Restarts.{StandsFor}
+use Rattle.kept_entries.specs.Held.{HoldsFrom}
+use Rattle.kept_text.specs.Restarts.{StandsFor, LeavesSound}
 use Rattle.kept_text.specs.TakenUp.{TakesUp}
 use Rattle.kept_run.specs.Run.{DoesNotFit}
+
+-- A file that stands for a journal, and isn't damaged, holds all of it.
+pub holds_whole : {F E : Type 0} (moment : F → ℕ) (left_since : F → ℕ → List ℕ → Type 0) (text : List E → List ℕ) (file : F) (held : List ℕ) (journal : List E)
+    → StandsFor moment left_since file held → LeavesSound moment left_since file → held ≡ text journal
+    → HoldsFrom text left_since file (moment file) (length journal) journal
+holds_whole moment left_since text file held journal stands sound is c left = record {
+  count = length journal;
+  enough = omega arith;
+  within = omega arith;
+  is = stands c left ∙ is ∙ ap text (sym (take_all (length journal) journal (omega arith)));
+  sound = sound c left;
+}
 
 module _ {F E : Type 0} (moment : F → ℕ) (left_since : F → ℕ → List ℕ → Type 0) (faults : F → ℕ)
     (text : List E → List ℕ) (is_entry : E → Type 0) (is_legal fits : List E → Type 0) where

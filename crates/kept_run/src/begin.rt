@@ -1,7 +1,8 @@
 //! The beginning of a run whose journal is kept in a file.
-ghost use Rattle.std.specs.Prelude.{◌≡◌, ◌≤◌, ℕ, List, map, vec_len, IfOk, MatchResult};
+ghost use Rattle.std.specs.Prelude.{◌≡◌, ◌≤◌, ℕ, List, length, map, vec_len, IfOk, MatchResult};
 ghost use Rattle.osm_outside.specs.Told.{Told};
 ghost use Rattle.journal_host.specs.Told.{JournalsTold};
+ghost use Rattle.kept_entries.specs.Held.{HoldsFrom};
 ghost use Rattle.kept_text.specs.TakenUp.{TakesUp};
 ghost use Rattle.kept_run.specs.Run.{BeginsKept, BeginsNone, LacksServed};
 
@@ -38,6 +39,7 @@ fn take_up_fit<R: Threads + Sync, E: Send + Sync + Drop, S: KeptJournal<E> + Sen
         (λ status. LacksServed J.File.moment J.File.left_since J.File.faults S.Text.text S.Text.is_entry S.is_legal S.fits
         path.now (J.told journals.old) (J.told journals.new) status) }
     ensures text { IfOk result (λ taken. taken.1.text ≡ S.Text.text (S.entries taken.0)) }
+    ensures holds { IfOk result (λ taken. HoldsFrom S.Text.text J.File.left_since taken.1.device (J.File.moment taken.1.device) (length (S.entries taken.0)) (S.entries taken.0)) }
     ensures fits { IfOk result (λ taken. S.fits (S.entries taken.0)) }
 {
     let (journal, file) = match take_up::<R, J, E, S::Text, S>(rt, alloc, path, journals) {
@@ -54,7 +56,7 @@ fn take_up_fit<R: Threads + Sync, E: Send + Sync + Drop, S: KeptJournal<E> + Sen
 
 /// Reads the users of the text at their path, takes up the journal in the file at that one, and opens
 /// so many ports at that address. Where there are no users, no file is asked for; where there are no
-/// ports, the file is given back. The error is the program's status. The standard link is left alone.
+/// ports, the file is given back with the whole journal. The error is the program's status. The standard link is left alone.
 pub fn begin_kept<
     R: Threads + Sync,
     E: Send + Sync + Drop,
@@ -76,6 +78,7 @@ pub fn begin_kept<
         (λ status. (link : Told) → BeginsNone J.File.moment J.File.left_since J.File.faults S.Text.text S.Text.is_entry S.is_legal S.fits
         users.now listening.entry.address.now path.now (J.told journals.old) (J.told journals.new) (H.told host.old) (H.told host.new) link link status) }
     ensures text { IfOk result (λ begun. begun.file.text ≡ S.Text.text (S.entries begun.journal)) }
+    ensures holds { IfOk result (λ begun. HoldsFrom S.Text.text J.File.left_since begun.file.device (J.File.moment begun.file.device) (length (S.entries begun.journal)) (S.entries begun.journal)) }
     ensures fits { IfOk result (λ begun. S.fits (S.entries begun.journal)) }
     ensures count { IfOk result (λ begun. vec_len begun.ports ≡ listening.entry.workers) }
     ensures out { IfOk result (λ begun. vec_len begun.ports ≤ (H.told host.new).lent.out) }

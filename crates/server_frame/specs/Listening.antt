@@ -82,9 +82,3 @@ pub record RunsListening (serves : Users → List PortTold → List PortTold →
     (path address : List ℕ) (workers : ℕ) (host host' : HostTold) (before after : Told) (status : ℕ) : Type 0 where
   pub unserved : after ≡ before
   pub comes_to : ServesOpened serves path address workers host host' status ⊎ OpensNone path address host host' before after status
-
--- what listening comes to by users that were read and accepted; the standard link is left alone
-pub record RunsAccepted (serves : Users → List PortTold → List PortTold → Outcome → Type 0)
-    (path address : List ℕ) (workers : ℕ) (host host' : HostTold) (before after : Told) (status : ℕ) : Type 0 where
-  pub unserved : after ≡ before
-  pub comes_to : ServesOpened serves path address workers host host' status ⊎ LacksLinks path address host host' status

@@ -1,5 +1,6 @@
-use Rattle.std.proofs.Common.{arith, refl, inl, inr}
+use Rattle.std.proofs.Common.{arith, length, refl, sym, subst, inl, inr}
 use Rattle.std.proofs.lemmas.List.{length-map}
+use Rattle.kept_entries.specs.Held.{HoldsFrom}
 use Rattle.kept_run.proofs.begin.begin_kept.Goals as goal
 
 pub returns-in-Err-clause-begins : goal.returns-in-Err-clause-begins
@@ -30,6 +31,11 @@ returns-in-Err-listen-clause-begins g c = λ link. inl (record {
   fit = c.in-Ok-take_up_fit.ensures.fits;
   file = c.into_device-device.result;
   back = c.back.ensures;
+  holds =
+      let J = g.S.EntryJudge.entries c.in-Ok-take_up_fit.taken.0 in
+      let F = g.J.File.Device in
+      subst (λ d. HoldsFrom g.S.Text.Lines.text F.left_since d (F.moment d) (length J) J) (sym c.into_device-device.ensures) c.in-Ok-take_up_fit.ensures.holds;
+  link_stays = refl;
   lacks = record {
     users = c.in-Ok.users;
     asked = g.H.Host.told c.accept_users.new.host;

@@ -1,9 +1,9 @@
-use Rattle.std.proofs.Common.{map}
+use Rattle.std.proofs.Common.{map, inr}
 use Rattle.std.specs.Prelude.{⊤}
 use Rattle.journal_text.specs.Line.{IsEntry}
 use Rattle.journal_text.specs.Text.{text_of}
 use Rattle.osm_model.specs.Journal.{IsLegal}
-use Rattle.kept_run.proofs.Runs.{served, unserved}
+use Rattle.kept_run.proofs.Runs.{served}
 use Rattle.mirror_serve.specs.Mirrors.{MirrorsKeptPorts}
 use Rattle.mirror_serve.proofs.kept_mirror.run_listen_kept.Goals as goal
 
@@ -16,7 +16,4 @@ returns-in-Ok g c =
     c.in-Ok.ensures.begins c.serve_handed-outcome.ensures.serves c.back.ensures c.close_ports.ensures.back c.close_ports.ensures.status
 
 pub returns-in-Err : goal.returns-in-Err
-returns-in-Err g c =
-    let F = g.J.File.Device in
-    unserved F.moment F.left_since F.faults text_of IsEntry IsLegal (λ _. ⊤) (MirrorsKeptPorts F.moment F.left_since F.faults)
-    _ _ _ _ _ _ _ _ (g.L.Outside.told c.args.standard.now) _ (c.in-Err.ensures.begins (g.L.Outside.told c.args.standard.now))
+returns-in-Err g c = inr (c.in-Err.ensures.begins (g.L.Outside.told c.args.standard.now))

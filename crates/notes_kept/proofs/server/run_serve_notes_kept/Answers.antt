@@ -1,10 +1,10 @@
-use Rattle.std.proofs.Common.{map}
+use Rattle.std.proofs.Common.{map, inr}
 use Rattle.osm_base.specs.declared.limits.TheConstants.{SESSION_LIMIT}
 use Rattle.notes_text.specs.Line.{IsEntry}
 use Rattle.notes_text.specs.Text.{text_of, IsLegal}
 use Rattle.notes_core.specs.Machine.{note_rules}
 use Rattle.snapshot_hub.specs.Closings.{AreSeated}
-use Rattle.kept_run.proofs.Runs.{served, unserved}
+use Rattle.kept_run.proofs.Runs.{served}
 use Rattle.notes_kept.specs.Run.{ServesFrom}
 use Rattle.notes_kept.proofs.server.run_serve_notes_kept.Goals as goal
 
@@ -17,7 +17,4 @@ returns-in-Ok g c =
     c.in-Ok.ensures.begins c.serve_handed-outcome.ensures.serves c.back.ensures c.close_ports.ensures.back c.close_ports.ensures.status
 
 pub returns-in-Err : goal.returns-in-Err
-returns-in-Err g c =
-    let F = g.J.File.Device in
-    unserved F.moment F.left_since F.faults text_of IsEntry IsLegal (AreSeated note_rules.tag_of SESSION_LIMIT) (ServesFrom F.moment F.left_since F.faults)
-    _ _ _ _ _ _ _ _ (g.L.Outside.told c.args.standard.now) _ (c.in-Err.ensures.begins (g.L.Outside.told c.args.standard.now))
+returns-in-Err g c = inr (c.in-Err.ensures.begins (g.L.Outside.told c.args.standard.now))
