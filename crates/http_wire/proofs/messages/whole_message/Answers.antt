@@ -1,5 +1,5 @@
 use Rattle.std.proofs.Common.{Err, ap, arith}
-use Rattle.whole_messages.proofs.messages.whole_message.Goals as goal
+use Rattle.http_wire.proofs.messages.whole_message.Goals as goal
 
 pub end_of_bytes-requires : goal.end_of_bytes-requires
 end_of_bytes-requires c = λ is. omega (arith, c.in-Err.ensures.fault (ap Err is))

@@ -1,10 +1,14 @@
-//! Bytes in memory as the message that they begin with.
+//! Bytes in memory as the message that they begin with. They are read by the wire, through a source
+//! that can't fail: `measure`, `export` and the events of a load read their requests so.
 ghost use Rattle.std.specs.Prelude.{◌≡◌, IfOk};
 ghost use Rattle.http_wire.specs.End.{IsTold};
-ghost use Rattle.whole_messages.specs.Messages.{BeginsAs};
+ghost use Rattle.http_wire.specs.Messages.{BeginsAs};
 
+use crate::end::WireEnd;
+use crate::law::{end_in_any_pieces, message_in_any_pieces};
+use crate::message::Message;
 use crate::unfailing::Unfailing;
-use http_wire::{Message, Wire, WireEnd, end_in_any_pieces, message_in_any_pieces};
+use crate::wire::Wire;
 use osm_base::{BODY_LIMIT, Bytes, Memory};
 use std::alloc::Global;
 

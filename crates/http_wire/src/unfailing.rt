@@ -1,6 +1,6 @@
 //! Bytes in memory as a source.
 ghost use Rattle.std.specs.Prelude.{◌≡◌, IfOk, Some};
-ghost use Rattle.whole_messages.specs.Unfailing.{unfailing_told};
+ghost use Rattle.http_wire.specs.Unfailing.{unfailing_told};
 
 use osm_base::{Bytes, Memory};
 use osm_outside::{Failed, MemLink, Outside, Source};
