@@ -1,6 +1,6 @@
 use Rattle.std.proofs.Common.{◌∙◌, append_assoc}
-use Rattle.load_summary.specs.Summary.{count_lines}
-use Rattle.load_summary.proofs.lines.count_lines.Goals as goal
+use Rattle.workload.specs.Summary.{count_lines}
+use Rattle.workload.proofs.lines.count_lines.Goals as goal
 
 pub returns : goal.returns
 unfolding count_lines

@@ -1,6 +1,6 @@
 //! The numbers as lines of a word and a number.
 ghost use Rattle.std.specs.Prelude.{◌≡◌, IfOk, string_bytes};
-ghost use Rattle.load_summary.specs.Summary.{first_line, count_lines, load_lines, reply_lines, summary, replay_summary};
+ghost use Rattle.workload.specs.Summary.{first_line, count_lines, load_lines, reply_lines, summary, replay_summary};
 
 use crate::figures::{Figures, Run};
 use osm_base::{Coord, Memory, Text};

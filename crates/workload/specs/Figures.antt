@@ -4,7 +4,7 @@ use Rattle.osm_base.specs.declared.keys.Kind.{Kind}
 use Rattle.osm_base.specs.declared.keys.Kind.TheVariants.{Node, Way, Relation}
 use Rattle.osm_element.specs.Elements.{key, keys_to, histories, is_visible, position}
 use Rattle.osm_element.specs.declared.elements.Elements.{Elements}
-use Rattle.load_summary.specs.declared.figures.Figures.{Figures}
+use Rattle.workload.specs.declared.figures.Figures.{Figures}
 
 -- how many of the elements of a kind are visible
 abbrev pub visible_count : Elements → Kind → ℕ

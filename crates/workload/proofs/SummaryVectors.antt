@@ -1,9 +1,9 @@
 -- Worked rows: the definitions compute what they should.
 use Rattle.std.proofs.Common.{◌≡◌, Some, codes, pos, refl}
 use Rattle.std.specs.Fmt.{digits}
-use Rattle.load_summary.specs.Figures.{figures_of}
-use Rattle.load_summary.specs.Summary.{first_line, count_lines, load_lines, reply_lines, summary, replay_summary}
-use Rattle.load_summary.specs.declared.figures.Figures.{Figures}
+use Rattle.workload.specs.Figures.{figures_of}
+use Rattle.workload.specs.Summary.{first_line, count_lines, load_lines, reply_lines, summary, replay_summary}
+use Rattle.workload.specs.declared.figures.Figures.{Figures}
 use Rattle.osm_element.specs.Elements.{no_elements}
 
 abbrev thousand_uploads : Figures

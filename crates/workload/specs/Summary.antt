@@ -2,8 +2,8 @@
 use Rattle.std.specs.Prelude.{ℕ, List, ◌++◌, codes, decimal, Option, Some, None}
 use Rattle.std.specs.Fmt.{signed_decimal}
 use Rattle.osm_base.specs.Place.{Position}
-use Rattle.load_summary.specs.declared.figures.Figures.{Figures}
-use Rattle.load_summary.specs.declared.figures.Run.{Run}
+use Rattle.workload.specs.declared.figures.Figures.{Figures}
+use Rattle.workload.specs.declared.figures.Run.{Run}
 
 -- where the first node stands
 unfoldable pub first_line : Option Position → List ℕ

@@ -1,7 +1,7 @@
 use Rattle.std.proofs.Common.{arith}
 use Rattle.osm_element.specs.Elements.{is_visible}
-use Rattle.load_summary.proofs.CountLemmas.{few_counted}
-use Rattle.load_summary.proofs.figures.visible_count.Goals as goal
+use Rattle.workload.proofs.CountLemmas.{few_counted}
+use Rattle.workload.proofs.figures.visible_count.Goals as goal
 
 pub overflow_add-count : goal.overflow_add-count
 overflow_add-count c =

@@ -1,7 +1,7 @@
 //! The numbers of a journal and of the map that it makes.
 ghost use Rattle.std.specs.Prelude.{◌≡◌};
 ghost use Rattle.osm_element.specs.Elements.{is_visible};
-ghost use Rattle.load_summary.specs.Figures.{visible_count, figures_of};
+ghost use Rattle.workload.specs.Figures.{visible_count, figures_of};
 
 use history_store::Store;
 use osm_base::{Coord, Key, Kind};
