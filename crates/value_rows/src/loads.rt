@@ -1,7 +1,7 @@
 //! A generated load, and what is told of it.
 use history_store::Store;
 use osm_base::{Coord, Memory};
-use row_tally::Tally;
+use row_lines::Tally;
 use std::alloc::Global;
 use user_table::{UserTable, UsersFault, Who};
 use workload::{Figures, Load, Run, figures_of, replay_summary, requests, summary, users_text};
