@@ -9,6 +9,7 @@ ghost use Rattle.snapshot_hub.specs.Closings.{AreSeated};
 ghost use Rattle.notes_kept.specs.Followed.{HasFollowed};
 ghost use Rattle.notes_kept.specs.Run.{RunsServeNotesKept, ServesFrom};
 
+use crate::lines::NoteLines;
 use crate::ports::serve_kept_ports;
 use journal_file::{Device, JournalFile};
 use journal_host::Journals;
@@ -18,7 +19,6 @@ use kept_text::{EntryJudge, TextFault};
 use link_workers::Outcome;
 use machine_law::Machine;
 use notes_core::{NoteEntry, NotesMachine, NotesWorld};
-use notes_file::NoteLines;
 use osm_outside::{Host, Link, Outside, Port, PortOutside};
 use server_frame::{Listening, close_ports};
 use shared_front::Opened;

@@ -13,7 +13,7 @@ pub struct NoteLines;
 
 impl Lines<NoteEntry> for NoteLines {
     ghost use Rattle.notes_text.specs.Text.{lines, text_of};
-    ghost use Rattle.notes_file.specs.More.{notes_more};
+    ghost use Rattle.notes_kept.specs.More.{notes_more};
 
     ghost lines = { lines };
 
