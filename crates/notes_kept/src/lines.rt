@@ -1,6 +1,6 @@
 //! How the entries of the notes' journal are written, and read again.
-use kept_entries::Lines;
-use kept_text::{KeptText, TextFault};
+use durable_log::Lines;
+use journal_recovery::{KeptText, TextFault};
 use notes_core::NoteEntry;
 use notes_text::{
     HEADER, LineFault, lines_are_plain, lines_behind, lines_tell_entries, read_entry,
