@@ -16,7 +16,7 @@ use Rattle.api_desk.specs.declared.load_faults.LoadFault.{LoadFault}
 use Rattle.api_desk.specs.declared.load_faults.LoadFault.TheVariants.{Memory, NoCommand}
 use Rattle.map_machine.specs.declared.plans.Asked.{Asked}
 use Rattle.api_desk.specs.Loads.{IsAsked, IsNoWork, AreAsked, events_by, events_of, AreEventsOf, LacksCommand, FailsBy, GivesCommand, GivesWork, AreEvents, FailsAt}
-use Rattle.whole_messages.specs.Messages.{BeginsAs}
+use Rattle.http_wire.specs.Messages.{BeginsAs}
 use Rattle.workload.specs.Users.{AreUsersOf}
 
 -- Whatever commands the rest asks for, the load asks for some whose events are those so far and theirs.

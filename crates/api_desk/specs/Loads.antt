@@ -7,7 +7,7 @@ use Rattle.hub_core.specs.declared.events.Event.TheVariants.{Plan, Commit, Publi
 use Rattle.http_wire.specs.declared.message.Message.{Message}
 use Rattle.http_wire.specs.Message.{BeginsWith}
 use Rattle.user_table.specs.Users.{Users}
-use Rattle.whole_messages.specs.Messages.{HasNoMessage}
+use Rattle.http_wire.specs.Messages.{HasNoMessage}
 use Rattle.workload.specs.declared.sent.Sent.{Sent}
 use Rattle.workload.specs.Request.{requests}
 use Rattle.workload.specs.Users.{AreUsersOf}

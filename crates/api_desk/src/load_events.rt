@@ -11,7 +11,7 @@ ghost use Rattle.api_desk.specs.Loads.{GivesCommand, GivesWork, events_by, AreEv
 use crate::load_faults::LoadFault;
 use crate::requests::{Request, request_of};
 use desk_parts::RequestFault;
-use http_wire::Message;
+use http_wire::{Message, whole_message};
 use hub_core::Event;
 use map_machine::Asked;
 use osm_base::{Bytes, Memory, SESSION_LIMIT};
@@ -19,7 +19,6 @@ use osm_model::Query;
 use route_table::Routes;
 use std::alloc::Global;
 use user_table::UserTable;
-use whole_messages::whole_message;
 use workload::{Load, Sent, users_of_load};
 
 /// The moment of every commit, in seconds since 1970: 2023-11-14T22:13:20Z.

@@ -3,12 +3,11 @@ use crate::faults::Fault;
 use crate::plain::PlainDesk;
 use api_desk::OneDesk;
 use http_link::{Desk, Reply};
-use http_wire::Message;
+use http_wire::{Message, whole_message};
 use journal_text::journal_text;
 use osm_base::{Bytes, Memory};
 use plain_model::Journal;
 use std::alloc::Global;
-use whole_messages::whole_message;
 
 /// Who sends a request, and when.
 #[derive(Clone, Copy)]

@@ -10,7 +10,7 @@ use Rattle.std.specs.List.{AllByRecursion}
 use Rattle.link_workers.specs.Port.{Visit, ServesEach}
 use Rattle.machine_law.specs.Rules.{Rules}
 use Rattle.snapshot_hub.specs.Known.{Known, seeing}
-use Rattle.kept_entries.specs.Receipts.{Receipt}
+use Rattle.durable_log.specs.Receipts.{Receipt}
 use Rattle.user_table.specs.Users.{Users}
 use Rattle.session_desk.specs.Rows.{Place}
 use Rattle.session_desk.specs.Steps.{place_at}

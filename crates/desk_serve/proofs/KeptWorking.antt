@@ -17,8 +17,8 @@ use Rattle.hub_core.specs.Journal.{calls_of}
 use Rattle.snapshot_hub.specs.Known.{Known, returner, seeing}
 use Rattle.snapshot_hub.specs.Closed.{HasAllOf, HasClosed}
 use Rattle.snapshot_hub.specs.Closings.{AreSeated}
-use Rattle.kept_entries.specs.Receipts.{AreKept}
-use Rattle.kept_entries.specs.Receipts.{Receipt}
+use Rattle.durable_log.specs.Receipts.{AreKept}
+use Rattle.durable_log.specs.Receipts.{Receipt}
 use Rattle.session_desk.specs.Answered.{RowOf}
 use Rattle.kept_desk.specs.Kept.{AtKept}
 use Rattle.desk_serve.specs.Kept.{KeepsLink}

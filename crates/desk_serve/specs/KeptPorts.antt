@@ -12,8 +12,8 @@ use Rattle.link_workers.specs.Port.{Visit, ServesPort}
 use Rattle.machine_law.specs.Rules.{Rules}
 use Rattle.hub_core.specs.Journal.{calls_of, is_numbered}
 use Rattle.snapshot_hub.specs.Known.{returner, seeing}
-use Rattle.kept_entries.specs.Receipts.{AreKept}
-use Rattle.kept_entries.specs.Receipts.{Receipt}
+use Rattle.durable_log.specs.Receipts.{AreKept}
+use Rattle.durable_log.specs.Receipts.{Receipt}
 use Rattle.user_table.specs.Users.{Users}
 use Rattle.server_frame.specs.OnLink.{OnLink}
 use Rattle.session_desk.specs.Answered.{RowOf}

@@ -2,7 +2,7 @@
 use Rattle.std.proofs.Common.{◌≡◌, ℕ, true, not, List, [], ◌∷◌, refl}
 use Rattle.std.specs.Prelude.{◌==◌}
 use Rattle.std.proofs.lemmas.Bool.{and_parts, and_from}
-use Rattle.kept_text.specs.OneLine.{is_one_line}
+use Rattle.journal_recovery.specs.OneLine.{is_one_line}
 use Rattle.osm_json.specs.Again.{is_one_line as is_line_of_text}
 
 pub one_line : (bytes : List ℕ) → is_line_of_text bytes ≡ true → is_one_line bytes ≡ true

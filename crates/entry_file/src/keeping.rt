@@ -1,10 +1,10 @@
 //! Entries that were read, as a keeper of the map judges them.
 ghost use Rattle.std.specs.Prelude.{◌≡◌, [], IfErr, OnOk};
-ghost use Rattle.kept_text.specs.declared.faults.TextFault.{TextFault};
+ghost use Rattle.journal_recovery.specs.declared.faults.TextFault.{TextFault};
 ghost use Rattle.osm_model.specs.Journal.{IsLegal};
 
+use journal_recovery::TextFault;
 use journal_text::{Keeper, legal_journals_grow};
-use kept_text::TextFault;
 use osm_model::Entry;
 use std::alloc::Global;
 

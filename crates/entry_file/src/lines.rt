@@ -1,6 +1,6 @@
 //! How the entries of the map's journal are written.
+use durable_log::Lines;
 use journal_text::{lines_are_plain, lines_behind};
-use kept_entries::Lines;
 use osm_base::Memory;
 use osm_model::Entry;
 

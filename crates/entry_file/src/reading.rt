@@ -1,7 +1,7 @@
 //! How the entries of the map's journal are read again.
 use crate::lines::EntryLines;
+use journal_recovery::{KeptText, TextFault};
 use journal_text::{HEADER, LineFault, lines_are_plain, lines_tell_entries, read_entry};
-use kept_text::{KeptText, TextFault};
 use osm_model::Entry;
 use std::alloc::Global;
 

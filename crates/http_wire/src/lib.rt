@@ -1,4 +1,5 @@
-//! Messages of HTTP/1.1 (RFC 9112) read from a source, and replies written to a sink.
+//! Messages of HTTP/1.1 (RFC 9112) read from a source or from bytes in memory, and replies written to
+//! a sink.
 #![tactic(auto)]
 
 mod block;
@@ -11,8 +12,10 @@ mod head;
 mod law;
 mod length;
 mod message;
+mod messages;
 mod reply;
 mod search;
+mod unfailing;
 mod wire;
 
 pub use close::trim_ows;
@@ -22,5 +25,6 @@ pub use law::{
     no_end_at_a_message, no_read_at_a_message, one_end, one_message, one_reading, some_reading,
 };
 pub use message::Message;
+pub use messages::whole_message;
 pub use reply::{write_all, write_reply};
 pub use wire::Wire;

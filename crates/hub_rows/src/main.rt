@@ -6,7 +6,7 @@ mod offers;
 mod rising;
 mod sessions;
 
-use row_tally::Tally;
+use row_lines::Tally;
 use std::io;
 use std::process::ExitCode;
 

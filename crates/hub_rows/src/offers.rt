@@ -5,7 +5,7 @@ use crate::rising::Rising;
 use hub_core::{Book, ListOutlet, Outlet};
 use machine_law::{Machine, Tag};
 use osm_base::{Memory, Steps};
-use row_tally::Tally;
+use row_lines::Tally;
 use std::alloc::Global;
 use std::marker::Brand;
 use std::sync::ledger::{Blank, Ledger};

@@ -3,7 +3,7 @@ use Rattle.std.proofs.Common.{◌≡◌, ℕ, true, ◌⊎◌, inl, inr, List, l
 use mathlib.Core.List.{IsPrefix}
 use Rattle.http_wire.specs.declared.message.Message.{Message}
 use Rattle.http_link.specs.declared.desk.Reply.{Reply}
-use Rattle.kept_entries.specs.Receipts.{Receipt}
+use Rattle.durable_log.specs.Receipts.{Receipt}
 use Rattle.machine_law.specs.Rules.{Rules}
 use Rattle.session_desk.specs.Rows.{Place}
 use Rattle.session_desk.specs.Steps.{place_at}

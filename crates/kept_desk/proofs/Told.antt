@@ -8,8 +8,8 @@ use Rattle.http_link.specs.Link.{AreTold}
 use Rattle.http_link.specs.declared.desk.Withheld.{Withheld}
 use Rattle.http_link.specs.declared.end.LinkEnd.{LinkEnd}
 use Rattle.http_link.specs.declared.end.LinkEnd.TheVariants.{Unkept}
-use Rattle.kept_entries.specs.Receipts.{last_count}
-use Rattle.kept_entries.specs.Receipts.{Receipt}
+use Rattle.durable_log.specs.Receipts.{last_count}
+use Rattle.durable_log.specs.Receipts.{Receipt}
 use Rattle.session_desk.specs.Rows.{Place}
 use Rattle.session_desk.specs.Steps.{place_at}
 use Rattle.session_desk.specs.Answered.{RowOf, RowsStay, AreAnswered, HasServed}

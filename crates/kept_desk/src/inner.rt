@@ -1,7 +1,7 @@
 //! The desk that answers, as the source of the entries that a file lacks.
 ghost use Rattle.session_desk.specs.Answered.{AtDesk, StaysOrFreshens};
 
-use kept_entries::Behind;
+use durable_log::Behind;
 use machine_law::Machine;
 use osm_base::Memory;
 use session_desk::SessionDesk;

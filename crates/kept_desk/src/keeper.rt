@@ -3,13 +3,13 @@ ghost use Rattle.std.specs.Prelude.{◌≡◌, ◌≤◌, ◌∷◌, [], true, f
 ghost use Rattle.http_link.specs.Desk.{showing};
 ghost use Rattle.http_link.specs.declared.desk.Withheld.{Withheld};
 ghost use mathlib.Core.List.{IsPrefix};
-ghost use Rattle.kept_entries.specs.Receipts.{last_count};
+ghost use Rattle.durable_log.specs.Receipts.{last_count};
 ghost use Rattle.session_desk.specs.Answered.{StaysOrFreshens};
 
 use crate::inner::Inner;
+use durable_log::{Behind, Board, KeepFault, Lines, Receipt, Shelf, receipts_for};
 use http_link::Withheld;
 use journal_file::Device;
-use kept_entries::{Behind, Board, KeepFault, Lines, Receipt, Shelf, receipts_for};
 use machine_law::Machine;
 use osm_outside::{Outside, Witness};
 use session_desk::SessionDesk;
@@ -39,7 +39,7 @@ impl<'a, N: HubName, K: HubName, E, T: Lines<E>, V: Device, W: Wait> Model
     for Keeper<'a, N, K, E, T, V, W> {
     ghost use Rattle.std.specs.Prelude.{◌≤◌};
     ghost use Rattle.kept_desk.specs.Kept.{InHand};
-    ghost use Rattle.kept_entries.specs.Receipts.{last_count};
+    ghost use Rattle.durable_log.specs.Receipts.{last_count};
 
     ghost Value = { InHand };
 

@@ -4,7 +4,7 @@ ghost use mathlib.Core.List.{IsPrefix};
 ghost use Rattle.http_link.specs.Exchange.{Exchange};
 ghost use Rattle.http_link.specs.Link.{AreTold};
 ghost use Rattle.http_link.specs.declared.end.LinkEnd.{LinkEnd};
-ghost use Rattle.kept_entries.specs.Receipts.{Receipt};
+ghost use Rattle.durable_log.specs.Receipts.{Receipt};
 ghost use Rattle.session_desk.specs.Answered.{HasServed};
 ghost use Rattle.session_desk.specs.Steps.{place_at};
 ghost use Rattle.user_table.specs.Users.{Users};

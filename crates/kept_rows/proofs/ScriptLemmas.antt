@@ -2,7 +2,7 @@
 use Rattle.std.proofs.Common.{◌≡◌, ℕ, true, List, [], ◌∷◌, ◌++◌, refl, sym, ap, ◌∙◌}
 use Rattle.std.specs.Prelude.{◌==◌, if◌then◌else◌}
 use Rattle.journal_file.specs.Whole.{AreLines}
-use Rattle.kept_text.specs.OneLine.{is_one_line}
+use Rattle.journal_recovery.specs.OneLine.{is_one_line}
 use Rattle.kept_rows.specs.Script.{script_line, ended_line, script_lines}
 use Rattle.kept_rows.specs.declared.script.ScriptLine.{ScriptLine}
 use Rattle.kept_rows.specs.declared.script.ScriptLine.TheVariants.{Number, Array, Object, Empty, Gate}

@@ -5,7 +5,7 @@ use crate::starts::{found_in, recovers_after};
 use crate::texts::{FIRST, HEADER, SECOND, THIRD, joined};
 use journal_file::{AppendFault, Device, JournalFile, MemFile, kept_text};
 use osm_base::Memory;
-use row_tally::Tally;
+use row_lines::Tally;
 use std::alloc::Global;
 use std::thread::Threads;
 

@@ -4,7 +4,7 @@ ghost use Rattle.journal_file.specs.Whole.{AreLines};
 use crate::texts::{FIRST, HEADER, SCRIPT, SECOND, joined};
 use journal_file::{Device, DiskFault, DiskFile, JournalFile, OpenFault, create, is_damaged, open};
 use osm_base::Memory;
-use row_tally::Tally;
+use row_lines::Tally;
 use std::alloc::Global;
 use std::{env, fs, process};
 

@@ -13,7 +13,7 @@ mod shelves;
 mod starts;
 mod texts;
 
-use row_tally::Tally;
+use row_lines::Tally;
 use std::io;
 use std::process::ExitCode;
 

@@ -2,8 +2,8 @@
 ghost use Rattle.std.specs.Prelude.{◌≡◌, ◌++◌, IfOk, OnOk};
 ghost use Rattle.kept_rows.specs.Marks.{mark_line};
 
+use durable_log::{Behind, Lines, Shelf};
 use journal_file::MemFile;
-use kept_entries::{Behind, Lines, Shelf};
 use osm_base::Memory;
 use shared_front::{Front, HubName, Tail};
 use std::alloc::Global;

@@ -3,7 +3,7 @@ use crate::texts::{FIRST, HEADER, SCRIPT, SECOND, joined};
 use journal_file::{Device, JournalFile, MemFile, OpenFault};
 use journal_host::{DiskFault, Journals, MemJournals};
 use osm_base::Memory;
-use row_tally::Tally;
+use row_lines::Tally;
 use std::alloc::Global;
 
 fn lines_are_appended(alloc: Global) -> Result<bool, Memory> {

@@ -4,8 +4,8 @@ ghost use Rattle.std.specs.Bool.{Decides};
 ghost use Rattle.kept_rows.specs.Script.{script_line, ended_line};
 
 use crate::texts::HEADER;
-use kept_entries::Lines;
-use kept_text::{KeptText, TextFault};
+use durable_log::Lines;
+use journal_recovery::{KeptText, TextFault};
 use osm_base::Memory;
 use std::alloc::Global;
 

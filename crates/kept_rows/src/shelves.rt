@@ -2,10 +2,10 @@
 ghost use Rattle.std.specs.Prelude.{◌≡◌, []};
 
 use crate::marks::{HEADER, MARKS, MarkShelf, Marks, Source, text_of};
+use durable_log::{Board, KeepFault, Receipt, Shelf, Told, receipts_for};
 use journal_file::{Deed, JournalFile, MemFile, kept_text};
-use kept_entries::{Board, KeepFault, Receipt, Shelf, Told, receipts_for};
 use osm_base::Memory;
-use row_tally::Tally;
+use row_lines::Tally;
 use shared_front::{Front, HubName, Opened, Tail};
 use std::alloc::Global;
 use std::marker::Brand;

@@ -1,11 +1,11 @@
 //! Starts from the file that a crash left, by what a server's start takes its journal up with.
 ghost use Rattle.std.specs.Prelude.{⊤};
-ghost use Rattle.kept_text.specs.Judged.{IsJudged};
+ghost use Rattle.journal_recovery.specs.Judged.{IsJudged};
 
 use crate::drawn::left_by;
 use crate::script::{ScriptLine, ScriptText, text_of};
 use journal_file::{Deed, JournalFile, MemFile, kept_text};
-use kept_text::{EntryJudge, RestartFault, TextFault, restart};
+use journal_recovery::{EntryJudge, RestartFault, TextFault, restart};
 use osm_base::Memory;
 use std::alloc::Global;
 use std::thread::Threads;

@@ -14,8 +14,8 @@ use Rattle.user_table.specs.Users.{Users}
 use Rattle.snapshot_hub.specs.Known.{Known, returner}
 use Rattle.snapshot_hub.specs.Closed.{HasClosed}
 use Rattle.snapshot_hub.specs.Closings.{AreSeated}
-use Rattle.kept_entries.specs.Receipts.{AreKept}
-use Rattle.kept_entries.specs.Receipts.{Receipt}
+use Rattle.durable_log.specs.Receipts.{AreKept}
+use Rattle.durable_log.specs.Receipts.{Receipt}
 use Rattle.link_workers.specs.declared.outcome.Outcome.{Outcome}
 use Rattle.session_desk.specs.Answered.{RowOf}
 use Rattle.desk_serve.specs.KeptPorts.{HaveKept}

@@ -10,8 +10,8 @@ use Rattle.user_table.specs.Users.{Users}
 use Rattle.hub_core.specs.Journal.{calls_of}
 use Rattle.snapshot_hub.specs.Known.{Known, returner}
 use Rattle.snapshot_hub.specs.Closed.{HasAllOf, HasClosed}
-use Rattle.kept_entries.specs.Receipts.{AreKept}
-use Rattle.kept_entries.specs.Receipts.{Receipt}
+use Rattle.durable_log.specs.Receipts.{AreKept}
+use Rattle.durable_log.specs.Receipts.{Receipt}
 use Rattle.link_workers.specs.declared.outcome.Outcome.{Outcome}
 use Rattle.link_workers.specs.declared.outcome.Outcome.TheVariants.{Served, Failed, Unkept, LacksMemory}
 use Rattle.session_desk.specs.Answered.{RowOf}

@@ -11,7 +11,7 @@ use Rattle.link_workers.specs.Port.{Visit, ServesEach}
 use Rattle.link_workers.specs.Seats.{seated, sessions_of}
 use Rattle.link_workers.specs.Workers.{Works}
 use Rattle.machine_law.specs.Rules.{Rules}
-use Rattle.kept_entries.specs.Receipts.{Receipt}
+use Rattle.durable_log.specs.Receipts.{Receipt}
 use Rattle.session_desk.specs.Answered.{RowOf}
 use Rattle.session_desk.proofs.Lists.{prefix_self, prefix_trans}
 use Rattle.kept_desk.specs.Kept.{AtKept}

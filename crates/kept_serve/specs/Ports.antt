@@ -6,8 +6,8 @@ use Rattle.osm_outside.specs.Port.{PortTold}
 use Rattle.machine_law.specs.Rules.{Rules}
 use Rattle.user_table.specs.Users.{Users}
 use Rattle.snapshot_hub.specs.Known.{Known}
-use Rattle.kept_entries.specs.Held.{LeavesAll}
-use Rattle.kept_entries.specs.Receipts.{Receipt}
+use Rattle.durable_log.specs.Held.{LeavesAll}
+use Rattle.durable_log.specs.Receipts.{Receipt}
 use Rattle.session_desk.specs.Answered.{RowOf}
 use Rattle.desk_serve.specs.KeptPorts.{ServesKept}
 use Rattle.link_workers.specs.declared.outcome.Outcome.{Outcome}

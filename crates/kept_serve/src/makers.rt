@@ -1,7 +1,7 @@
 //! What makes the desks of sessions that keep before they tell.
 ghost use Rattle.std.specs.Prelude.{◌≡◌, IfOk};
 
-use kept_entries::Receipt;
+use durable_log::Receipt;
 use osm_base::Memory;
 use shared_front::{Front, HubName};
 use std::alloc::Global;
@@ -17,7 +17,7 @@ pub trait KeptMaker<E, K: HubName, Q> {
     ghost use Rattle.user_table.specs.Users.{Users};
     ghost use Rattle.snapshot_hub.specs.Known.{Known};
     ghost use Rattle.session_desk.specs.Answered.{RowOf};
-    ghost use Rattle.kept_entries.specs.Receipts.{Receipt};
+    ghost use Rattle.durable_log.specs.Receipts.{Receipt};
     ghost use Rattle.kept_desk.specs.Kept.{AtKept, at_kept};
     ghost use Rattle.desk_serve.specs.Desks.{at_desk};
 

@@ -5,8 +5,8 @@ ghost use mathlib.Core.List.{IsPrefix};
 ghost use Rattle.kept_serve.specs.Ports.{AreMatched, EndsSo};
 
 use crate::workers::KeptBack;
+use durable_log::{Lines, Receipt, Shelf};
 use journal_file::Device;
-use kept_entries::{Lines, Receipt, Shelf};
 use link_workers::Outcome;
 use machine_law::Machine;
 use shared_front::{Front, HubName};

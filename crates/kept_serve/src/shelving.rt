@@ -1,10 +1,10 @@
 //! The shelf of a file that holds a whole journal.
 ghost use Rattle.std.specs.Prelude.{◌≡◌, ◌∷◌, [], length, IfOk, IfErr};
-ghost use Rattle.kept_entries.specs.Held.{HoldsFrom, LeavesAll};
-ghost use Rattle.kept_entries.specs.Receipts.{Receipt};
+ghost use Rattle.durable_log.specs.Held.{HoldsFrom, LeavesAll};
+ghost use Rattle.durable_log.specs.Receipts.{Receipt};
 
+use durable_log::{Lines, Receipt, Shelf};
 use journal_file::{Device, JournalFile};
-use kept_entries::{Lines, Receipt, Shelf};
 use shared_front::{Front, HubName, Opened};
 use std::alloc::Global;
 use std::sync::Wait;

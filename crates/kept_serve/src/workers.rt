@@ -12,7 +12,7 @@ ghost use Rattle.desk_serve.specs.Kept.{KeepsLink};
 ghost use Rattle.desk_serve.specs.KeptPorts.{HaveKept};
 
 use crate::makers::KeptMaker;
-use kept_entries::Receipt;
+use durable_log::Receipt;
 use link_workers::{Service, any_failed, seat_all, serve_all, unseat_all};
 use machine_law::Machine;
 use osm_base::Memory;

@@ -3,7 +3,7 @@ use Rattle.std.proofs.Common.{◌≡◌, ℕ, true, List, length, sym, ◌∙◌
 use mathlib.Core.List.{IsPrefix}
 use Rattle.http_wire.specs.declared.message.Message.{Message}
 use Rattle.http_link.specs.declared.desk.Reply.{Reply}
-use Rattle.kept_entries.specs.Receipts.{Receipt}
+use Rattle.durable_log.specs.Receipts.{Receipt}
 use Rattle.kept_desk.specs.Kept.{InHand}
 use Rattle.step_hub.specs.Steps.{AtFront, Allows}
 use Rattle.step_hub.proofs.Beginnings.{prefix_self, prefix_trans}

@@ -14,8 +14,8 @@ use Rattle.http_link.specs.Exchange.{Exchange, ChainBy, Telling}
 use Rattle.http_link.specs.Turns.{exchanges_of}
 use Rattle.http_link.specs.Link.{AreTold, ServesTold}
 use Rattle.link_workers.specs.Port.{Visit, ServesEach}
-use Rattle.kept_entries.specs.Receipts.{last_count}
-use Rattle.kept_entries.specs.Receipts.{Receipt}
+use Rattle.durable_log.specs.Receipts.{last_count}
+use Rattle.durable_log.specs.Receipts.{Receipt}
 use Rattle.kept_desk.specs.Kept.{Sending, sent_ones, sent_but_last, sendings}
 use Rattle.kept_desk.proofs.Sendings.{sent_but_last-next}
 use Rattle.desk_serve.specs.KeptPorts.{HasCause, all_sendings}

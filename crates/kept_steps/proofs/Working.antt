@@ -15,8 +15,8 @@ use Rattle.link_workers.specs.declared.outcome.Outcome.TheVariants.{Served, Fail
 use Rattle.link_workers.specs.Port.{ServesPort}
 use Rattle.link_workers.specs.Seats.{seated, sessions_of, ports_of}
 use Rattle.link_workers.specs.Workers.{AllWork}
-use Rattle.kept_entries.specs.Receipts.{AreKept}
-use Rattle.kept_entries.specs.Receipts.{Receipt}
+use Rattle.durable_log.specs.Receipts.{AreKept}
+use Rattle.durable_log.specs.Receipts.{Receipt}
 use Rattle.kept_serve.specs.Ports.{EndsSo}
 use Rattle.desk_serve.specs.KeptPorts.{all_sendings}
 use Rattle.kept_steps.specs.Kept.{AtKeptFront, at_kept_front, Tells, shows_kept, Withholds, AllowsKept}

@@ -6,8 +6,8 @@ use Rattle.http_wire.specs.declared.message.Message.{Message}
 use Rattle.http_link.specs.declared.desk.Reply.{Reply}
 use Rattle.http_link.specs.declared.desk.Withheld.{Withheld}
 use Rattle.http_link.specs.declared.desk.Withheld.TheVariants.{Failed, Memory}
-use Rattle.kept_entries.specs.Receipts.{last_count}
-use Rattle.kept_entries.specs.Receipts.{Receipt}
+use Rattle.durable_log.specs.Receipts.{last_count}
+use Rattle.durable_log.specs.Receipts.{Receipt}
 use Rattle.kept_desk.specs.Kept.{InHand}
 use Rattle.step_hub.specs.Steps.{AtFront, at_front, Allows}
 

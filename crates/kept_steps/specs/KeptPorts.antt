@@ -14,9 +14,9 @@ use Rattle.http_link.specs.Link.{ServesTold}
 use Rattle.link_workers.specs.Port.{Visit, ServesPort}
 use Rattle.link_workers.specs.declared.outcome.Outcome.{Outcome}
 use Rattle.link_workers.specs.declared.outcome.Outcome.TheVariants.{Served, Failed, Unkept, LacksMemory}
-use Rattle.kept_entries.specs.Held.{LeavesAll}
-use Rattle.kept_entries.specs.Receipts.{last_count, AreKept}
-use Rattle.kept_entries.specs.Receipts.{Receipt}
+use Rattle.durable_log.specs.Held.{LeavesAll}
+use Rattle.durable_log.specs.Receipts.{last_count, AreKept}
+use Rattle.durable_log.specs.Receipts.{Receipt}
 use Rattle.kept_desk.specs.Kept.{Sending}
 use Rattle.desk_serve.specs.KeptPorts.{HasCause, all_sendings}
 use Rattle.step_hub.specs.ServePorts.{IsStepOf}

@@ -3,15 +3,15 @@ ghost use Rattle.std.specs.Prelude.{◌≡◌, ◌≤◌, ◌∷◌, [], true, O
 ghost use Rattle.http_link.specs.declared.desk.Withheld.{Withheld};
 ghost use Rattle.http_link.specs.Desk.{showing};
 ghost use mathlib.Core.List.{IsPrefix};
-ghost use Rattle.kept_entries.specs.Receipts.{last_count};
+ghost use Rattle.durable_log.specs.Receipts.{last_count};
 ghost use Rattle.kept_steps.specs.Kept.{kept_front};
 
 use crate::source::Source;
+use durable_log::{Lines, Receipt};
 use http_link::{Desk, Reply, Withheld};
 use http_wire::Message;
 use journal_file::Device;
 use kept_desk::{Keeper, keep_from};
-use kept_entries::{Lines, Receipt};
 use osm_base::Memory;
 use osm_outside::{Outside, Witness};
 use shared_front::{Front, HubName};

@@ -2,7 +2,7 @@
 //! file before the reply is sent.
 //!
 //! It puts together what stands below for any value with a list (step_hub) and for any list in a file
-//! (kept_entries, kept_desk), and knows nothing of maps and pieces either.
+//! (durable_log, kept_desk), and knows nothing of maps and pieces either.
 #![tactic(auto)]
 
 mod desk;

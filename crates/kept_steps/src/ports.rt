@@ -9,10 +9,10 @@ ghost use Rattle.kept_steps.specs.Kept.{AtKeptFront, at_kept_front};
 ghost use Rattle.kept_steps.specs.KeptPorts.{HaveKept};
 
 use crate::desk::KeptStepDesk;
+use durable_log::{Board, Lines, Receipt, Shelf};
 use http_link::Desk;
 use journal_file::Device;
 use kept_desk::Keeper;
-use kept_entries::{Board, Lines, Receipt, Shelf};
 use link_workers::{DeskService, Worker, any_failed, seat_all, serve_all, unseat_all};
 use osm_base::{Memory, PIECE_LIMIT};
 use osm_outside::{Port, PortOutside};

@@ -1,13 +1,13 @@
 //! Serving ports over one list that is kept in a file.
 ghost use Rattle.std.specs.Prelude.{◌≡◌, true, length, map, vec_len, IsTrue};
 ghost use Rattle.kept_serve.specs.Ports.{EndsSo};
-ghost use Rattle.kept_entries.specs.Held.{HoldsFrom};
-ghost use Rattle.kept_entries.specs.Receipts.{Receipt};
+ghost use Rattle.durable_log.specs.Held.{HoldsFrom};
+ghost use Rattle.durable_log.specs.Receipts.{Receipt};
 ghost use Rattle.kept_steps.specs.KeptPorts.{AreMatched, ServesKeptPorts};
 
 use crate::ports::{KeptBack, KeptDesks, serve_by};
+use durable_log::{Board, Lines, Receipt, Shelf, Told, receipts_stay};
 use journal_file::{Device, JournalFile};
-use kept_entries::{Board, Lines, Receipt, Shelf, Told, receipts_stay};
 use kept_serve::{are_given, ended, leave_shelf, shelve};
 use link_workers::Outcome;
 use osm_outside::{Port, PortOutside};

@@ -1,5 +1,5 @@
 //! The list under the lock, as the source of the entries that a file lacks.
-use kept_entries::Behind;
+use durable_log::Behind;
 use osm_base::Memory;
 use shared_front::{Front, HubName};
 use std::alloc::Global;

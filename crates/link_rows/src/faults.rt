@@ -4,7 +4,7 @@ use http_link::{LinkEnd, serve_desk};
 use http_wire::WireEnd;
 use osm_base::{BODY_LIMIT, Bytes, Memory};
 use osm_outside::{BadSink, MemLink};
-use row_tally::Tally;
+use row_lines::Tally;
 use std::alloc::Global;
 
 /// Three requests of nineteen bytes each.

@@ -4,7 +4,7 @@ use journal_host::Journals;
 use osm_base::{Bytes, Memory};
 use osm_outside::{Host, HostFault};
 use osm_real::{FileHost, FileJournals, Stop};
-use row_tally::Tally;
+use row_lines::Tally;
 use std::{env, fs, io, process};
 
 const HEADER: &[u8] = b"osm-journal 2\n";

@@ -14,7 +14,7 @@ mod wire;
 
 use osm_base::{Bytes, Memory};
 use osm_outside::MemLink;
-use row_tally::Tally;
+use row_lines::Tally;
 use std::alloc::Global;
 use std::io;
 use std::process::ExitCode;

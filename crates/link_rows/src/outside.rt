@@ -2,7 +2,7 @@
 use crate::memory_link;
 use osm_base::{Bytes, Memory};
 use osm_outside::{Host, HostFault, MemHost, MemLink, Sink, Source};
-use row_tally::Tally;
+use row_lines::Tally;
 use std::alloc::Global;
 
 fn gives_and_takes(link: &mut MemLink) -> bool {

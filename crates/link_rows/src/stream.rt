@@ -7,7 +7,7 @@ use http_link::{LinkEnd, serve_desk};
 use osm_base::{BODY_LIMIT, Memory};
 use osm_outside::{Clock, Outside, Sink, Source};
 use osm_real::StreamLink;
-use row_tally::Tally;
+use row_lines::Tally;
 use std::alloc::Global;
 use std::io;
 use std::io::{ErrorKind, Read, Write};

@@ -4,7 +4,7 @@ use crate::{link_of, memory_link};
 use http_link::{LinkEnd, serve_desk};
 use http_wire::WireEnd;
 use osm_base::{BODY_LIMIT, Memory, PIECE_LIMIT};
-use row_tally::Tally;
+use row_lines::Tally;
 use std::alloc::Global;
 
 /// What must come of a link: its end, and what it wrote and left, where that is compared.

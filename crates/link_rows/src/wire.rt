@@ -3,7 +3,7 @@ use crate::memory_link;
 use http_wire::{Message, Wire, WireEnd, write_reply};
 use osm_base::{BODY_LIMIT, Bytes, Memory};
 use osm_outside::MemLink;
-use row_tally::Tally;
+use row_lines::Tally;
 use std::alloc::Global;
 
 /// A link with this input, which comes in pieces of at most three bytes at first.

@@ -4,6 +4,7 @@ use crate::notes::{Notes, Told, is_wanted, point_of};
 use crate::rows::{Phase, Step};
 use api_desk::{HubDesk, MapHub, MapSession};
 use http_link::{Desk, Reply};
+use http_wire::whole_message;
 use osm_base::{Bytes, SESSION_LIMIT};
 use route_table::Routes;
 use row_lines::{RowFault, number};
@@ -12,7 +13,6 @@ use shared_front::HubName;
 use std::alloc::Global;
 use std::sync::Wait;
 use user_table::UserTable;
-use whole_messages::whole_message;
 use workload::requests;
 
 /// The moment of each request, in seconds since 1970: 2023-11-14T22:13:20Z.

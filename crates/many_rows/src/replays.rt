@@ -3,6 +3,7 @@ use crate::jobs::MOMENT;
 use crate::notes::Told;
 use api_desk::OneDesk;
 use http_link::Desk;
+use http_wire::whole_message;
 use hub_core::Book;
 use journal_text::entry_line;
 use map_machine::MapMachine;
@@ -10,7 +11,6 @@ use osm_base::Memory;
 use osm_model::Entry;
 use std::alloc::Global;
 use user_table::UserTable;
-use whole_messages::whole_message;
 
 /// Whether the desk answers a request as its session was told, and has as many entries before and
 /// after as the session's place says.

@@ -2,7 +2,7 @@
 use Rattle.std.specs.Prelude.{ℕ, List}
 use Rattle.osm_outside.specs.Port.{PortTold}
 use Rattle.journal_text.specs.Text.{text_of}
-use Rattle.kept_run.specs.Run.{Serving}
+use Rattle.recovered_start.specs.Run.{Serving}
 use Rattle.kept_steps.specs.KeptPorts.{ServesKeptPorts}
 use Rattle.osm_model.specs.Journal.{IsLegal}
 use Rattle.osm_model.specs.declared.commands.Entry.{Entry}

@@ -8,7 +8,7 @@ use Rattle.server_frame.specs.Standard.{RunsStandard, IsUnserved}
 use Rattle.server_frame.specs.Listening.{RunsListening}
 use Rattle.mirror_serve.specs.Serve.{ServesMirror}
 use Rattle.mirror_serve.specs.Mirrors.{MirrorsPorts, MirrorsKeptPorts}
-use Rattle.kept_run.specs.Run.{RunsKept, LeavesFiles}
+use Rattle.recovered_start.specs.Run.{RunsKept, LeavesFiles}
 use Rattle.journal_text.specs.Line.{IsEntry}
 use Rattle.journal_text.specs.Text.{text_of}
 use Rattle.osm_model.specs.Journal.{IsLegal}

@@ -1,9 +1,9 @@
 //! A mirror whose entries are kept in a file, as what a program runs.
 ghost use Rattle.std.specs.Prelude.{◌≡◌, length, map, vec_len};
 ghost use Rattle.journal_text.specs.Text.{text_of};
-ghost use Rattle.kept_entries.specs.Held.{HoldsFrom};
-ghost use Rattle.kept_text.specs.Judged.{IsJudged};
-ghost use Rattle.kept_text.specs.declared.faults.TextFault.{TextFault};
+ghost use Rattle.durable_log.specs.Held.{HoldsFrom};
+ghost use Rattle.journal_recovery.specs.Judged.{IsJudged};
+ghost use Rattle.journal_recovery.specs.declared.faults.TextFault.{TextFault};
 ghost use Rattle.osm_model.specs.Journal.{IsLegal};
 ghost use Rattle.mirror_serve.specs.Mirrors.{MirrorsKeptPorts};
 ghost use Rattle.mirror_serve.specs.Run.{RunsListenKept};
@@ -13,12 +13,12 @@ use entry_file::{EntryLines, keep_all};
 use journal_file::{Device, JournalFile};
 use journal_follower::Follower;
 use journal_host::Journals;
-use kept_run::{Begun, KeptJournal, begin_kept};
-use kept_text::{EntryJudge, TextFault};
+use journal_recovery::{EntryJudge, TextFault};
 use link_workers::Outcome;
 use map_machine::BookKeeper;
 use osm_model::Entry;
 use osm_outside::{Host, Link, Outside, Port, PortOutside};
+use recovered_start::{Begun, KeptJournal, begin_kept};
 use server_frame::{Listening, close_ports};
 use shared_front::Opened;
 use std::alloc::Global;

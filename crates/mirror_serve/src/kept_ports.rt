@@ -5,10 +5,10 @@ ghost use Rattle.kept_entries.specs.Held.{HoldsFrom};
 ghost use Rattle.mirror_serve.specs.Mirrors.{MirrorsKeptPorts};
 
 use crate::one_mirror::Mirror;
+use durable_log::Receipt;
 use entry_file::EntryLines;
 use journal_file::{Device, JournalFile};
 use journal_follower::Follower;
-use kept_entries::Receipt;
 use kept_steps::{KeptList, serve_kept_ports};
 use link_workers::Outcome;
 use osm_model::Entry;

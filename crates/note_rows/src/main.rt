@@ -9,7 +9,7 @@ mod wanted;
 
 use full::{a_full_note, a_note_with_room};
 use osm_base::Memory;
-use row_tally::Tally;
+use row_lines::Tally;
 use sent::Wish;
 use snapshot_hub::Seats;
 use std::alloc::Global;

@@ -4,6 +4,7 @@ ghost use Rattle.std.specs.Prelude.{◌≡◌};
 use crate::sent::{Wish, request};
 use crate::wanted::body;
 use http_link::{Desk, Reply};
+use http_wire::whole_message;
 use notes_core::NoteEntry;
 use notes_desk::{NotesDesk, NotesHub, NotesSession};
 use osm_base::Memory;
@@ -15,7 +16,6 @@ use std::alloc::Global;
 use std::sync::Wait;
 use std::thread::{Threads, join};
 use user_table::UserTable;
-use whole_messages::whole_message;
 
 /// How many requests each thread sends.
 const REQUESTS: u64 = 100;

@@ -1,1 +1,3 @@
 pub mod Serving
+mod OneLine
+mod WholeEntries

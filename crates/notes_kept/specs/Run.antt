@@ -4,7 +4,7 @@ use Rattle.osm_base.specs.declared.limits.TheConstants.{SESSION_LIMIT}
 use Rattle.osm_outside.specs.Told.{Told}
 use Rattle.osm_outside.specs.Host.{HostTold}
 use Rattle.journal_host.specs.Told.{JournalsTold}
-use Rattle.kept_run.specs.Run.{Serving, RunsKept}
+use Rattle.recovered_start.specs.Run.{Serving, RunsKept}
 use Rattle.kept_serve.specs.Ports.{ServesKeptPorts}
 use Rattle.notes_text.specs.Line.{IsEntry}
 use Rattle.notes_text.specs.Text.{text_of, IsLegal}

@@ -2,11 +2,11 @@
 ghost use Rattle.std.specs.Prelude.{◌≡◌};
 ghost use Rattle.kept_desk.specs.Kept.{kept_by};
 
+use durable_log::{Lines, Receipt};
 use http_link::{Desk, Reply, Withheld};
 use http_wire::Message;
 use journal_file::Device;
 use kept_desk::{Keeper, KeptSession, keep};
-use kept_entries::{Lines, Receipt};
 use notes_core::{NoteEntry, NotesMachine};
 use notes_desk::{NotesDesk, NotesSession};
 use osm_base::Memory;

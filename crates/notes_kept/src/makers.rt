@@ -5,10 +5,10 @@ ghost use Rattle.kept_desk.specs.Kept.{at_kept};
 
 use crate::desk::NotesKeptDesk;
 use desk_serve::serve_kept_link;
+use durable_log::{Board, Lines, Receipt, Shelf};
 use http_link::LinkEnd;
 use journal_file::Device;
 use kept_desk::Keeper;
-use kept_entries::{Board, Lines, Receipt, Shelf};
 use kept_serve::KeptMaker;
 use link_workers::Service;
 use notes_core::{NoteEntry, NotesMachine};

@@ -1,26 +1,26 @@
 //! The server of notes whose journal is kept in a file, as what a program runs.
 ghost use Rattle.std.specs.Prelude.{◌≡◌, ◌<◌, ◌≤◌, [], length, map, take, vec_len};
 ghost use Rattle.osm_base.specs.declared.limits.TheConstants.{SESSION_LIMIT};
-ghost use Rattle.kept_entries.specs.Held.{HoldsFrom};
-ghost use Rattle.kept_text.specs.Judged.{IsFollowed, IsJudged};
-ghost use Rattle.kept_text.specs.declared.faults.TextFault.{TextFault};
+ghost use Rattle.durable_log.specs.Held.{HoldsFrom};
+ghost use Rattle.journal_recovery.specs.Judged.{IsFollowed, IsJudged};
+ghost use Rattle.journal_recovery.specs.declared.faults.TextFault.{TextFault};
 ghost use Rattle.notes_text.specs.Text.{text_of, IsLegal};
 ghost use Rattle.notes_core.specs.Machine.{note_rules};
 ghost use Rattle.snapshot_hub.specs.Closings.{AreSeated};
 ghost use Rattle.notes_kept.specs.Followed.{HasFollowed};
 ghost use Rattle.notes_kept.specs.Run.{RunsServeNotesKept, ServesFrom};
 
+use crate::NoteLines;
 use crate::ports::serve_kept_ports;
 use journal_file::{Device, JournalFile};
 use journal_host::Journals;
-use kept_run::{Begun, KeptJournal, begin_kept};
+use journal_recovery::{EntryJudge, TextFault};
 use kept_serve::{has_seats, seats_for};
-use kept_text::{EntryJudge, TextFault};
 use link_workers::Outcome;
 use machine_law::Machine;
 use notes_core::{NoteEntry, NotesMachine, NotesWorld};
-use notes_file::NoteLines;
 use osm_outside::{Host, Link, Outside, Port, PortOutside};
+use recovered_start::{Begun, KeptJournal, begin_kept};
 use server_frame::{Listening, close_ports};
 use shared_front::Opened;
 use snapshot_hub::{Twins, follow_from, twins_of};

@@ -10,7 +10,7 @@ mod texts;
 use notes_core::NoteEntry;
 use notes_text::{HEADER, lines_behind};
 use osm_base::Memory;
-use row_tally::Tally;
+use row_lines::Tally;
 use std::alloc::{AllocError, Global};
 use std::io;
 use std::process::ExitCode;

@@ -6,7 +6,7 @@ ghost use Rattle.std.specs.Vec.Iter.{into_iter_items};
 ghost use Rattle.osm_words.specs.Words.{reading_of, until_input_ends};
 ghost use Rattle.server_frame.specs.Standard.{IsUnserved};
 ghost use Rattle.server_frame.specs.Words.{lacking_status};
-ghost use Rattle.kept_run.specs.Run.{LeavesFiles};
+ghost use Rattle.recovered_start.specs.Run.{LeavesFiles};
 ghost use Rattle.osm_serve.specs.Run.{Runs};
 
 use journal_host::{Device, Journals};

@@ -1,7 +1,7 @@
 -- What `measure` comes to, from what its calls do.
 use Rattle.std.proofs.Common.{◌≡◌, ℕ, List, Result, Ok, Err, IfOk}
 use Rattle.osm_base.specs.declared.memory.Memory.{Memory}
-use Rattle.load_summary.specs.Summary.{summary}
+use Rattle.workload.specs.Summary.{summary}
 use Rattle.osm_serve.specs.declared.play.Played.{Played}
 use Rattle.osm_serve.specs.Played.{IsPlayed}
 use Rattle.osm_words.specs.declared.words.LoadOptions.{LoadOptions}

@@ -3,7 +3,7 @@ use Rattle.std.proofs.Common.{◌≡◌, ℕ, List, [], Result, Ok, Err, IfOk, l
 use Rattle.osm_base.specs.declared.memory.Memory.{Memory}
 use Rattle.osm_model.specs.declared.commands.Entry.{Entry}
 use Rattle.osm_model.specs.Journal.{IsLegal, replay}
-use Rattle.load_summary.specs.Figures.{figures_of}
+use Rattle.workload.specs.Figures.{figures_of}
 use Rattle.user_table.specs.Users.{Users}
 use Rattle.journal_text.specs.Text.{text_of}
 use Rattle.workload.specs.declared.sent.Sent.{Sent}

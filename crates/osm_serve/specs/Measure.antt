@@ -1,7 +1,7 @@
 -- What `measure` writes.
 use Rattle.std.specs.Prelude.{◌≡◌, ℕ, List}
-use Rattle.load_summary.specs.declared.figures.Run.{Run}
-use Rattle.load_summary.specs.Summary.{summary}
+use Rattle.workload.specs.declared.figures.Run.{Run}
+use Rattle.workload.specs.Summary.{summary}
 use Rattle.osm_serve.specs.declared.play.Played.{Played}
 use Rattle.osm_serve.specs.declared.sending.Replies.{Replies}
 use Rattle.osm_serve.specs.Played.{IsPlayed}

@@ -3,7 +3,7 @@ use Rattle.std.specs.Prelude.{◌≡◌, ℕ, List, [], length, count_by, Option
 use Rattle.osm_model.specs.declared.commands.Entry.{Entry}
 use Rattle.osm_model.specs.Journal.{IsLegal, replay}
 use Rattle.user_table.specs.Users.{Users}
-use Rattle.load_summary.specs.Figures.{figures_of}
+use Rattle.workload.specs.Figures.{figures_of}
 use Rattle.workload.specs.declared.sent.Sent.{Sent}
 use Rattle.workload.specs.Users.{AreUsersOf}
 use Rattle.workload.specs.Request.{requests}

@@ -3,8 +3,8 @@ use Rattle.std.specs.Prelude.{◌≡◌, ℕ, ◌⊎◌, List, length, Ok, Err}
 use Rattle.osm_model.specs.declared.commands.Entry.{Entry}
 use Rattle.osm_model.specs.Journal.{replay}
 use Rattle.osm_outside.specs.Told.{Told}
-use Rattle.load_summary.specs.Figures.{figures_of}
-use Rattle.load_summary.specs.Summary.{replay_summary}
+use Rattle.workload.specs.Figures.{figures_of}
+use Rattle.workload.specs.Summary.{replay_summary}
 use Rattle.journal_text.specs.declared.faults.JournalFault.{JournalFault}
 use Rattle.journal_text.specs.declared.faults.JournalFault.TheVariants.{Long, Header, Line, Illegal, Memory}
 use Rattle.journal_input.specs.Input.{IsRead}

@@ -16,9 +16,9 @@ use Rattle.osm_serve.specs.Measure.{AreLines}
 use Rattle.osm_serve.specs.Export.{IsExport}
 use Rattle.osm_serve.specs.Replay.{Replays}
 use Rattle.osm_serve.specs.Tell.{Tells}
-use Rattle.kept_run.specs.Run.{LeavesFiles}
+use Rattle.recovered_start.specs.Run.{LeavesFiles}
 use Rattle.notes_kept.specs.Run.{RunsServeNotesKept}
-use Rattle.osm_kept.specs.Run.{RunsServeKept}
+use Rattle.map_kept.specs.Run.{RunsServeKept}
 
 -- What serving links of the map comes to is told as for any machine, by the rules of the map and the rows of its desk: a list is sound
 -- where the rules take each of its entries, and where after every entry visible ways and relations refer only to visible elements; each

@@ -7,7 +7,7 @@ use Rattle.http_link.specs.declared.desk.Reply.{Reply}
 use Rattle.user_table.specs.Users.{Users}
 use Rattle.api_desk.specs.Answers.{AnswersAlone}
 use Rattle.workload.specs.declared.sent.Sent.{Sent}
-use Rattle.whole_messages.specs.Messages.{HasNoMessage}
+use Rattle.http_wire.specs.Messages.{HasNoMessage}
 
 -- the moment of every request: 2023-11-14T22:13:20Z
 abbrev pub moment_of_load : ℕ

@@ -6,9 +6,9 @@ ghost use Rattle.osm_serve.specs.Run.{ComesTo};
 
 use crate::serve::run_serve;
 use journal_host::{Device, Journals};
+use map_kept::run_serve_kept;
 use notes_kept::run_serve_notes_kept;
 use notes_serve::run_serve_notes;
-use osm_kept::run_serve_kept;
 use osm_outside::{Host, Link, Outside};
 use server_frame::Listening;
 use std::alloc::Global;

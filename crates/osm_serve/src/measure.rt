@@ -7,12 +7,12 @@ ghost use Rattle.osm_serve.specs.Tell.{Tells};
 use crate::play::run_load;
 use crate::tell::tell;
 use hub_core::Book;
-use load_summary::{Run, summary};
 use map_machine::MapMachine;
 use osm_base::{Memory, Text};
 use osm_outside::{Link, Outside};
 use osm_words::LoadOptions;
 use std::alloc::Global;
+use workload::{Run, summary};
 
 /// The lines of a run of the load over a book that is empty at first.
 fn lines_of(alloc: Global, book: &mut Book<MapMachine>, load: LoadOptions) -> Result<Text, Memory>

@@ -2,7 +2,7 @@
 ghost use Rattle.std.specs.Prelude.{◌≡◌, ◌<◌, ◌≤◌, IfOk, length, []};
 ghost use Rattle.osm_base.specs.declared.limits.TheConstants.{SESSION_LIMIT};
 ghost use Rattle.osm_model.specs.Journal.{IsLegal, replay};
-ghost use Rattle.load_summary.specs.Figures.{figures_of};
+ghost use Rattle.workload.specs.Figures.{figures_of};
 ghost use Rattle.api_desk.specs.Desk.{entries_of, users_of};
 ghost use Rattle.journal_text.specs.Text.{text_of};
 ghost use Rattle.workload.specs.Users.{AreUsersOf};
@@ -14,12 +14,11 @@ use crate::sending::{Replies, send_each};
 use api_desk::OneDesk;
 use hub_core::Book;
 use journal_text::journal_text;
-use load_summary::{Figures, figures_of};
 use map_machine::MapMachine;
 use osm_base::{Bytes, Memory, SESSION_LIMIT};
 use std::alloc::Global;
 use user_table::UserTable;
-use workload::{Load, users_of_load};
+use workload::{Figures, Load, figures_of, users_of_load};
 
 const FIRST_SESSION: u32 = 0;
 

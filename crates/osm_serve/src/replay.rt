@@ -10,11 +10,11 @@ use crate::tell::tell;
 use hub_core::Book;
 use journal_input::{InputFault, read_entries};
 use journal_text::JournalFault;
-use load_summary::{figures_of, replay_summary};
 use map_machine::{BookKeeper, MapMachine};
 use osm_base::{Memory, Text};
 use osm_outside::{Link, Outside};
 use std::alloc::Global;
+use workload::{figures_of, replay_summary};
 
 /// The lines that tell of a book's map.
 fn lines_of(alloc: Global, book: &Book<MapMachine>) -> Result<Text, Memory>

@@ -11,10 +11,9 @@ ghost use Rattle.osm_serve.specs.Played.{AreReplied};
 
 use api_desk::OneDesk;
 use http_link::Desk;
-use http_wire::Message;
+use http_wire::{Message, whole_message};
 use osm_base::Memory;
 use std::alloc::Global;
-use whole_messages::whole_message;
 use workload::{Load, Sent};
 
 /// The moment of every request, in seconds since 1970: 2023-11-14T22:13:20Z.

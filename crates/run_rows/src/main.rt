@@ -11,7 +11,7 @@ mod ports;
 mod replies;
 mod rows;
 
-use row_tally::Tally;
+use row_lines::Tally;
 use rows::Row;
 use std::alloc::Global;
 use std::io;

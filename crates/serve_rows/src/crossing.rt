@@ -16,7 +16,7 @@ use osm_model::Entry;
 use osm_outside::{Link, MemPort, Outside};
 use osm_serve::serve_link;
 use route_table::Routes;
-use row_tally::Tally;
+use row_lines::Tally;
 use session_desk::HasSession;
 use shared_front::HubName;
 use snapshot_hub::Seats;

@@ -12,7 +12,7 @@ use osm_model::{Command, Entry};
 use osm_outside::{BadSink, Link, MemLink, NoGate, Outside};
 use osm_serve::serve_link;
 use route_table::Routes;
-use row_tally::Tally;
+use row_lines::Tally;
 use shared_front::HubName;
 use snapshot_hub::Seats;
 use std::alloc::Global;

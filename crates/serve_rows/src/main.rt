@@ -10,7 +10,7 @@ mod replies;
 mod sockets;
 mod texts;
 
-use row_tally::Tally;
+use row_lines::Tally;
 use std::io;
 use std::process::ExitCode;
 

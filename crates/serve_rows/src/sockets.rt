@@ -5,7 +5,7 @@ use notes_serve::notes_all;
 use osm_base::{Memory, SESSION_LIMIT};
 use osm_real::{ListenPort, Stop};
 use osm_serve::serve_ports;
-use row_tally::Tally;
+use row_lines::Tally;
 use server_frame::Outcome;
 use snapshot_hub::Seats;
 use std::alloc::Global;

@@ -14,8 +14,7 @@ mod tells;
 
 use books::play_book;
 use osm_base::{Memory, Steps};
-use row_lines::RowFault;
-use row_tally::Tally;
+use row_lines::{RowFault, Tally};
 use rows::play_hub;
 use std::alloc::Global;
 use std::io;

@@ -5,7 +5,7 @@ mod links;
 mod numbers;
 mod served;
 
-use row_tally::Tally;
+use row_lines::Tally;
 use std::io;
 use std::process::ExitCode;
 

@@ -6,7 +6,7 @@ use crate::numbers::Numbers;
 use link_workers::Outcome;
 use osm_base::Memory;
 use osm_outside::MemPort;
-use row_tally::Tally;
+use row_lines::Tally;
 use shared_front::Opened;
 use std::alloc::Global;
 use std::marker::Brand;

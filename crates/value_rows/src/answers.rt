@@ -8,7 +8,7 @@ mod results;
 use osm_base::{Memory, Owner, Text};
 use osm_change::Answer;
 use osm_json::{answer_body, answer_status};
-use row_tally::Tally;
+use row_lines::Tally;
 use std::alloc::Global;
 
 fn is_told(alloc: Global, answer: &Answer<'_>, status: u16, text: &str) -> Result<bool, Memory>

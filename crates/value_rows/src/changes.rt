@@ -8,7 +8,7 @@ use diff_result::rows;
 use osm_base::{Items, Kind, Memory, TryCopy};
 use osm_change::{Action, Change, DiffRow, FirstIds, OneOp, Op, OpDone, OpDones, RawOp};
 use osm_element::Content;
-use row_tally::Tally;
+use row_lines::Tally;
 use std::alloc::Global;
 
 /// Two creates, changes of what was made and of node 9, an applied delete and a skipped one.

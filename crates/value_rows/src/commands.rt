@@ -8,7 +8,7 @@ use osm_change::{Answer, Refusal};
 use osm_element::Tags;
 use osm_model::{Command, Entry, State};
 use plain_model::{Journal, plain_act};
-use row_tally::Tally;
+use row_lines::Tally;
 use std::alloc::Global;
 
 const MOMENT: u64 = 1_700_000_000;

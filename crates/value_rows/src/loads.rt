@@ -1,11 +1,10 @@
 //! A generated load, and what is told of it.
 use history_store::Store;
-use load_summary::{Figures, Run, figures_of, replay_summary, summary};
 use osm_base::{Coord, Memory};
-use row_tally::Tally;
+use row_lines::Tally;
 use std::alloc::Global;
 use user_table::{UserTable, UsersFault, Who};
-use workload::{Load, requests, users_text};
+use workload::{Figures, Load, Run, figures_of, replay_summary, requests, summary, users_text};
 
 const CREATION: &[u8] =
     b"PUT /api/0.6/changeset/create HTTP/1.1\r\nAuthorization: Bearer t1\r\n\r\n";

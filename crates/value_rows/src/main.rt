@@ -13,7 +13,7 @@ mod tables;
 mod texts;
 mod values;
 
-use row_tally::Tally;
+use row_lines::Tally;
 use std::io;
 use std::process::ExitCode;
 

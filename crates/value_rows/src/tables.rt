@@ -10,7 +10,7 @@ mod stores;
 mod tiles;
 mod tokens;
 
-use row_tally::Tally;
+use row_lines::Tally;
 use std::alloc::Global;
 
 pub fn play<R: Print>(rt: &R, alloc: Global, tally: &mut Tally) {

@@ -1,7 +1,7 @@
 //! Values that changes are made of: positions, boxes, stamps and tags.
 use crate::labels::labels;
 use osm_base::{Box7, Coord, Memory, Stamp};
-use row_tally::Tally;
+use row_lines::Tally;
 use std::alloc::Global;
 
 /// Latitudes and longitudes, and whether they are a position.

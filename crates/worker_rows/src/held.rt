@@ -3,7 +3,7 @@ use crate::desk::{CountDesk, reply_of};
 use link_workers::{DeskService, Worker, give_back, serve_all};
 use osm_base::{BODY_LIMIT, Bytes, Memory};
 use osm_outside::{Host, HostFault, MemHost, MemLink, MemPort};
-use row_tally::Tally;
+use row_lines::Tally;
 use std::alloc::Global;
 use std::sync::Wait;
 use std::thread::Threads;

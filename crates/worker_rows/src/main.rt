@@ -10,7 +10,7 @@ mod seated;
 mod sockets;
 mod stopping;
 
-use row_tally::Tally;
+use row_lines::Tally;
 use std::io;
 use std::process::ExitCode;
 

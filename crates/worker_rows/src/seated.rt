@@ -4,7 +4,7 @@ use crate::held::port_of;
 use link_workers::{DeskService, any_failed, give_back, seat_all, serve_all, unseat_all};
 use osm_base::{BODY_LIMIT, Bytes, Memory};
 use osm_outside::{Host, MemHost, MemPort};
-use row_tally::Tally;
+use row_lines::Tally;
 use std::alloc::Global;
 use std::sync::Wait;
 use std::thread::Threads;

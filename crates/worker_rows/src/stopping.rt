@@ -4,7 +4,7 @@ use link_workers::{DeskService, Worker, serve_all};
 use osm_base::{BODY_LIMIT, Memory};
 use osm_outside::{Host, Port, Source};
 use osm_real::{FileHost, ListenPort, Stop, ask_at_end};
-use row_tally::Tally;
+use row_lines::Tally;
 use std::io::{Read, Write};
 use std::net::{Net, OpenListener, OpenStream, SocketAddr, TcpListener, TcpStream};
 use std::rt::Clock;

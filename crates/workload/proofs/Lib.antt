@@ -6,3 +6,5 @@ pub mod LeftLemmas
 pub mod UserLemmas
 pub mod TableLemmas
 pub mod OnlyMemory
+pub mod CountLemmas
+pub mod SummaryVectors

@@ -3,3 +3,5 @@ pub mod Upload
 pub mod Request
 pub mod Left
 pub mod Users
+pub mod Figures
+pub mod Summary

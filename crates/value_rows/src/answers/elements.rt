@@ -7,7 +7,7 @@ use crate::labels::labels;
 use osm_base::{Box7, Coord, Items, Key, Kind, Memory, Owner, Stamp, Text};
 use osm_change::{Answer, ElementRow, ElementRows};
 use osm_element::{BoxedItems, Content, Member, Tags, Version};
-use row_tally::Tally;
+use row_lines::Tally;
 use std::alloc::Global;
 
 /// What a version holds.

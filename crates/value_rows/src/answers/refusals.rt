@@ -5,7 +5,7 @@ use super::tells;
 use osm_base::{Kind, Memory, Stamp, Text};
 use osm_change::{Answer, Refusal, Said};
 use osm_element::LocalFault;
-use row_tally::Tally;
+use row_lines::Tally;
 use std::alloc::Global;
 
 fn shows(alloc: Global, fault: Refusal, status: u16, text: &str) -> Result<bool, Memory>

@@ -8,7 +8,7 @@ use osm_base::{Box7, Coord, Items, Kind, Memory, Stamp};
 use osm_change::{Answer, ChangesetRow, DiffRow};
 use osm_element::Tags;
 use osm_json::stamp_text;
-use row_tally::Tally;
+use row_lines::Tally;
 use std::alloc::Global;
 
 /// Moments, and how they are written.

@@ -4,7 +4,7 @@ use super::uploads::{Outcome, Upload, comes_to, uploaded, with_changeset};
 use osm_base::Memory;
 use osm_change::Action;
 use osm_model::State;
-use row_tally::Tally;
+use row_lines::Tally;
 use std::alloc::Global;
 
 /// An upload, what it must come to, and the area of its changeset's box after it, where there is a box.

@@ -6,7 +6,7 @@ use changeset_core::Work;
 use osm_base::{Key, Kind, Memory, Stamp};
 use osm_change::Action;
 use osm_model::State;
-use row_tally::Tally;
+use row_lines::Tally;
 use std::alloc::Global;
 
 /// When a changeset is created, from when on it may grow large, and how many changes it may make.

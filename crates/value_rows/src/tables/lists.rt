@@ -1,6 +1,6 @@
 //! Lists, and lists with promised room.
 use osm_base::{Ids, Items, Key, Kind, Memory, Roomy, TryCopy};
-use row_tally::Tally;
+use row_lines::Tally;
 use std::alloc::Global;
 
 fn an_item_is_changed_in_its_place(alloc: Global) -> Result<bool, Memory> {

@@ -1,7 +1,7 @@
 //! The parameters of targets.
 use osm_base::Memory;
 use route_table::parameter;
-use row_tally::Tally;
+use row_lines::Tally;
 use std::alloc::Global;
 
 /// Targets, and the value of `closed` in each.

@@ -1,7 +1,7 @@
 //! The parameter `at` of the routes that have one.
 use osm_base::Memory;
 use route_table::{Call, RouteFault, Routes};
-use row_tally::Tally;
+use row_lines::Tally;
 use std::alloc::Global;
 
 /// What a request line must come to: a read with this stamp, or the refusal of the parameter with

@@ -1,6 +1,6 @@
 //! Nodes by cell, under promised room.
 use osm_base::{Box7, Coord, Memory};
-use row_tally::Tally;
+use row_lines::Tally;
 use std::alloc::Global;
 use tile_grid::Grid;
 

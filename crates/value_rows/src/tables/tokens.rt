@@ -1,6 +1,6 @@
 //! Users texts and Authorization fields.
 use osm_base::Memory;
-use row_tally::Tally;
+use row_lines::Tally;
 use std::alloc::Global;
 use user_table::{UserTable, UsersFault, Who};
 

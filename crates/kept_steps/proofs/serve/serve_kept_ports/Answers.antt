@@ -1,8 +1,8 @@
 use Rattle.std.proofs.Common.{◌≡◌, ◌+◌, ◌<◌, List, length, map, sym, ap, ◌∙◌, subst}
 use mathlib.Core.List.{IsPrefix}
 use Rattle.std.specs.List.{sum_by}
-use Rattle.kept_entries.specs.Receipts.{AreKept}
-use Rattle.kept_entries.specs.Receipts.{Receipt}
+use Rattle.durable_log.specs.Receipts.{AreKept}
+use Rattle.durable_log.specs.Receipts.{Receipt}
 use Rattle.kept_steps.specs.KeptPorts.{HaveKept, AreMatched}
 use Rattle.kept_steps.proofs.Working.{ports_kept}
 use Rattle.kept_steps.proofs.serve.serve_kept_ports.Goals as goal

@@ -3,7 +3,7 @@ use Rattle.std.specs.Prelude.{⊤}
 use Rattle.journal_text.specs.Line.{IsEntry}
 use Rattle.journal_text.specs.Text.{text_of}
 use Rattle.osm_model.specs.Journal.{IsLegal}
-use Rattle.kept_run.proofs.Runs.{served}
+use Rattle.recovered_start.proofs.Runs.{served}
 use Rattle.mirror_serve.specs.Mirrors.{MirrorsKeptPorts}
 use Rattle.mirror_serve.proofs.kept_mirror.run_listen_kept.Goals as goal
 

@@ -2,7 +2,7 @@ use Rattle.std.proofs.Common.{◌≡◌, ℕ, ◌<◌, List, length, map, take, 
 use Rattle.std.proofs.lemmas.List.{length-map}
 use Rattle.notes_core.specs.Machine.{note_rules}
 use Rattle.notes_desk.specs.Desk.{note_row}
-use Rattle.kept_entries.specs.Receipts.{AreKept}
+use Rattle.durable_log.specs.Receipts.{AreKept}
 use Rattle.snapshot_hub.specs.Closed.{HasClosed}
 use Rattle.kept_serve.proofs.Begun.{front_of_first, first_had, kept_ports}
 use Rattle.notes_kept.proofs.Serving.{kept_chain, kept_longer}

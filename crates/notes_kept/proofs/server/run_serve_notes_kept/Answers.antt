@@ -4,7 +4,7 @@ use Rattle.notes_text.specs.Line.{IsEntry}
 use Rattle.notes_text.specs.Text.{text_of, IsLegal}
 use Rattle.notes_core.specs.Machine.{note_rules}
 use Rattle.snapshot_hub.specs.Closings.{AreSeated}
-use Rattle.kept_run.proofs.Runs.{served}
+use Rattle.recovered_start.proofs.Runs.{served}
 use Rattle.notes_kept.specs.Run.{ServesFrom}
 use Rattle.notes_kept.proofs.server.run_serve_notes_kept.Goals as goal
 

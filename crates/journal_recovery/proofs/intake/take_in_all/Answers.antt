@@ -1,0 +1,54 @@
+use Rattle.journal_recovery.proofs.InParts.{only}
+use Rattle.journal_recovery.proofs.TakenIn.{at_end, at_journal, no_part, no_rest, read_part, read_rest, typed_all}
+use Rattle.journal_recovery.proofs.intake.take_in_all.Goals as goal
+
+pub returns-in_err-intake : goal.returns-in_err-intake
+returns-in_err-intake g c =
+    let law = c.text_law.ensures in
+    let text = c.args.text.now in
+    let so_far = c.loop-part.invariant in
+    at_end g.T.Lines.lines g.T.KeptText.is_entry g.S.EntryJudge.is_legal g.S.EntryJudge.entries text c.from_residual.result c.in_err-intake.field-0.0
+    c.from_residual.ensures.1
+    (λ told.
+    no_part g.T.KeptText.line g.T.Lines.lines g.T.KeptText.is_entry law.none law.first law.one law.tell g.S.EntryJudge.is_legal
+    text c.loop-part.rest.now c.in-Some.part.now c.in-Some.behind.now c.loop-part.intake.entries.items so_far.0 so_far.1 c.in-Some.ensures
+    (c.in_err-intake.ensures told))
+
+pub loop-part-preserved : goal.loop-part-preserved
+loop-part-preserved g c =
+    let law = c.text_law.ensures in
+    let part = c.in-Some.part.now in
+    let es = c.loop-part.intake.entries.items in
+    let all = c.in_ok-intake.intake.entries.items in
+    let so_far = c.loop-part.invariant in
+    let taken = c.in_ok-intake.ensures in (
+      read_part g.T.KeptText.line g.T.Lines.lines g.T.KeptText.is_entry law.none law.first
+          c.args.text.now c.loop-part.rest.now part c.in-Some.behind.now es taken.more all so_far.0 c.in-Some.ensures taken.read taken.entries,
+      typed_all g.T.KeptText.line g.T.Lines.lines g.T.KeptText.is_entry law.none law.first part es taken.more all so_far.1 taken.read taken.entries,
+      taken.so_far,
+    )
+
+pub returns-in_err-intake-2 : goal.returns-in_err-intake-2
+returns-in_err-intake-2 g c =
+    let law = c.text_law.ensures in
+    let text = c.args.text.now in
+    let so_far = c.loop-part.invariant in
+    at_end g.T.Lines.lines g.T.KeptText.is_entry g.S.EntryJudge.is_legal g.S.EntryJudge.entries text c.from_residual-in_err-intake-2.result
+    c.in_err-intake-2.field-0.0 c.from_residual-in_err-intake-2.ensures.1
+    (λ told.
+    no_rest g.T.KeptText.line g.T.Lines.lines g.T.KeptText.is_entry law.none law.first law.one law.tell g.S.EntryJudge.is_legal
+    text c.loop-part.rest.now c.loop-part.intake.entries.items so_far.0 so_far.1 (c.in_err-intake-2.ensures told))
+
+pub returns : goal.returns
+returns g c =
+    let law = c.text_law.ensures in
+    let text = c.args.text.now in
+    let all = c.in_ok-intake-2.intake.entries.items in
+    let so_far = c.loop-part.invariant in
+    let taken = c.in_ok-intake-2.ensures in
+    let are =
+    read_rest g.T.KeptText.line g.T.Lines.lines g.T.KeptText.is_entry law.none law.first
+    text c.loop-part.rest.now c.loop-part.intake.entries.items taken.more all so_far.0 so_far.1 taken.read taken.entries in
+    at_journal g.T.Lines.lines g.T.KeptText.is_entry g.S.EntryJudge.is_legal g.S.EntryJudge.entries text c.judge.result all are
+    (λ es other. only g.T.KeptText.line g.T.Lines.lines g.T.KeptText.is_entry law.none law.first law.one law.tell text all es are other)
+    c.judge.ensures

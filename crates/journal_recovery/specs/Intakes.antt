@@ -1,0 +1,39 @@
+-- Texts that are taken in part by part.
+use Rattle.std.specs.Prelude.{◌≡◌, ℕ, ◌≤◌, ◌⊎◌, List, ◌++◌, length, take, Result, MatchResult}
+use Rattle.journal_recovery.specs.Parts.{AreOf, AreOfNone}
+use Rattle.journal_recovery.specs.declared.faults.TextFault.{TextFault}
+use Rattle.journal_recovery.specs.declared.faults.TextFault.TheVariants.{NoJournal}
+use Rattle.journal_recovery.specs.declared.intake.Intake.{Intake}
+
+-- Both worlds followed the entries before the place.
+pub record IsSoFar {E W : Type 0} (follows : W → List E → Type 0) (intake : Intake E W) : Type 0 where
+  pub within : intake.followed ≤ length intake.entries.items
+  pub first : follows intake.worlds.first (take intake.followed intake.entries.items)
+  pub second : follows intake.worlds.second (take intake.followed intake.entries.items)
+
+-- over the lines of entries, what the fields of an entry allow, and which entries may follow one another
+module _ {E : Type 0} (lines : List E → List ℕ) (is_entry : E → Type 0) (is_legal : List E → Type 0) where
+  -- Behind these entries stand those whose lines the part is.
+  pub record HasTaken {W : Type 0} (follows : W → List E → Type 0) (before : List E) (part : List ℕ) (after : Intake E W) : Type 0 where
+    pub more : List E
+    pub entries : after.entries.items ≡ before ++ more
+    pub read : AreOf lines is_entry part more
+    pub so_far : IsSoFar follows after
+
+  -- the answer has the entries of the part too: there is none where nothing legal begins with the entries before, or the part is the lines of none
+  abbrev pub IsNext : {W : Type 0} → (W → List E → Type 0) → List E → List ℕ → Result (Intake E W) TextFault → Type 0
+  IsNext follows before part result = MatchResult result (HasTaken follows before part)
+      (λ fault. fault ≡ NoJournal → ((more : List E) → is_legal (before ++ more) → ⊥) ⊎ AreOfNone lines is_entry part)
+
+  -- The entries of the journal are those whose lines the text is, and they are legal.
+  pub record HasRead {Y : Type 0} (entries : Y → List E) (text : List ℕ) (journal : Y) : Type 0 where
+    pub read : AreOf lines is_entry text (entries journal)
+    pub legal : is_legal (entries journal)
+
+  -- it is the lines of no legal entries
+  abbrev pub AreOfNoLegal : List ℕ → Type 0
+  AreOfNoLegal text = (es : List E) → AreOf lines is_entry text es → is_legal es → ⊥
+
+  -- the answer is the journal whose text it is: there is none where it is that of no legal entries
+  abbrev pub IsTakenIn : {Y : Type 0} → (Y → List E) → List ℕ → Result Y TextFault → Type 0
+  IsTakenIn entries text result = MatchResult result (HasRead entries text) (λ fault. fault ≡ NoJournal → AreOfNoLegal text)

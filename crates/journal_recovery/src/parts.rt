@@ -1,0 +1,88 @@
+//! Reading the lines of a text, in several threads at once.
+//!
+//! The text is cut behind the byte 10 of a line, so each part has lines of its own, and the entries of
+//! the parts are put together in their order. Nothing is copied.
+ghost use Rattle.std.specs.Prelude.{◌≡◌, ◌++◌, ◌≤◌, length, IfOk, IfSome, OnErr, Err};
+ghost use denote.Param.Send.{IsSync, IsSend};
+ghost use Rattle.journal_recovery.specs.Parts.{IsRead, IsCut};
+ghost use Rattle.journal_recovery.specs.declared.faults.TextFault.{TextFault};
+
+use crate::faults::TextFault;
+use crate::reading::KeptText;
+use osm_base::split_once;
+use std::alloc::Global;
+use std::thread::{Threads, join};
+
+/// A shorter text is read by one thread, in a millisecond or so.
+const SMALL_TEXT: usize = 65_536;
+
+/// Reads the lines of a text, by at most so many threads. Where none can be had, one does it all.
+#[cycle(lines)]
+pub(crate) fn read_lines<R: Threads + Sync, E: Send + Drop, T: KeptText<E> + Send>(
+    rt: &R,
+    alloc: Global,
+    text: &[u8],
+    threads: usize,
+) -> Result<Vec<E>, TextFault>
+    ensures { IsRead T.lines T.is_entry text.now (λ v. v.items) result }
+{
+    T::text_law();
+    if threads < 2 || text.len() < SMALL_TEXT {
+        return read_in_turn::<E, T>(alloc, text);
+    }
+    let Some((front, back)) = cut_behind(text, text.len() / 2) else {
+        return read_in_turn::<E, T>(alloc, text);
+    };
+    let few = threads / 2;
+    let others = threads - few;
+    let read_front = move || -> Result<Vec<E>, TextFault>
+        requires { IsSync R.row × IsSend E.row × IsSend T.row }
+        ensures { IsRead T.lines T.is_entry front.entry.now (λ v. v.items) result }
+    { read_lines::<R, E, T>(rt, alloc, front, few) };
+    let read_back = move || -> Result<Vec<E>, TextFault>
+        requires { IsSync R.row × IsSend E.row × IsSend T.row }
+        ensures { IsRead T.lines T.is_entry back.entry.now (λ v. v.items) result }
+    { read_lines::<R, E, T>(rt, alloc, back, others) };
+    let (first, second) = join(rt, read_front, read_back);
+    let entries = first?;
+    let rest = second?;
+    together(entries, rest)
+}
+
+/// Reads the lines of a text one after another.
+fn read_in_turn<E: Drop, T: KeptText<E>>(alloc: Global, text: &[u8]) -> Result<Vec<E>, TextFault>
+    ensures { IsRead T.lines T.is_entry text.now (λ v. v.items) result }
+{
+    T::text_law();
+    let mut entries = Vec::new(alloc);
+    let mut rest = text;
+    while !rest.is_empty() {
+        let Some((line, behind)) = split_once(rest, b'\n') else {
+            return Err(TextFault::NoJournal);
+        };
+        let entry = T::read_line(alloc, line)?;
+        entries.push(entry)?;
+        rest = behind;
+    }
+    Ok(entries)
+}
+
+/// Cuts a text behind the first byte 10 that stands from this place on, where there is one.
+pub(crate) fn cut_behind(text: &[u8], from: usize) -> Option<(&[u8], &[u8])>
+    requires { from ≤ length text.now }
+    ensures { IfSome result (λ cut. IsCut text.now cut.0.now cut.1.now) }
+{
+    let (_before, rest) = text.split_at(from);
+    let (_line, behind) = split_once(rest, b'\n')?;
+    Some(text.split_at(text.len() - behind.len()))
+}
+
+/// These entries, and behind them the others.
+fn together<E: Drop>(entries: Vec<E>, mut others: Vec<E>) -> Result<Vec<E>, TextFault>
+    ensures ok { IfOk result (λ all. all.items ≡ entries.items ++ others.items) }
+    ensures err { OnErr result (result ≡ Err TextFault.Memory) }
+{
+    let mut all = entries;
+    all.append(&mut others)?;
+    Ok(all)
+}

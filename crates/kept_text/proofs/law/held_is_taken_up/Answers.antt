@@ -1,5 +1,0 @@
-use Rattle.kept_text.proofs.Causes.{held_taken}
-use Rattle.kept_text.proofs.law.held_is_taken_up.Goals as goal
-
-pub returns : goal.returns
-returns g c = held_taken g.T.Lines.text g.T.KeptText.is_entry g.S.EntryJudge.is_legal

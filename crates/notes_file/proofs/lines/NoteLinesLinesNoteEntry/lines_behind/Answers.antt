@@ -1,5 +1,0 @@
-use Rattle.notes_file.proofs.WholeEntries.{are_lines}
-use Rattle.notes_file.proofs.lines.NoteLinesLinesNoteEntry.lines_behind.Goals as goal
-
-pub returns-clause-whole : goal.returns-clause-whole
-returns-clause-whole c = are_lines c.lines_are_plain.ensures.begins c.lines_are_plain.ensures.one c.args.entries.now c.in_ok-longer.ensures.typed

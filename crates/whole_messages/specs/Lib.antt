@@ -1,2 +1,0 @@
-pub mod Unfailing
-pub mod Messages
