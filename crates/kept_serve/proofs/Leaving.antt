@@ -1,7 +1,7 @@
 -- What a file leaves by which nobody was served.
 use Rattle.std.proofs.Common.{◌≡◌, ℕ, ◌≤◌, List, length, sym, ap, subst, append-nil}
 use mathlib.Core.List.{IsPrefix}
-use Rattle.kept_entries.specs.Held.{HoldsFrom, LeavesAll}
+use Rattle.durable_log.specs.Held.{HoldsFrom, LeavesAll}
 
 module _ {E D : Type 0} (text : List E → List ℕ) (moment : D → ℕ) (left_since : D → ℕ → List ℕ → Type 0) where
   -- a device that is as it was, which held all

@@ -1,7 +1,7 @@
 //! Many workers over one mirror whose entries are kept in a file.
 ghost use Rattle.std.specs.Prelude.{◌≡◌, length, map, vec_len};
 ghost use Rattle.journal_text.specs.Text.{text_of};
-ghost use Rattle.kept_entries.specs.Held.{HoldsFrom};
+ghost use Rattle.durable_log.specs.Held.{HoldsFrom};
 ghost use Rattle.mirror_serve.specs.Mirrors.{MirrorsKeptPorts};
 
 use crate::one_mirror::Mirror;
