@@ -23,15 +23,15 @@ module _ (c : ℕ) where
   abbrev cut_by : Bool → ℕ → List ℕ → Cut
   cut_by b n text = cond b (Some (take n text, drop (n + 1) text)) None
 
-  pub record IsCut (text first rest : List ℕ) : Type 0 where
+  pub record CutAt (text first rest : List ℕ) : Type 0 where
     pub within : place text < length text
     pub front : take (place text) text ≡ first
     pub back : drop (place text + 1) text ≡ rest
 
-  pub cut_is : (text first rest : List ℕ) → parted c text ≡ Some (first, rest) → IsCut text first rest
-  cut_is text first rest is = by (nat_lt (place text) (length text)) refl is
+  pub cut_place : (text first rest : List ℕ) → parted c text ≡ Some (first, rest) → CutAt text first rest
+  cut_place text first rest is = by (nat_lt (place text) (length text)) refl is
     where
-      by : (b : Bool) → nat_lt (place text) (length text) ≡ b → cut_by b (place text) text ≡ Some (first, rest) → IsCut text first rest
+      by : (b : Bool) → nat_lt (place text) (length text) ≡ b → cut_by b (place text) text ≡ Some (first, rest) → CutAt text first rest
       by true e same = record {
         within = ltb-true (place text) (length text) e;
         front = ap (λ (o : Cut). (unwrap_or o ([], [])).0) same;
@@ -39,15 +39,15 @@ module _ (c : ℕ) where
       }
       by false e same = absurd (none_some (first, rest) same)
 
-  pub no_cut : (text : List ℕ) → parted c text ≡ None → place text ≡ length text
-  no_cut text is = by (nat_lt (place text) (length text)) refl is
+  pub uncut_place : (text : List ℕ) → parted c text ≡ None → place text ≡ length text
+  uncut_place text is = by (nat_lt (place text) (length text)) refl is
     where
       by : (b : Bool) → nat_lt (place text) (length text) ≡ b → cut_by b (place text) text ≡ None → place text ≡ length text
       by true e same = cc
       by false e same = omega (arith, ltb-false (place text) (length text) e, prefix_len-le-length (λ (x : ℕ). not (is_byte c x)) text)
 
-  cut_at : (text : List ℕ) (n : ℕ) → place text ≡ n → n < length text → parted c text ≡ Some (take n text, drop (n + 1) text)
-  cut_at text n is within =
+  cut_of : (text : List ℕ) (n : ℕ) → place text ≡ n → n < length text → parted c text ≡ Some (take n text, drop (n + 1) text)
+  cut_of text n is within =
       ap (λ (k : ℕ). cut_by (nat_lt k (length text)) k text) is
       ∙ ap (λ (b : Bool). cut_by b n text) (lt-ltb n (length text) within)
 
@@ -68,39 +68,28 @@ module _ (c : ℕ) where
   place_behind xs ys none =
       place-append xs ys ∙ ap (λ (b : Bool). cond b (length xs + place ys) (place xs)) (eq-eqb (place xs) (length xs) none)
 
-  -- more behind it goes to the rest
-  pub cut_with_more : (text first rest more : List ℕ) → parted c text ≡ Some (first, rest) → parted c (text ++ more) ≡ Some (first, rest ++ more)
-  cut_with_more text first rest more is =
-      let cut = cut_is text first rest is in
-      let n = place text in
-      let within : n < length text = cut.within in
-      let longer : n < length (text ++ more) = omega (arith, within, length-append text more) in
-      cut_at (text ++ more) n (place_before text more within) longer
-      ∙ ap (λ (xs : List ℕ). Some (xs, drop (n + 1) (text ++ more))) (take-append-le n text more (omega (arith, within)) ∙ cut.front)
-      ∙ ap (λ (xs : List ℕ). Some (first, xs)) (drop-append-le (n + 1) text more (omega (arith, within)) ∙ ap (λ (xs : List ℕ). xs ++ more) cut.back)
-
   pub cut_shorter : (text first rest : List ℕ) → parted c text ≡ Some (first, rest) → length rest < length text
   cut_shorter text first rest is =
-      let cut = cut_is text first rest is in
+      let cut = cut_place text first rest is in
       omega (arith, cut.within, ap length cut.back, length-drop (place text + 1) text)
 
   -- uncut bytes before it go to the first part
-  pub cut_behind : (begun text first rest : List ℕ) → parted c begun ≡ None → parted c text ≡ Some (first, rest) → parted c (begun ++ text) ≡ Some (begun ++ first, rest)
-  cut_behind begun text first rest none is =
-      let cut = cut_is text first rest is in
+  pub cut_begun : (begun text first rest : List ℕ) → parted c begun ≡ None → parted c text ≡ Some (first, rest) → parted c (begun ++ text) ≡ Some (begun ++ first, rest)
+  cut_begun begun text first rest none is =
+      let cut = cut_place text first rest is in
       let n = place text in
       let within : n < length text = cut.within in
-      let at : place (begun ++ text) ≡ length begun + n = place_behind begun text (no_cut begun none) in
+      let at : place (begun ++ text) ≡ length begun + n = place_behind begun text (uncut_place begun none) in
       let longer : length begun + n < length (begun ++ text) = omega (arith, within, length-append begun text) in
       let next : length begun + n + 1 ≡ length begun + (n + 1) = omega arith in
-      cut_at (begun ++ text) (length begun + n) at longer
+      cut_of (begun ++ text) (length begun + n) at longer
       ∙ ap (λ (xs : List ℕ). Some (xs, drop (length begun + n + 1) (begun ++ text))) (take-append-add begun text n ∙ ap (λ (xs : List ℕ). begun ++ xs) cut.front)
       ∙ ap (λ (xs : List ℕ). Some (begun ++ first, xs)) (ap (λ (k : ℕ). drop k (begun ++ text)) next ∙ drop-append-add begun text (n + 1) ∙ cut.back)
 
   -- two uncut texts
   pub uncut_both : (xs ys : List ℕ) → parted c xs ≡ None → parted c ys ≡ None → parted c (xs ++ ys) ≡ None
   uncut_both xs ys none also =
-      uncut (xs ++ ys) (place_behind xs ys (no_cut xs none) ∙ ap (λ (n : ℕ). length xs + n) (no_cut ys also) ∙ sym (length-append xs ys))
+      uncut (xs ++ ys) (place_behind xs ys (uncut_place xs none) ∙ ap (λ (n : ℕ). length xs + n) (uncut_place ys also) ∙ sym (length-append xs ys))
 
   -- ---- what was cut
 
@@ -126,12 +115,12 @@ module _ (c : ℕ) where
 
   pub cut_text : (text first rest : List ℕ) → parted c text ≡ Some (first, rest) → text ≡ first ++ c ∷ rest
   cut_text text first rest is =
-      let cut = cut_is text first rest is in
+      let cut = cut_place text first rest is in
       rejoined text cut.within ∙ ap (λ (l : List ℕ). l ++ c ∷ drop (place text + 1) text) cut.front ∙ ap (λ (l : List ℕ). first ++ c ∷ l) cut.back
 
   at_once : (more : List ℕ) → parted c (c ∷ more) ≡ Some ([], more)
-  at_once more = cut_at (c ∷ more) 0 (ap (λ (b : Bool). place_by b more) (eq-eqb c c refl)) (omega arith)
+  at_once more = cut_of (c ∷ more) 0 (ap (λ (b : Bool). place_by b more) (eq-eqb c c refl)) (omega arith)
 
   -- an uncut text is cut at such a byte behind it
   pub cut_there : (text more : List ℕ) → position_or_len (is_byte c) text ≡ length text → parted c (text ++ c ∷ more) ≡ Some (text, more)
-  cut_there text more all = cut_behind text (c ∷ more) [] more (uncut text all) (at_once more) ∙ ap (λ (l : List ℕ). Some (l, more)) (append-nil text)
+  cut_there text more all = cut_begun text (c ∷ more) [] more (uncut text all) (at_once more) ∙ ap (λ (l : List ℕ). Some (l, more)) (append-nil text)

@@ -12,7 +12,7 @@ pub enum LineFault {
 
 impl From<Memory> for LineFault {
     ghost use Rattle.std.specs.Prelude.{◌≡◌};
-    ghost use Rattle.notes_text.specs.declared.faults.LineFault.{LineFault};
+    ghost use Rattle.line_text.specs.declared.faults.LineFault.{LineFault};
 
     ghost from_gives = { λ _ fault. fault ≡ LineFault.Memory };
 
@@ -23,7 +23,7 @@ impl From<Memory> for LineFault {
 
 impl From<AllocError> for LineFault {
     ghost use Rattle.std.specs.Prelude.{◌≡◌};
-    ghost use Rattle.notes_text.specs.declared.faults.LineFault.{LineFault};
+    ghost use Rattle.line_text.specs.declared.faults.LineFault.{LineFault};
 
     ghost from_gives = { λ _ fault. fault ≡ LineFault.Memory };
 

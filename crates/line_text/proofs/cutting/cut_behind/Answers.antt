@@ -1,6 +1,6 @@
 use Rattle.std.proofs.Common.{sym}
-use Rattle.journal_recovery.proofs.Cuts.{is_cut}
-use Rattle.journal_recovery.proofs.parts.cut_behind.Goals as goal
+use Rattle.line_text.proofs.Parted.{is_cut}
+use Rattle.line_text.proofs.cutting.cut_behind.Goals as goal
 
 pub returns : goal.returns
 returns c =

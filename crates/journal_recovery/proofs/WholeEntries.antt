@@ -3,11 +3,9 @@ use Rattle.std.proofs.Common.{◌≡◌, ℕ, true, not, List, [], ◌∷◌, �
 use Rattle.std.specs.Prelude.{All, ◌==◌, unwrap_or}
 use Rattle.std.proofs.lemmas.Bool.{and_parts, not-true, cond-false}
 use Rattle.std.proofs.lemmas.List.Elements.{All-head, All-tail}
-use Rattle.osm_json.specs.Again.{is_one_line}
-use Rattle.osm_model.specs.declared.commands.Entry.{Entry}
+use Rattle.line_text.specs.Lines.{lines_of}
+use Rattle.line_text.specs.OneLine.{is_one_line}
 use Rattle.journal_file.specs.Whole.{with_first, whole, ended, AreLines}
-use Rattle.journal_text.specs.Line.{line, IsEntry}
-use Rattle.journal_text.specs.Text.{lines}
 
 ended_line : (xs more : List ℕ) → is_one_line xs ≡ true → ended (xs ++ 10 ∷ more) ≡ Some (xs ++ 10 ∷ whole more)
 ended_line [] more h = refl
@@ -16,8 +14,9 @@ ended_line (x ∷ xs) more h =
     cond-false (x == 10) (Some (x ∷ whole (xs ++ 10 ∷ more))) (with_first x (ended (xs ++ 10 ∷ more))) (not-true (x == 10) p.0)
     ∙ ap (with_first x) (ended_line xs more p.1)
 
-module _ (begins : (e : Entry) → (rest : List ℕ) × (line e ≡ 123 ∷ rest)) (one : (e : Entry) → IsEntry e → is_one_line (line e) ≡ true) where
-  whole_line : (e : Entry) (more : List ℕ) → IsEntry e → whole (line e ++ 10 ∷ more) ≡ line e ++ 10 ∷ whole more
+-- over the line of an entry, which begins with `{`, and what the fields of an entry allow
+module _ {E : Type 0} (line : E → List ℕ) (is_entry : E → Type 0) (begins : (e : E) → (rest : List ℕ) × (line e ≡ 123 ∷ rest)) (one : (e : E) → is_entry e → is_one_line (line e) ≡ true) where
+  whole_line : (e : E) (more : List ℕ) → is_entry e → whole (line e ++ 10 ∷ more) ≡ line e ++ 10 ∷ whole more
   whole_line e more typed =
       let rest = (begins e).0 in
       let is : line e ≡ 123 ∷ rest = (begins e).1 in
@@ -27,7 +26,7 @@ module _ (begins : (e : Entry) → (rest : List ℕ) × (line e ≡ 123 ∷ rest
       ∙ ap (λ (o : Option (List ℕ)). unwrap_or (with_first 123 o) []) (ended_line rest more p.1)
       ∙ ap (λ (l : List ℕ). l ++ 10 ∷ whole more) (sym is)
 
-  pub are_lines : (es : List Entry) → All IsEntry es → AreLines (lines es)
+  pub are_lines : (es : List E) → All is_entry es → AreLines (lines_of line es)
   are_lines [] typed = refl
   are_lines (e ∷ es) typed =
-      whole_line e (lines es) (All-head IsEntry e es typed) ∙ ap (λ (l : List ℕ). line e ++ 10 ∷ l) (are_lines es (All-tail IsEntry e es typed))
+      whole_line e (lines_of line es) (All-head is_entry e es typed) ∙ ap (λ (l : List ℕ). line e ++ 10 ∷ l) (are_lines es (All-tail is_entry e es typed))

@@ -5,8 +5,8 @@ use Rattle.osm_json.specs.Again.{next_as, Draws}
 use Rattle.osm_json.specs.declared.fault.BodyFault.{BodyFault}
 use Rattle.osm_json.specs.declared.fault.BodyFault.TheVariants as bodies
 use Rattle.serde_json.specs.Data.{Data}
-use Rattle.notes_text.specs.Heard.{Hears, heard_of}
-use Rattle.notes_text.specs.Read.{Parsed, ◌>>=◌, key_next, member_next}
+use Rattle.json_line.specs.Heard.{Hears, heard_of}
+use Rattle.json_line.specs.Read.{Parsed, ◌>>=◌, key_next, member_next}
 
 pub hears_value : {X A : Type 0} (view : X → A) (read : Result X BodyFault) (found : Parsed A) (new : List Token) → Draws view read found new → Hears view (heard_of read) found new
 hears_value view (Ok x) found new h = h
