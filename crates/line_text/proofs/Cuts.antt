@@ -1,10 +1,9 @@
 -- A text that is cut at its first such byte, with bytes before it or behind it.
-use Rattle.std.proofs.Common.{◌≡◌, ℕ, suc, ◌+◌, ◌<◌, Bool, true, false, cond, not, List, [], ◌∷◌, ◌++◌, length, take, drop, Option, Some, None, refl, sym, ap, ◌∙◌, append-nil, arith, length-append, length-drop, ne_eqb}
+use Rattle.std.proofs.Common.{◌≡◌, ℕ, suc, ◌+◌, ◌<◌, Bool, true, false, cond, not, List, [], ◌∷◌, ◌++◌, length, take, drop, Option, Some, None, refl, sym, ap, ◌∙◌, append-nil, arith, length-append, length-drop}
 use Rattle.std.specs.Prelude.{nat_lt, unwrap_or, ◌==◌}
 use Rattle.std.specs.List.{position_or_len}
 use Rattle.std.proofs.Math.Seq.{take-append-add, drop-append-add}
 use Rattle.std.proofs.lemmas.Bool.{lt-ltb, le-ltb, ltb-true, ltb-false, eq-eqb, eqb-true}
-use Rattle.std.proofs.lemmas.List.{take-append-le, drop-append-le}
 use Rattle.std.proofs.lemmas.List.Folds.{prefix_len-append}
 use Rattle.std.proofs.lemmas.List.Sums.{prefix_len-le-length}
 use Rattle.osm_base.specs.Parts.{is_byte, parted}
@@ -59,10 +58,6 @@ module _ (c : ℕ) where
   -- the place in a text with another one behind it
   place-append : (xs ys : List ℕ) → place (xs ++ ys) ≡ cond (place xs == length xs) (length xs + place ys) (place xs)
   place-append xs ys = prefix_len-append (λ (x : ℕ). not (is_byte c x)) xs ys
-
-  place_before : (xs ys : List ℕ) → place xs < length xs → place (xs ++ ys) ≡ place xs
-  place_before xs ys within =
-      place-append xs ys ∙ ap (λ (b : Bool). cond b (length xs + place ys) (place xs)) (ne_eqb (place xs) (length xs) (λ e. omega (arith, e, within)))
 
   place_behind : (xs ys : List ℕ) → place xs ≡ length xs → place (xs ++ ys) ≡ length xs + place ys
   place_behind xs ys none =
