@@ -3,7 +3,7 @@ use Rattle.std.proofs.lemmas.Iterator.Adapters.{fact_from_collect, YieldsList-fr
 use Rattle.std.proofs.lemmas.Result.{IfOk-weaker}
 use Rattle.std.specs.Prelude.{vec_len}
 use Rattle.std.specs.Vec.Iter.{into_iter_items}
-use Rattle.server_frame.proofs.words.words_of.Goals as goal
+use Rattle.osm_words.proofs.given.words_of.Goals as goal
 
 pub returns : goal.returns
 returns c =
