@@ -1,13 +1,14 @@
 -- A box that is widened by the places of some elements.
-use Rattle.std.proofs.Common.{◌≡◌, ℕ, ◌+◌, ◌<◌, List, [], ◌∷◌, ◌++◌, length, get_or, take, map, ap, sym, ◌∙◌}
+use Rattle.std.proofs.Common.{◌≡◌, ℕ, ◌+◌, ◌<◌, List, [], ◌∷◌, ◌++◌, length, get_or, take, map, refl, ap, sym, ◌∙◌}
 use Rattle.std.specs.Prelude.{Option, Some, None, filter_map, option_to_list}
 use Rattle.std.proofs.lemmas.List.{map-append, take_more}
 use Rattle.std.proofs.lemmas.List.Elements.{filter_map-append}
 use Rattle.std.proofs.lemmas.List.Sums.{fold-append}
 use Rattle.osm_base.specs.Place.{Area}
 use Rattle.osm_base.specs.declared.keys.Key.{Key}
-use Rattle.osm_element.specs.Elements.{position, position_in, refs, refs_in, refs_of}
+use Rattle.osm_element.specs.Elements.{content_of, position, position_in, refs, refs_in, refs_of}
 use Rattle.osm_element.specs.declared.contents.Content.{Content}
+use Rattle.osm_element.specs.declared.contents.Content.TheVariants.{Node, Way, Relation}
 use Rattle.osm_element.specs.declared.elements.Elements.{Elements}
 use Rattle.changeset_core.specs.Changeset.{new_position, touched_area, widen, widen_all, widen_by}
 
@@ -35,9 +36,28 @@ touched_area-is E k new =
     ∙ widen_by-append E (widen_by E None (k ∷ [])) (refs_of E k) (refs_in new))
 
 -- where there is a new content
-pub touched_area-Some : (E : Elements) (k : Key) (new : Option (Content ℕ)) (content : Content ℕ) (a b c d : Option Area) → new ≡ Some content → a ≡ widen_by E None (k ∷ []) → b ≡ widen_by E a (refs_of E k) → c ≡ widen_by E b (refs content) → d ≡ widen_all c (option_to_list (position_in content)) → d ≡ touched_area E k new
-touched_area-Some E k new content a b c d is first old listed placed =
+pub touched_area-Some : (E : Elements) (k : Key) (new : Option (Content ℕ)) (content : Content ℕ) (a b : Option Area) → new ≡ Some content → a ≡ widen_by E (widen_by E None (k ∷ [])) (refs_of E k) → b ≡ widen_all (widen_by E a (refs content)) (option_to_list (position_in content)) → b ≡ touched_area E k new
+touched_area-Some E k new content a b is old placed =
     placed
-    ∙ ap (λ (x : Option Area). widen_all x (option_to_list (position_in content))) (listed ∙ ap (λ (x : Option Area). widen_by E x (refs content)) (old ∙ ap (λ (x : Option Area). widen_by E x (refs_of E k)) first))
+    ∙ ap (λ (x : Option Area). widen_all (widen_by E x (refs content)) (option_to_list (position_in content))) old
     ∙ sym (touched_area-is E k (Some content))
     ∙ ap (touched_area E k) (sym is)
+
+-- where there is none
+pub touched_area-None : (E : Elements) (k : Key) (new : Option (Content ℕ)) (a : Option Area) → new ≡ None → a ≡ widen_by E (widen_by E None (k ∷ [])) (refs_of E k) → a ≡ touched_area E k new
+touched_area-None E k new a is old =
+    old
+    ∙ sym (touched_area-is E k None)
+    ∙ ap (touched_area E k) (sym is)
+
+-- the place of what an element holds, and the places of what it lists: one of them alone is there
+pub old_area-is : (E : Elements) (k : Key) (held : Option (Content ℕ)) → held ≡ content_of E k → widen_all (widen_by E None (refs_in held)) (option_to_list (new_position held)) ≡ widen_by E (widen_by E None (k ∷ [])) (refs_of E k)
+old_area-is E k held is =
+    one held
+    ∙ ap (λ (h : Option (Content ℕ)). widen_by E (widen_all None (filter_map new_position (h ∷ []))) (refs_in h)) is
+  where
+    one : (h : Option (Content ℕ)) → widen_all (widen_by E None (refs_in h)) (option_to_list (new_position h)) ≡ widen_by E (widen_all None (filter_map new_position (h ∷ []))) (refs_in h)
+    one None = refl
+    one (Some (Node at)) = refl
+    one (Some (Way nodes)) = refl
+    one (Some (Relation members)) = refl

@@ -3,7 +3,7 @@
 //! The box of what a new content touches is found by one function over whatever tells contents and
 //! places (`touched_area` over `Places`, changeset_core): the plain elements do, and the indexed
 //! map does.
-ghost use Rattle.std.specs.Prelude.{◌≡◌, [], ◌∷◌, map, option_to_list};
+ghost use Rattle.std.specs.Prelude.{◌≡◌, [], ◌∷◌, map, None, option_to_list};
 ghost use Rattle.osm_element.specs.Elements.{key, key_of_member, position_in, refs, refs_of};
 ghost use Rattle.changeset_core.specs.Changeset.{touched_area, widen_all, widen_by};
 
@@ -16,11 +16,31 @@ use osm_element::{Content, Member};
 pub fn touched_area<P: Places>(places: &P, key: Key, new: &Option<Content<u64>>) -> Option<Box7>
     ensures { result ≡ touched_area (P.elements places.now) key new.now }
 {
-    let area = with_element(places, None, key);
-    let area = with_old(places, area, key);
+    let area = old_area(places, key);
     match new {
-        Some(new) => with_position(with_listed(places, area, new), new),
+        Some(new) => with_content(places, area, new),
         None => area,
+    }
+}
+
+/// The box of the place of an element, or of those of what it lists. It is looked up once.
+fn old_area<P: Places>(places: &P, key: Key) -> Option<Box7>
+    ensures { result ≡ widen_by (P.elements places.now) (widen_by (P.elements places.now) None (key ∷ [])) (refs_of (P.elements places.now) key) }
+{
+    match places.content_of(key) {
+        Some(content) => with_content(places, None, content),
+        None => None,
+    }
+}
+
+/// The box with the place of a content, or with those of what it lists.
+fn with_content<P: Places>(places: &P, area: Option<Box7>, content: &Content<u64>) -> Option<Box7>
+    ensures { result ≡ widen_all (widen_by (P.elements places.now) area (refs content.now)) (option_to_list (position_in content.now)) }
+{
+    match content {
+        Content::Node(at) => widened(area, *at),
+        Content::Way(nodes) => with_nodes(places, area, nodes.items()),
+        Content::Relation(members) => with_members(places, area, members.items()),
     }
 }
 
@@ -31,27 +51,6 @@ fn with_element<P: Places>(places: &P, area: Option<Box7>, key: Key) -> Option<B
     match places.place_of(key) {
         Some(at) => widened(area, at),
         None => area,
-    }
-}
-
-/// The box with the places of what an element lists.
-fn with_old<P: Places>(places: &P, area: Option<Box7>, key: Key) -> Option<Box7>
-    ensures { result ≡ widen_by (P.elements places.now) area (refs_of (P.elements places.now) key) }
-{
-    match places.content_of(key) {
-        Some(content) => with_listed(places, area, content),
-        None => area,
-    }
-}
-
-/// The box with the places of what a content lists.
-fn with_listed<P: Places>(places: &P, area: Option<Box7>, content: &Content<u64>) -> Option<Box7>
-    ensures { result ≡ widen_by (P.elements places.now) area (refs content.now) }
-{
-    match content {
-        Content::Node(_) => area,
-        Content::Way(nodes) => with_nodes(places, area, nodes.items()),
-        Content::Relation(members) => with_members(places, area, members.items()),
     }
 }
 
@@ -79,14 +78,4 @@ fn with_members<P: Places>(
         area = with_element(places, area, member.key());
     }
     area
-}
-
-/// The box with the new place of a node.
-fn with_position(area: Option<Box7>, content: &Content<u64>) -> Option<Box7>
-    ensures { result ≡ widen_all area (option_to_list (position_in content.now)) }
-{
-    match content {
-        Content::Node(at) => widened(area, *at),
-        _ => area,
-    }
 }

@@ -29,11 +29,24 @@ pub trait Behind<N: HubName, E> {
         ensures becomes { becomes self.old self.new };
 }
 
-/// What is told, and whether somebody has the file written meanwhile.
+/// What is told, and the batch that is being written or that is written next.
 #[derive(Drop)]
 struct Turn<K: HubName> {
     told: Told<K>,
     is_taken: bool,
+    /// Whether that batch has an odd number.
+    is_odd: bool,
+    /// How many entries the file holds once it is written, as soon as that is known.
+    comes_to: Option<u64>,
+}
+
+impl<K: HubName> Turn<K> {
+    /// Whether the batch whose end is to be waited for, for so many entries, has an odd number: that
+    /// which is being written, unless it is known to come to fewer.
+    fn serves_odd(&self, count: u64) -> bool {
+        let next = self.comes_to.is_some_and(|all| all < count);
+        self.is_odd != next
+    }
 }
 
 /// Where receipts are told. One of those who ask has the file written, and all others wait until that
@@ -41,7 +54,8 @@ struct Turn<K: HubName> {
 #[derive(Drop)]
 pub struct Board<K: HubName> {
     turn: Mutex<Turn<K>>,
-    ended: Condvar,
+    even_ended: Condvar,
+    odd_ended: Condvar,
 }
 
 impl<K: HubName> Board<K> {
@@ -50,10 +64,22 @@ impl<K: HubName> Board<K> {
         let turn = Turn {
             told,
             is_taken: false,
+            is_odd: false,
+            comes_to: None,
         };
         Board {
             turn: Mutex::new(turn),
-            ended: Condvar::new(),
+            even_ended: Condvar::new(),
+            odd_ended: Condvar::new(),
+        }
+    }
+
+    /// Where one waits for the end of a batch with an odd number, or with an even one.
+    fn ended(&self, is_odd: bool) -> &Condvar {
+        if is_odd {
+            &self.odd_ended
+        } else {
+            &self.even_ended
         }
     }
 
@@ -62,28 +88,41 @@ impl<K: HubName> Board<K> {
     fn receipts_or_turn<R: Wait>(&self, rt: &R, count: u64) -> Option<Front<K, Receipt>>
         ensures { IfSome result (λ receipts. count ≤ last_count receipts) }
     {
-        let turn = self.turn.lock(rt);
-        let mut turn = self.ended.wait_while(
-            rt,
-            turn,
-            |turn| turn.is_taken && turn.told.count() < count,
-        );
-        if turn.told.count() >= count {
-            return Some(turn.told.receipts());
+        let mut turn = self.turn.lock(rt);
+        for _ in rt.forever() {
+            if turn.told.count() >= count {
+                return Some(turn.told.receipts());
+            }
+            if !turn.is_taken {
+                turn.is_taken = true;
+                return None;
+            }
+            let ended = self.ended(turn.serves_odd(count));
+            turn = ended.wait(rt, turn);
         }
-        turn.is_taken = true;
-        None
+        unreachable!()
     }
 
-    /// Ends the caller's turn, tells what it came to, and wakes all who wait.
+    /// Tells those who come from now on that the file holds so many entries once the caller's turn has
+    /// ended: who needs more isn't woken then.
+    fn comes_to<R: Wait>(&self, rt: &R, all: u64) {
+        self.turn.lock(rt).comes_to = Some(all);
+    }
+
+    /// Ends the caller's turn, tells what it came to, and wakes one of those who wait for the next
+    /// batch, to write it, and all who wait for this one.
     fn end_turn<R: Wait>(&self, rt: &R, told: Option<Told<K>>) {
         let mut turn = self.turn.lock(rt);
+        let was_odd = turn.is_odd;
         turn.is_taken = false;
+        turn.is_odd = !was_odd;
+        turn.comes_to = None;
         if let Some(told) = told {
             turn.told = told;
         }
         drop(turn);
-        self.ended.notify_all();
+        self.ended(!was_odd).notify_one();
+        self.ended(was_odd).notify_all();
     }
 }
 
@@ -94,6 +133,7 @@ fn keep_all<N: HubName, K: HubName, E: Drop, T: Lines<E>, D: Device, B: Behind<N
     rt: &R,
     alloc: Global,
     shelf: &Mutex<Shelf<N, K, E, T, D>>,
+    board: &Board<K>,
     source: &mut B,
     count: u64,
 ) -> Result<Told<K>, KeepFault>
@@ -107,6 +147,7 @@ fn keep_all<N: HubName, K: HubName, E: Drop, T: Lines<E>, D: Device, B: Behind<N
         // The source lacks them, so no file can be made to hold them.
         return Err(KeepFault::Full);
     }
+    board.comes_to(rt, all);
     shelf.keep(alloc, &entries, longer)?;
     Ok(Told::of(shelf.receipts(), all))
 }
@@ -137,7 +178,7 @@ pub fn receipts_for<
         return Ok(receipts);
     }
     // A turn that isn't ended has all others wait for ever, so no way out may stand before its end.
-    match keep_all(rt, alloc, shelf, source, count) {
+    match keep_all(rt, alloc, shelf, board, source, count) {
         Ok(told) => {
             let receipts = told.receipts();
             board.end_turn(rt, Some(told));

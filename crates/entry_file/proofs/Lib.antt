@@ -1,3 +1,1 @@
 mod InTurn
-mod OneLine
-mod WholeEntries

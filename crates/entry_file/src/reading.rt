@@ -1,7 +1,8 @@
 //! How the entries of the map's journal are read again.
 use crate::lines::EntryLines;
 use journal_recovery::{KeptText, TextFault};
-use journal_text::{HEADER, LineFault, lines_are_plain, lines_tell_entries, read_entry};
+use journal_text::{HEADER, lines_are_plain, lines_tell_entries, read_entry};
+use line_text::LineFault;
 use osm_model::Entry;
 use std::alloc::Global;
 

@@ -74,6 +74,20 @@ impl History {
     pub fn promise(&mut self, alloc: Global, more: usize) -> Result<(), Memory>
         ensures { self.new ≡ record self.old { free = self.old.free + (if is_ok result then more else 0) } }
     {
+        match &mut self.place {
+            Place::Empty if more == 1 => {
+                self.place = Place::Awaited;
+                Ok(())
+            }
+            Place::More(versions) => versions.promise(more),
+            _ => self.promise_list(alloc, more),
+        }
+    }
+
+    /// The same, where versions that stand right here may have to go to the heap.
+    fn promise_list(&mut self, alloc: Global, more: usize) -> Result<(), Memory>
+        ensures { self.new ≡ record self.old { free = self.old.free + (if is_ok result then more else 0) } }
+    {
         let place = mem::replace(&mut self.place, Place::Empty);
         let (place, result) = promised(alloc, place, more);
         self.place = place;
@@ -94,8 +108,11 @@ impl History {
         requires { 0 < self.old.free }
         ensures { self.new ≡ record { items = self.old.items ++ version ∷ []; free = self.old.free - 1 } }
     {
-        let place = mem::replace(&mut self.place, Place::Empty);
-        self.place = pushed(place, version);
+        match &mut self.place {
+            Place::More(versions) => versions.push(version),
+            // Room is promised, so that there is no version yet.
+            Place::Empty | Place::Awaited | Place::One(_) => self.place = Place::One(version),
+        }
     }
 
     /// Puts a mark on a version, or takes it off. Version 1 is the first.
@@ -177,20 +194,6 @@ fn released(place: Place, less: usize) -> Place
         }
         Place::Empty | Place::Awaited => Place::Empty,
         Place::One(version) => Place::One(version),
-    }
-}
-
-fn pushed(place: Place, version: Version) -> Place
-    requires { 0 < (row_of place).free }
-    ensures { row_of result ≡ record { items = (row_of place).items ++ version ∷ []; free = (row_of place).free - 1 } }
-{
-    match place {
-        Place::More(mut versions) => {
-            versions.push(version);
-            Place::More(versions)
-        }
-        // Room is promised, so that there is no version yet.
-        Place::Empty | Place::Awaited | Place::One(_) => Place::One(version),
     }
 }
 

@@ -16,7 +16,7 @@ use crate::moves::move_node;
 use crate::promises::{
     forget_places, forget_uses, forget_versions, promise_place, promise_uses, promise_version,
 };
-use crate::usage::{begin_uses, current_content, end_uses};
+use crate::usage::{begin_uses, current_content, end_uses, held_last};
 use changeset_core::{Places, touched_area};
 use history_store::Store;
 use osm_base::{Box7, Coord, Key, Kind, Memory};
@@ -192,8 +192,9 @@ impl IndexedMap {
             → free_at self.old.cells p ≤ free_at self.new.cells p + (if enters p (new_position version.content) then 1 else 0) }
         ensures ever { (a b : Key) → has_used self.old.elements a b ≡ true → has_used self.new.elements a b ≡ true }
     {
-        move_node(&self.store, &mut self.grid, key, &version);
-        end_uses(&self.store, &mut self.users, key, listed);
+        let versions = self.store.history(key);
+        move_node(&self.store, versions, &mut self.grid, key, &version);
+        end_uses(&mut self.users, key, held_last(versions), listed);
         begin_uses(&mut self.users, key, listed);
         self.store.push_version(key, version);
     }

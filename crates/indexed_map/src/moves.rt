@@ -3,10 +3,10 @@
 //! A node that leaves a cell stays behind those that lie there, as one that lay there. So where it
 //! comes back into the cell that it left last, as one does that is made visible again in its place,
 //! it needs no room; and in each cell it stands once for each time that it came from another.
-ghost use Rattle.std.specs.Prelude.{◌≡◌, ◌==◌, ◌&&◌, not, true, None, ℕ, ◌+◌, ◌<◌, ◌≤◌, map, if◌then◌else◌};
+ghost use Rattle.std.specs.Prelude.{◌≡◌, ◌==◌, ◌&&◌, not, true, None, ℕ, ◌+◌, ◌<◌, ◌≤◌, map, length, option_and_then, if◌then◌else◌};
 ghost use Rattle.std.specs.Option.{ForSome};
 ghost use Rattle.osm_base.specs.Place.{Position};
-ghost use Rattle.osm_element.specs.Elements.{next_id, push_version};
+ghost use Rattle.osm_element.specs.Elements.{history, next_id, position_in, push_version, version_in};
 ghost use Rattle.changeset_core.specs.Changeset.{new_position};
 ghost use Rattle.tile_grid.specs.Cell.{cell_of};
 ghost use Rattle.tile_grid.specs.declared.cells.Cell.{Cell};
@@ -14,6 +14,7 @@ ghost use Rattle.tile_grid.specs.Grid.{times, times_ever, free_at, same_cell};
 ghost use Rattle.indexed_map.specs.Ever.{last_place, IsPlacedEver};
 ghost use Rattle.indexed_map.specs.Placed.{lies, enters, share_cell, IsPlaced};
 
+use crate::usage::held_last;
 use history_store::Store;
 use osm_base::{Coord, Key, Kind};
 use osm_element::{Content, Version};
@@ -89,6 +90,16 @@ fn last_place(versions: &[Version]) -> Option<Coord>
     None
 }
 
+/// Where the last of some versions lies, if it has a position.
+fn current_place(versions: &[Version]) -> Option<Coord>
+    ensures { result ≡ option_and_then position_in (option_and_then (λ v. v.content) (version_in versions.now (length versions.now))) }
+{
+    match held_last(versions) {
+        Some(Content::Node(at)) => Some(*at),
+        _ => None,
+    }
+}
+
 /// Where a version places its node.
 fn new_position(version: &Version) -> Option<Coord>
     ensures { result ≡ new_position version.now.content }
@@ -118,8 +129,10 @@ fn are_together(from: Coord, to: Coord) -> bool
 }
 
 /// Moves a node to the cell that its next version asks for, unless it lies there. It comes before
-/// the version is added to the store. Ways and relations lie in no cell of their own.
-pub fn move_node(store: &Store, grid: &mut Grid, key: Key, version: &Version)
+/// the version is added to the store, which has these versions of it so far. Ways and relations lie
+/// in no cell of their own.
+pub fn move_node(store: &Store, versions: &[Version], grid: &mut Grid, key: Key, version: &Version)
+    requires versions { versions.now ≡ history store.now.elements key }
     requires counted { 0 < key.id }
     requires follows { key.id ≤ next_id store.now.elements key.kind }
     requires placed { IsPlaced store.now.elements grid.old }
@@ -131,11 +144,11 @@ pub fn move_node(store: &Store, grid: &mut Grid, key: Key, version: &Version)
     ensures no_more { (p : Position) → free_at grid.new p ≤ free_at grid.old p }
 {
     if key.kind.is(Kind::Node) {
-        let from = store.place_of(key);
+        let from = current_place(versions);
         let to = new_position(version);
         if !share_cell(&from, &to) {
             leave(grid, key.id, from);
-            let last = last_place(store.history(key));
+            let last = last_place(versions);
             arrive(grid, key.id, last, to);
         }
     }

@@ -1,15 +1,15 @@
 //! Uses of elements that begin and end with a version.
-ghost use Rattle.std.specs.Prelude.{◌≡◌, false, ◌+◌, ◌<◌, ◌≤◌, ◌&&◌, ◌||◌, not, if◌then◌else◌, option_copied};
+ghost use Rattle.std.specs.Prelude.{◌≡◌, false, ◌+◌, ◌<◌, ◌≤◌, ◌&&◌, ◌||◌, not, length, if◌then◌else◌, option_copied, option_and_then};
 ghost use Rattle.std.specs.List.{list_any};
 ghost use Rattle.osm_base.specs.Key.{key_eq, lists_key, insert_key, without_key, IsRising};
 ghost use Rattle.osm_base.specs.declared.keys.Key.{Key};
-ghost use Rattle.osm_element.specs.Elements.{key, key_of_member, refs, refs_of, content_of};
+ghost use Rattle.osm_element.specs.Elements.{key, key_of_member, refs, refs_in, content_of, version_in};
 ghost use Rattle.reverse_refs.specs.Users.{users_in, past_in, knows, free_in};
 ghost use Rattle.indexed_map.specs.Indexed.{times_unknown};
 
 use history_store::Store;
 use osm_base::{Key, Kind, is_listed};
-use osm_element::{Content, Member};
+use osm_element::{Content, Member, Version};
 use reverse_refs::{Pair, UserIndex};
 
 /// An element no longer uses another, unless that is still listed. It stays among those that did.
@@ -78,19 +78,29 @@ fn end_uses_in(users: &mut UserIndex, user: Key, content: &Content<u64>, listed:
     }
 }
 
-/// An element no longer uses what it lists now, unless that is still listed.
-pub fn end_uses(store: &Store, users: &mut UserIndex, user: Key, listed: &[Key])
+/// An element no longer uses what it held, if it was visible, unless that is still listed.
+pub fn end_uses(users: &mut UserIndex, user: Key, held: Option<&Content<u64>>, listed: &[Key])
     requires { IsRising listed.now }
     ensures users { (a b : Key)
         → lists_key (users_in users.new b) a
-        ≡ lists_key (users_in users.old b) a && not (lists_key (refs_of store.now.elements user) b && (key_eq user a && not (lists_key listed.now b))) }
+        ≡ lists_key (users_in users.old b) a && not (lists_key (refs_in (option_copied held.entry)) b && (key_eq user a && not (lists_key listed.now b))) }
     ensures past { (a b : Key)
         → lists_key (past_in users.new b) a
-        ≡ lists_key (past_in users.old b) a || (lists_key (users_in users.old b) a && (lists_key (refs_of store.now.elements user) b && (key_eq user a && not (lists_key listed.now b)))) }
+        ≡ lists_key (past_in users.old b) a || (lists_key (users_in users.old b) a && (lists_key (refs_in (option_copied held.entry)) b && (key_eq user a && not (lists_key listed.now b)))) }
     ensures room { (b : Key) → free_in users.new b ≡ free_in users.old b }
 {
-    if let Some(content) = current_content(store, user) {
+    if let Some(content) = held {
         end_uses_in(users, user, content, listed);
+    }
+}
+
+/// What the last of some versions holds, where it isn't a deletion.
+pub fn held_last(versions: &[Version]) -> Option<&Content<u64>>
+    ensures { option_copied result ≡ option_and_then (λ v. v.content) (version_in versions.now (length versions.now)) }
+{
+    match versions.last() {
+        Some(version) => version.content(),
+        None => None,
     }
 }
 
@@ -98,10 +108,7 @@ pub fn end_uses(store: &Store, users: &mut UserIndex, user: Key, listed: &[Key])
 pub fn current_content(store: &Store, key: Key) -> Option<&Content<u64>>
     ensures { option_copied result ≡ content_of store.now.elements key }
 {
-    match store.current(key) {
-        Some(version) => version.content(),
-        None => None,
-    }
+    held_last(store.history(key))
 }
 
 /// One that doesn't use an element comes to use it: again, as one that left it does without room, or

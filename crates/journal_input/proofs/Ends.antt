@@ -24,7 +24,9 @@ use Rattle.journal_input.specs.Gate.{before_gate}
 use Rattle.journal_input.specs.Going.{SoFar, IsFront, Stands, Closes, LinesFail, Fails}
 use Rattle.journal_input.specs.Input.{IsInput, IsOfJournal, IsOfNone, IsInputFault}
 use Rattle.journal_input.specs.Place.{place_of, Sees}
-use Rattle.journal_input.proofs.Gates.{is_one_line, front_of, no_longer_text, uncut_line}
+use Rattle.line_text.specs.OneLine.{is_one_line}
+use Rattle.line_text.proofs.LineCuts.{uncut_line}
+use Rattle.journal_input.proofs.Gates.{front_of, no_longer_text}
 use Rattle.journal_input.proofs.LinesLemmas.{front_is}
 use Rattle.journal_input.proofs.Places.{before_closed, begun_counts, sees_begun, sees_closed}
 use Rattle.journal_input.proofs.Texts.{all_typed, header_counts, text_counts}

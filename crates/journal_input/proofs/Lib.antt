@@ -1,6 +1,5 @@
 mod Received
 mod SoFarLemmas
-mod Cut
 mod Gates
 mod Places
 mod Texts

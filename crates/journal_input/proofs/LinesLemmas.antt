@@ -14,8 +14,9 @@ use Rattle.journal_input.specs.declared.lines.Lines.{Lines}
 use Rattle.journal_input.specs.Gate.{before_gate}
 use Rattle.journal_input.specs.Going.{Closes, LinesFail, Stands}
 use Rattle.journal_input.specs.Place.{has_gate_first}
-use Rattle.journal_input.proofs.Cut.{cut_behind, cut_text, uncut_both}
-use Rattle.journal_input.proofs.Gates.{is_one_line, first_line, line_cut}
+use Rattle.line_text.specs.OneLine.{is_one_line}
+use Rattle.line_text.proofs.Cuts.{cut_begun, uncut_both}
+use Rattle.line_text.proofs.LineCuts.{cut_at, cut_is, first_line}
 use Rattle.journal_input.proofs.Texts.{all_typed, line_counts, lines_count}
 
 -- ---- the first byte of a line
@@ -53,11 +54,11 @@ moved : (front first more : List ℕ) → (front ++ (first ++ 10 ∷ [])) ++ mor
 moved front first more = append_assoc front (first ++ 10 ∷ []) more ∙ ap (λ (l : List ℕ). front ++ l) (append_assoc first (10 ∷ []) more)
 
 whole_line : (begun rest first left : List ℕ) → parted 10 begun ≡ None → parted 10 rest ≡ Some (first, left) → is_one_line (begun ++ first) ≡ true
-whole_line begun rest first left open_line is = first_line (begun ++ rest) (begun ++ first) left (cut_behind 10 begun rest first left open_line is)
+whole_line begun rest first left open_line is = first_line (begun ++ rest) (begun ++ first) left (cut_begun 10 begun rest first left open_line is)
 
 -- a line ends the begun one, whatever follows
 cut : (begun first more : List ℕ) → is_one_line (begun ++ first) ≡ true → parted 10 (begun ++ (first ++ 10 ∷ more)) ≡ Some (begun ++ first, more)
-cut begun first more one = ap (parted 10) (sym (append_assoc begun first (10 ∷ more))) ∙ line_cut (begun ++ first) more one
+cut begun first more one = ap (parted 10) (sym (append_assoc begun first (10 ∷ more))) ∙ cut_at (begun ++ first) more one
 
 module _ (version : Version) where
   reads_at : (text other : List ℕ) (journal : List Entry) (rest left : List ℕ) → text ≡ other → rest ≡ left → Reads version text journal rest → Reads version other journal left
@@ -131,7 +132,7 @@ module _ (version : Version) where
       let before : lines.number ≡ length old + 2 = stands.number in
       record {
         front = front ++ (first ++ 10 ∷ []);
-        is = stands.is ∙ ap (λ (l : List ℕ). front ++ l) (cut_text 10 rest first left is) ∙ sym (moved front first left);
+        is = stands.is ∙ ap (λ (l : List ℕ). front ++ l) (cut_is rest first left is) ∙ sym (moved front first left);
         reads =
             λ more. reads_at (front ++ (first ++ 10 ∷ more)) ((front ++ (first ++ 10 ∷ [])) ++ more) new more (next.begun.items ++ more)
             (sym (moved front first more))
@@ -156,7 +157,7 @@ module _ (version : Version) where
         let begun = lines.begun.items in
         let front = stands.front in
         let behind = 10 ∷ (left ++ more) in
-        let rest_is : rest ≡ first ++ 10 ∷ left = cut_text 10 rest first left is in
+        let rest_is : rest ≡ first ++ 10 ∷ left = cut_is rest first left is in
         let joined : begun ++ rest ≡ (begun ++ first) ++ 10 ∷ left = ap (λ (l : List ℕ). begun ++ l) rest_is ∙ sym (append_assoc begun first (10 ∷ left)) in
         let no_gate : has_gate_first (begun ++ first) ≡ false = front_has_none (begun ++ first) (10 ∷ left) (ap has_gate_first (sym joined) ∙ not_yet begun rest stands.no_gate other) in
         let front_are = front_is bytes journal lines rest stands in

@@ -7,7 +7,8 @@ use Rattle.journal_input.specs.Gate.{before_gate_from, before_gate}
 use Rattle.journal_input.specs.Place.{has_gate_first, place_of, next_place, Sees}
 use Rattle.journal_input.specs.declared.gate.Place.{Place}
 use Rattle.journal_input.specs.declared.gate.Place.TheVariants.{LineStart, InLine, BehindGate}
-use Rattle.journal_input.proofs.Gates.{is_one_line, behind_line}
+use Rattle.line_text.specs.OneLine.{is_one_line}
+use Rattle.journal_input.proofs.Gates.{behind_line}
 
 -- ---- one more byte
 

@@ -11,7 +11,8 @@ use Rattle.journal_text.specs.declared.versions.Version.TheVariants.{One, Two}
 use Rattle.journal_input.specs.Gate.{before_gate, before_gate_from}
 use Rattle.journal_input.specs.Place.{has_gate_first, Sees}
 use Rattle.journal_input.specs.declared.gate.Place.TheVariants.{LineStart, InLine, BehindGate}
-use Rattle.journal_input.proofs.Gates.{is_one_line, behind_line}
+use Rattle.line_text.specs.OneLine.{is_one_line}
+use Rattle.journal_input.proofs.Gates.{behind_line}
 use Rattle.journal_input.proofs.Places.{all_counts, before_closed}
 
 pub all_typed : (version : Version) (es : List Entry) → All (IsEntryIn version) es → All IsEntry es

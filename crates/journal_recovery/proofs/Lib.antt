@@ -1,7 +1,7 @@
 mod Behind
 mod Causes
-mod Cuts
 mod Exits
 mod InParts
 mod Moments
 mod TakenIn
+pub mod WholeEntries

@@ -5,8 +5,10 @@ use Rattle.std.specs.Result.{IsErrAnd}
 use Rattle.std.proofs.lemmas.List.Elements.{All-append}
 use Rattle.journal_recovery.specs.Intakes.{AreOfNoLegal, IsTakenIn}
 use Rattle.journal_recovery.specs.Judged.{IsJudged}
-use Rattle.journal_recovery.specs.OneLine.{is_one_line}
-use Rattle.journal_recovery.specs.Parts.{IsCut, AreOf, AreOfNone}
+use Rattle.line_text.specs.Cut.{IsCut}
+use Rattle.line_text.specs.Lines.{lines_of}
+use Rattle.line_text.specs.OneLine.{is_one_line}
+use Rattle.journal_recovery.specs.Parts.{AreOf, AreOfNone}
 use Rattle.journal_recovery.specs.declared.faults.TextFault.{TextFault}
 use Rattle.journal_recovery.specs.declared.faults.TextFault.TheVariants.{NoJournal}
 use Rattle.journal_recovery.proofs.InParts.{lines-append, goes_on, refused_front}
@@ -21,15 +23,14 @@ shorter text front back cut =
     omega arith
 
 -- over the line of an entry, those of entries, and what the fields of an entry allow
-module _ {E : Type 0} (line : E → List ℕ) (lines : List E → List ℕ) (is_entry : E → Type 0)
-    (no_line : lines [] ≡ []) (first_line : (e : E) (es : List E) → lines (e ∷ es) ≡ line e ++ 10 ∷ lines es) where
+module _ {E : Type 0} (line : E → List ℕ) (lines : List E → List ℕ) (is_entry : E → Type 0) (lines_are : (es : List E) → lines es ≡ lines_of line es) where
   more_lines : (text part behind : List ℕ) (es more all : List E) → text ≡ lines es ++ (part ++ behind) → AreOf lines is_entry part more → all ≡ es ++ more
       → text ≡ lines all ++ behind
   more_lines text part behind es more all is read same =
       is
       ∙ sym (append_assoc (lines es) part behind)
       ∙ ap (λ (l : List ℕ). (lines es ++ l) ++ behind) read.is
-      ∙ ap (λ (l : List ℕ). l ++ behind) (sym (lines-append line lines is_entry no_line first_line es more) ∙ ap lines (sym same))
+      ∙ ap (λ (l : List ℕ). l ++ behind) (sym (lines-append line lines is_entry lines_are es more) ∙ ap lines (sym same))
 
   pub typed_all : (part : List ℕ) (es more all : List E) → All is_entry es → AreOf lines is_entry part more → all ≡ es ++ more → All is_entry all
   typed_all part es more all typed read same = subst (All is_entry) (sym same) (All-append is_entry es more typed read.typed)
@@ -55,7 +56,7 @@ module _ {E : Type 0} (line : E → List ℕ) (lines : List E → List ℕ) (is_
     pub no_rest : (text rest : List ℕ) (es : List E) → text ≡ lines es ++ rest → All is_entry es → ((more : List E) → is_legal (es ++ more) → ⊥) ⊎ AreOfNone lines is_entry rest
         → AreOfNoLegal lines is_entry is_legal text
     no_rest text rest es is typed cause os are legal =
-        let more = goes_on line lines is_entry no_line first_line one tell es os rest typed are.typed (sym is ∙ are.is) in
+        let more = goes_on line lines is_entry lines_are one tell es os rest typed are.typed (sym is ∙ are.is) in
         by cause more.0 more.1 (record { is = more.2; typed = more.3 })
       where
         by : ((more : List E) → is_legal (es ++ more) → ⊥) ⊎ AreOfNone lines is_entry rest → (more : List E) → os ≡ es ++ more → AreOf lines is_entry rest more → ⊥
@@ -69,7 +70,7 @@ module _ {E : Type 0} (line : E → List ℕ) (lines : List E → List ℕ) (is_
       where
         by : ((more : List E) → is_legal (es ++ more) → ⊥) ⊎ AreOfNone lines is_entry part → ((more : List E) → is_legal (es ++ more) → ⊥) ⊎ AreOfNone lines is_entry rest
         by (inl never) = inl never
-        by (inr none) = inr (refused_front line lines is_entry no_line first_line one rest part behind cut none)
+        by (inr none) = inr (refused_front line lines is_entry lines_are one rest part behind cut none)
 
 -- ---- with a fault that is handed on
 

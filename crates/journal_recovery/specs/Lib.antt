@@ -1,6 +1,5 @@
 pub mod Intakes
 pub mod Judged
-pub mod OneLine
 pub mod Parts
 pub mod Restarts
 pub mod TakenUp

@@ -1,13 +1,7 @@
 -- Texts that are read in parts.
-use Rattle.std.specs.Prelude.{◌≡◌, ℕ, List, [], ◌∷◌, ◌++◌, All, Result, MatchResult}
+use Rattle.std.specs.Prelude.{◌≡◌, ℕ, List, All, Result, MatchResult}
 use Rattle.journal_recovery.specs.declared.faults.TextFault.{TextFault}
 use Rattle.journal_recovery.specs.declared.faults.TextFault.TheVariants.{NoJournal}
-
--- The text was cut behind the byte 10 of a line.
-pub record IsCut (text front back : List ℕ) : Type 0 where
-  pub before : List ℕ
-  pub front_is : front ≡ before ++ 10 ∷ []
-  pub is : text ≡ before ++ 10 ∷ back
 
 -- over the lines of entries, and what the fields of an entry allow
 module _ {E : Type 0} (lines : List E → List ℕ) (is_entry : E → Type 0) where

@@ -12,13 +12,6 @@ abbrev pub fault_of : TextFault → RestartFault
 fault_of text_faults.Memory = Memory
 fault_of text_faults.NoJournal = NoJournal
 
--- the status that a fault is
-abbrev pub status_of : RestartFault → ℕ
-status_of Failed = 3
-status_of Memory = 5
-status_of Damaged = 8
-status_of NoJournal = 8
-
 -- every crash from now on leaves a file that stands for this text, by what the file tells: the moments of its device, and what a crash since
 -- one of them may leave
 abbrev pub StandsFor : {F : Type 0} → (F → ℕ) → (F → ℕ → List ℕ → Type 0) → F → List ℕ → Type 0

@@ -2,14 +2,16 @@
 //! next one is read.
 ghost use Rattle.std.specs.Prelude.{◌≡◌, ◌≤◌, List, length, take, IfErr, IfOk, IfSome};
 ghost use Rattle.journal_recovery.specs.Intakes.{IsSoFar, IsNext, IsTakenIn};
-ghost use Rattle.journal_recovery.specs.Parts.{IsCut, IsRead};
+ghost use Rattle.line_text.specs.Cut.{IsCut};
+ghost use Rattle.journal_recovery.specs.Parts.{IsRead};
 ghost use Rattle.journal_recovery.specs.Judged.{IsFollowed, IsJudged};
 ghost use Rattle.journal_recovery.specs.declared.faults.TextFault.{TextFault};
 
 use crate::faults::TextFault;
 use crate::judging::{EntryJudge, Worlds, follow_both};
-use crate::parts::{cut_behind, read_lines};
+use crate::parts::read_lines;
 use crate::reading::KeptText;
+use line_text::cut_behind;
 use std::alloc::Global;
 use std::thread::{Threads, join};
 

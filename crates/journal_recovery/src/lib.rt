@@ -16,4 +16,4 @@ pub use judging::EntryJudge;
 pub use law::held_is_taken_up;
 pub use reading::KeptText;
 pub use restarting::{RestartFault, restart};
-pub use taking_up::take_up;
+pub use taking_up::{Untaken, take_up};

@@ -2,13 +2,14 @@
 //!
 //! The text is cut behind the byte 10 of a line, so each part has lines of its own, and the entries of
 //! the parts are put together in their order. Nothing is copied.
-ghost use Rattle.std.specs.Prelude.{◌≡◌, ◌++◌, ◌≤◌, length, IfOk, IfSome, OnErr, Err};
+ghost use Rattle.std.specs.Prelude.{◌≡◌, ◌++◌, IfOk, OnErr, Err};
 ghost use denote.Param.Send.{IsSync, IsSend};
-ghost use Rattle.journal_recovery.specs.Parts.{IsRead, IsCut};
+ghost use Rattle.journal_recovery.specs.Parts.{IsRead};
 ghost use Rattle.journal_recovery.specs.declared.faults.TextFault.{TextFault};
 
 use crate::faults::TextFault;
 use crate::reading::KeptText;
+use line_text::cut_behind;
 use osm_base::split_once;
 use std::alloc::Global;
 use std::thread::{Threads, join};
@@ -65,16 +66,6 @@ fn read_in_turn<E: Drop, T: KeptText<E>>(alloc: Global, text: &[u8]) -> Result<V
         rest = behind;
     }
     Ok(entries)
-}
-
-/// Cuts a text behind the first byte 10 that stands from this place on, where there is one.
-pub(crate) fn cut_behind(text: &[u8], from: usize) -> Option<(&[u8], &[u8])>
-    requires { from ≤ length text.now }
-    ensures { IfSome result (λ cut. IsCut text.now cut.0.now cut.1.now) }
-{
-    let (_before, rest) = text.split_at(from);
-    let (_line, behind) = split_once(rest, b'\n')?;
-    Some(text.split_at(text.len() - behind.len()))
 }
 
 /// These entries, and behind them the others.

@@ -1,7 +1,8 @@
 //! How the text of a journal is read again.
-ghost use Rattle.std.specs.Prelude.{◌≡◌, true, [], ◌∷◌, ◌++◌, List, IfErr, IfOk};
+ghost use Rattle.std.specs.Prelude.{◌≡◌, true, ◌++◌, List, IfErr, IfOk};
 ghost use Rattle.journal_file.specs.Whole.{IsText};
-ghost use Rattle.journal_recovery.specs.OneLine.{is_one_line};
+ghost use Rattle.line_text.specs.Lines.{lines_of};
+ghost use Rattle.line_text.specs.OneLine.{is_one_line};
 ghost use Rattle.journal_recovery.specs.declared.faults.TextFault.{TextFault};
 
 use crate::faults::TextFault;
@@ -36,8 +37,7 @@ pub trait KeptText<E>: Lines<E> {
     /// another, each ended by byte 10; no byte 10 stands in a line; and a line tells its entry.
     fn text_law()
         ensures begins { (entries : List E) → Self.text entries ≡ header ++ Self.lines entries }
-        ensures none { Self.lines [] ≡ [] }
-        ensures first { (entry : E) (entries : List E) → Self.lines (entry ∷ entries) ≡ line entry ++ 10 ∷ Self.lines entries }
+        ensures lines { (entries : List E) → Self.lines entries ≡ lines_of line entries }
         ensures one { (entry : E) → is_entry entry → is_one_line (line entry) ≡ true }
         ensures tell { (entry other : E) → is_entry entry → is_entry other → line entry ≡ line other → entry ≡ other };
 }

@@ -1,13 +1,11 @@
 -- The tokens of an entry's line are read as that entry.
-use Rattle.std.proofs.Common.{◌≡◌, ℕ, ◌^◌, ◌<◌, Bool, true, false, List, [], ◌∷◌, ◌++◌, length, codes, Option, Some, None, Result, Ok, refl, sym, ap, ◌∙◌, append_assoc, append-nil, arith}
+use Rattle.std.proofs.Common.{◌≡◌, ℕ, ◌^◌, ◌<◌, Bool, true, false, List, [], ◌∷◌, ◌++◌, length, codes, Option, Some, None, Result, Ok, refl, sym, ap, ◌∙◌, append-nil, arith}
 use Rattle.std.specs.Prelude.{if◌then◌else◌}
-use Rattle.std.proofs.lemmas.Bool.{eq-eqb, lt-ltb}
+use Rattle.std.proofs.lemmas.Bool.{eq-eqb}
 use Rattle.std.specs.Str.{bytes_eq}
 use Rattle.json.specs.Token.{Token, begin_object, end_object}
-use Rattle.json.specs.Tree.{members_tokens}
 use Rattle.serde_json.specs.Data.{Data, boolean, string}
 use Rattle.serde_json.specs.Find.{as_bool, as_str}
-use Rattle.serde_json.specs.Written.{members_outline}
 use Rattle.osm_base.specs.declared.keys.Kind.{Kind}
 use Rattle.osm_base.specs.declared.people.User.{User}
 use Rattle.osm_element.specs.Tags.{Tag, KeysRise}
@@ -21,31 +19,15 @@ use Rattle.osm_json.specs.Again.{natural_of, next_as, ops_of}
 use Rattle.osm_json.specs.Reading.{kind_of, tags_of}
 use Rattle.osm_json.specs.Rows.{tags as tags_data}
 use Rattle.osm_json.specs.Sent.{tokens_of}
-use Rattle.osm_json.specs.Shown.{Field, field, field_if, members_of, record_of, natural, kind}
+use Rattle.osm_json.specs.Shown.{Field, field, field_if, natural, kind}
 use Rattle.osm_json.specs.Uploads.{IsChange, change}
 use Rattle.osm_model.specs.declared.commands.Command.{Command}
 use Rattle.osm_model.specs.declared.commands.Command.TheVariants.{CreateChangeset, Retag, CloseChangeset, Upload, Single, MakeRedaction, Redact, Unredact}
 use Rattle.osm_model.specs.declared.commands.Entry.{Entry}
 use Rattle.journal_text.specs.Line.{command_fields, command, user_fields, user, entry_fields, line_data, FitsIfSome, IsCommand, IsEntry}
-use Rattle.journal_text.specs.Read.{Parsed, ◌>>=◌, end_next, key_next, member_next, number_next, optional_next, user_next, built, change_next, one_of, create_next, retag_next, close_next, upload_next, single_next, title_next, redact_next, unredact_next, by_act, command_next, as_session, session_next, entry_next}
-
--- ---- the tokens of an object, with what stands behind it
-
-abbrev onto : List Field → List Token → List Token
-onto [] rest = end_object ∷ rest
-onto (None ∷ fs) rest = onto fs rest
-onto (Some m ∷ fs) rest = Token.key m.0 ∷ (tokens_of m.1 ++ onto fs rest)
-
-fields_onto : (fs : List Field) (rest : List Token) → members_tokens (members_outline (members_of fs)) ++ rest ≡ onto fs rest
-unfolding tokens_of
-fields_onto [] rest = refl
-fields_onto (None ∷ fs) rest = fields_onto fs rest
-fields_onto (Some m ∷ fs) rest =
-    ap (λ ts. Token.key m.0 ∷ ts) (append_assoc (tokens_of m.1) (members_tokens (members_outline (members_of fs))) rest ∙ ap (λ ts. tokens_of m.1 ++ ts) (fields_onto fs rest))
-
-record_onto : (fs : List Field) (rest : List Token) → tokens_of (record_of fs) ++ rest ≡ begin_object ∷ onto fs rest
-unfolding tokens_of record_of
-record_onto fs rest = ap (λ ts. begin_object ∷ ts) (fields_onto fs rest)
+use Rattle.json_line.specs.Read.{Parsed, ◌>>=◌, end_next, key_next, member_next, session_next}
+use Rattle.json_line.proofs.Onto.{onto, record_onto, session_read}
+use Rattle.journal_text.specs.Read.{number_next, optional_next, user_next, built, change_next, one_of, create_next, retag_next, close_next, upload_next, single_next, title_next, redact_next, unredact_next, by_act, command_next, entry_next}
 
 module _
     (natural_law : (n : ℕ) → n < 2 ^ 64 → (rest : List Token) → next_as natural_of (tokens_of (natural n) ++ rest) ≡ Some (n, rest))
@@ -138,11 +120,6 @@ module _
         ∙ ap (λ (o : Parsed Kind). o >>= λ kind ts. member_next (codes "version") natural_of ts >>= λ version ts. Some (Unredact (record { kind = kind; id = key.id }) version, ts)) (kind_law key.kind (onto (field (codes "version") (natural version) ∷ []) rest))
         ∙ ap (λ (o : Parsed ℕ). o >>= λ version ts. Some (Unredact key version, ts)) (natural_law version is.1 (end_object ∷ rest)))
 
-    session_read : (n : ℕ) (rest : List Token) → n < 2 ^ 32 → n < 2 ^ 64 → session_next (Token.key (codes "session") ∷ (tokens_of (natural n) ++ rest)) ≡ Some (n, rest)
-    unfolding session_next
-    session_read n rest small fits =
-        ap (λ (o : Parsed ℕ). o >>= λ n ts. as_session n ts) (natural_law n fits rest) ∙ ap (λ (b : Bool). if b then Some (n, rest) else None) (lt-ltb n (2 ^ 32) small)
-
     pub entry_read : (e : Entry) → IsEntry e → entry_next (tokens_of (line_data e)) ≡ Some (e, [])
     unfolding entry_next line_data
     entry_read e is =
@@ -155,5 +132,5 @@ module _
         ∙ ap (λ (o : Parsed Command). o >>= λ command ts. session_next ts >>= λ session ts. key_next (codes "user") ts >>= λ _ ts. user_next ts >>= λ user ts. end_next ts >>= λ _ ts.
         Some (record { session = session; call = e.call; user = user; stamp = e.stamp; command = command }, ts)) (command_read e.command (onto (field (codes "session") (natural e.session) ∷ field (codes "user") (user e.user) ∷ []) []) is.command)
         ∙ ap (λ (o : Parsed ℕ). o >>= λ session ts. key_next (codes "user") ts >>= λ _ ts. user_next ts >>= λ user ts. end_next ts >>= λ _ ts.
-        Some (record { session = session; call = e.call; user = user; stamp = e.stamp; command = e.command }, ts)) (session_read e.session (onto (field (codes "user") (user e.user) ∷ []) []) is.session fits)
+        Some (record { session = session; call = e.call; user = user; stamp = e.stamp; command = e.command }, ts)) (session_read natural_law e.session (onto (field (codes "user") (user e.user) ∷ []) []) is.session fits)
         ∙ ap (λ (o : Parsed User). o >>= λ user ts. end_next ts >>= λ _ ts. Some (record { session = e.session; call = e.call; user = user; stamp = e.stamp; command = e.command }, ts)) (user_read e.user (end_object ∷ []) is.user is.limit)

@@ -1,5 +1,4 @@
 pub mod Faults
-pub mod Heard
 pub mod Kept
 pub mod Line
 pub mod Lines

@@ -1,8 +1,7 @@
 -- What the tokens of a line are read as, token by token: members in their order, and no other ones.
-use Rattle.std.specs.Prelude.{ℕ, ◌^◌, ◌==◌, nat_lt, List, [], ◌∷◌, length, codes, if◌then◌else◌, Option, Some, None, Result, Ok, Err}
+use Rattle.std.specs.Prelude.{ℕ, ◌==◌, List, [], ◌∷◌, length, codes, if◌then◌else◌, Option, Some, None, Result, Ok, Err}
 use Rattle.std.specs.Str.{bytes_eq}
 use Rattle.json.specs.Token.{Token}
-use Rattle.serde_json.specs.Data.{Data}
 use Rattle.serde_json.specs.Find.{as_bool, as_str}
 use Rattle.osm_base.specs.declared.people.User.{User}
 use Rattle.osm_change.specs.Build.{change_of}
@@ -13,30 +12,7 @@ use Rattle.osm_json.specs.Reading.{kind_of, tags_of}
 use Rattle.osm_model.specs.declared.commands.Command.{Command}
 use Rattle.osm_model.specs.declared.commands.Command.TheVariants.{CreateChangeset, Retag, CloseChangeset, Upload, Single, MakeRedaction, Redact, Unredact}
 use Rattle.osm_model.specs.declared.commands.Entry.{Entry}
-
--- what was read, and the tokens behind it
-abbrev pub Parsed : Type 0 → Type 0
-Parsed A = Option (A × List Token)
-
-infixl 10 ◌>>=◌
-abbrev pub ◌>>=◌ : {A B : Type 0} → Parsed A → (A → List Token → Parsed B) → Parsed B
-None >>= f = None
-(Some p) >>= f = f p.0 p.1
-
-abbrev pub begin_next : List Token → Parsed (Unit {0})
-begin_next (Token.begin_object ∷ ts) = Some (tt, ts)
-begin_next ts = None
-
-abbrev pub end_next : List Token → Parsed (Unit {0})
-end_next (Token.end_object ∷ ts) = Some (tt, ts)
-end_next ts = None
-
-abbrev pub key_next : List ℕ → List Token → Parsed (Unit {0})
-key_next name (Token.key k ∷ ts) = if bytes_eq k name then Some (tt, ts) else None
-key_next name ts = None
-
-abbrev pub member_next : {A : Type 0} → List ℕ → (Data → Option A) → List Token → Parsed A
-member_next name reading ts = key_next name ts >>= λ _ ts. next_as reading ts
+use Rattle.json_line.specs.Read.{Parsed, ◌>>=◌, begin_next, end_next, key_next, member_next, session_next}
 
 -- the name of the member that comes next
 abbrev pub name_next : List Token → Parsed (List ℕ)
@@ -150,12 +126,6 @@ command_next ts =
 
 -- ---- an entry
 
-abbrev pub as_session : ℕ → List Token → Parsed ℕ
-as_session n ts = if nat_lt n (2 ^ 32) then Some (n, ts) else None
-
-unfoldable pub session_next : List Token → Parsed ℕ
-session_next ts = member_next (codes "session") natural_of ts >>= λ n ts. as_session n ts
-
 unfoldable pub entry_next : List Token → Parsed Entry
 entry_next ts =
     begin_next ts >>= λ _ ts.
@@ -168,9 +138,3 @@ entry_next ts =
     user_next ts >>= λ user ts.
     end_next ts >>= λ _ ts.
     Some (record { session = session; call = call; user = user; stamp = stamp; command = command }, ts)
-
--- where nothing follows
-abbrev pub alone : Parsed Entry → Option Entry
-alone None = None
-alone (Some (e, [])) = Some e
-alone (Some (e, t ∷ ts)) = None

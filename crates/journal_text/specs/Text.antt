@@ -2,6 +2,7 @@
 use Rattle.std.specs.Prelude.{◌≡◌, ℕ, ◌≤◌, List, [], ◌∷◌, ◌++◌, length, All, codes}
 use Rattle.osm_model.specs.Journal.{IsLegal}
 use Rattle.osm_model.specs.declared.commands.Entry.{Entry}
+use Rattle.line_text.specs.Lines.{lines_of}
 use Rattle.journal_text.specs.Line.{line}
 use Rattle.journal_text.specs.Version.{IsEntryIn}
 use Rattle.journal_text.specs.declared.limits.TheConstants.{TEXT_LIMIT}
@@ -15,8 +16,7 @@ header Two = codes "osm-journal 2" ++ 10 ∷ []
 
 -- the same in each version
 abbrev pub lines : List Entry → List ℕ
-lines [] = []
-lines (e ∷ es) = line e ++ 10 ∷ lines es
+lines es = lines_of line es
 
 abbrev pub text_in : Version → List Entry → List ℕ
 text_in version es = header version ++ lines es

@@ -2,15 +2,16 @@
 ghost use Rattle.std.specs.Prelude.{◌≡◌, Err, IfOk, OnOk};
 ghost use Rattle.json.specs.Lex.{tokens};
 ghost use Rattle.osm_model.specs.declared.commands.Entry.{Entry};
-ghost use Rattle.journal_text.specs.declared.faults.LineFault.{LineFault};
-ghost use Rattle.journal_text.specs.Heard.{Finds, IsEntryRead};
+ghost use Rattle.line_text.specs.declared.faults.LineFault.{LineFault};
+ghost use Rattle.line_text.specs.Found.{Finds, IsEntryRead};
+ghost use Rattle.json_line.specs.Read.{alone};
 ghost use Rattle.journal_text.specs.Line.{line, IsEntry};
-ghost use Rattle.journal_text.specs.Read.{entry_next, alone};
+ghost use Rattle.journal_text.specs.Read.{entry_next};
 
-use crate::faults::LineFault;
 use crate::line::entry_line;
 use crate::read::entry;
 use json::{Reader, Scratch};
+use line_text::LineFault;
 use osm_change::changes_are_read_again;
 use osm_json::{parts_are_read_again, texts_are_read_again, values_are_read_again};
 use osm_model::Entry;

@@ -1,14 +1,6 @@
-//! What is wrong with a line, and with a whole text.
+//! What is wrong with a text.
 use osm_base::Memory;
-use std::alloc::{AllocError, AllocFailed};
-
-/// Why a line has no entry.
-#[derive(Clone, Copy, PartialEq, Eq)]
-pub enum LineFault {
-    /// It isn't the line of any entry.
-    NotLine,
-    Memory,
-}
+use std::alloc::AllocFailed;
 
 /// Why a text has no journal. `Long` comes first, then `Header`; then the first line with a fault
 /// counts, and in one line `Line` goes before `Illegal`. Lines count from 1, the header included.
@@ -23,28 +15,6 @@ pub enum JournalFault {
     /// The entry may not follow those before it.
     Illegal { line: u64 },
     Memory,
-}
-
-impl From<Memory> for LineFault {
-    ghost use Rattle.std.specs.Prelude.{◌≡◌};
-    ghost use Rattle.journal_text.specs.declared.faults.LineFault.{LineFault};
-
-    ghost from_gives = { λ _ fault. fault ≡ LineFault.Memory };
-
-    fn from(_refused: Memory) -> LineFault {
-        LineFault::Memory
-    }
-}
-
-impl From<AllocError> for LineFault {
-    ghost use Rattle.std.specs.Prelude.{◌≡◌};
-    ghost use Rattle.journal_text.specs.declared.faults.LineFault.{LineFault};
-
-    ghost from_gives = { λ _ fault. fault ≡ LineFault.Memory };
-
-    fn from(_refused: AllocError) -> LineFault {
-        LineFault::Memory
-    }
 }
 
 impl From<Memory> for JournalFault {

@@ -7,10 +7,11 @@ ghost use Rattle.journal_text.specs.Text.{lines, text_of, IsTextOf};
 ghost use Rattle.journal_text.specs.declared.limits.TheConstants.{TEXT_LIMIT};
 
 use crate::entries::read_entry;
-use crate::faults::{JournalFault, LineFault};
+use crate::faults::JournalFault;
 use crate::keepers::Keeper;
 use crate::line::line_behind;
 use crate::versions::{HEADER, Version};
+use line_text::LineFault;
 use osm_base::{Bytes, Memory};
 use osm_model::Entry;
 use std::alloc::Global;

@@ -1,7 +1,7 @@
 //! Laws on texts that are read line by line.
 ghost use Rattle.std.specs.Prelude.{◌≡◌, ◌+◌, ℕ, true, List, [], ◌∷◌, ◌++◌, length, All, None, Some};
 ghost use Rattle.osm_base.specs.Parts.{parted};
-ghost use Rattle.osm_json.specs.Again.{is_one_line};
+ghost use Rattle.line_text.specs.OneLine.{is_one_line};
 ghost use Rattle.osm_model.specs.Journal.{IsLegal};
 ghost use Rattle.osm_model.specs.declared.commands.Entry.{Entry};
 ghost use Rattle.journal_text.specs.Faults.{BeginsWithLine};

@@ -17,7 +17,7 @@ mod versions;
 mod write;
 
 pub use entries::read_entry;
-pub use faults::{JournalFault, LineFault};
+pub use faults::JournalFault;
 pub use journals::{journal_text, lines_behind, read_line};
 pub use keepers::Keeper;
 pub use law::{legal_journals_grow, lines_are_plain, lines_are_read_in_turn, lines_tell_entries};

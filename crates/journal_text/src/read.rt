@@ -4,87 +4,38 @@ ghost use Rattle.serde_json.specs.Find.{as_bool, as_str};
 ghost use Rattle.osm_change.specs.Build.{IsRaw};
 ghost use Rattle.osm_json.specs.Again.{natural_of, next_as, ops_of};
 ghost use Rattle.osm_json.specs.Reading.{kind_of, tags_of};
-ghost use Rattle.journal_text.specs.Heard.{Hears, heard_of};
-ghost use Rattle.journal_text.specs.Read.{◌>>=◌ as bind, begin_next, end_next, key_next, member_next, user_next, change_next, number_next, optional_next, create_next, retag_next, close_next, upload_next, single_next, title_next, redact_next, unredact_next, by_act, command_next, session_next, entry_next};
+ghost use Rattle.json_line.specs.Heard.{Hears};
+ghost use Rattle.json_line.specs.Read.{◌>>=◌ as bind, end_next, key_next, member_next, session_next};
+ghost use Rattle.journal_text.specs.Read.{user_next, change_next, number_next, optional_next, create_next, retag_next, close_next, upload_next, single_next, title_next, redact_next, unredact_next, by_act, command_next, entry_next};
 
-use crate::faults::LineFault;
 use json::{Reader, Token};
+use json_line::{begin, end, heard, key, lent_text, natural, session};
+use line_text::LineFault;
 use osm_base::{Key, Kind, Stamp, Text, User};
 use osm_change::{Cause, Change, OneOp, RawOp};
 use osm_element::Tags;
-use osm_json::{BodyFault, next_change, next_flag, next_kind, next_natural, next_tags, next_text};
+use osm_json::{next_change, next_flag, next_kind, next_natural, next_tags};
 use osm_model::{Command, Entry};
 use std::alloc::Global;
 
-// Tokens.
-
-fn begin(reader: &mut Reader<'_>) -> Result<(), LineFault>
-    ensures { Hears (λ u. u) result (begin_next reader.old) reader.new }
-{
-    match reader.next() {
-        Some(Token::BeginObject) => Ok(()),
-        _ => Err(LineFault::NotLine),
-    }
-}
-
-fn end(reader: &mut Reader<'_>) -> Result<(), LineFault>
-    ensures { Hears (λ u. u) result (end_next reader.old) reader.new }
-{
-    match reader.next() {
-        Some(Token::EndObject) => Ok(()),
-        _ => Err(LineFault::NotLine),
-    }
-}
-
-fn key(reader: &mut Reader<'_>, name: &str) -> Result<(), LineFault>
-    ensures { Hears (λ u. u) result (key_next name.now reader.old) reader.new }
-{
-    match reader.next() {
-        Some(Token::Key(found)) => if found == name {
-            Ok(())
-        } else {
-            Err(LineFault::NotLine)
-        },
-        _ => Err(LineFault::NotLine),
-    }
-}
-
 // Members.
 
-fn heard<T: Drop>(read: Result<T, BodyFault>) -> Result<T, LineFault>
-    ensures { result ≡ heard_of read }
-{
-    match read {
-        Ok(value) => Ok(value),
-        Err(BodyFault::Memory) => Err(LineFault::Memory),
-        Err(BodyFault::NotJson | BodyFault::Shape { .. }) => Err(LineFault::NotLine),
-    }
-}
-
-#[tactic(auto, using(crate::proofs::Hearing::hears))]
-fn natural(reader: &mut Reader<'_>, name: &str) -> Result<u64, LineFault>
-    ensures { Hears (λ n. n) result (member_next name.now natural_of reader.old) reader.new }
-{
-    key(reader, name)?;
-    heard(next_natural(reader))
-}
-
 /// A value whose name was read already.
-#[tactic(auto, using(crate::proofs::Hearing::hears_value))]
+#[tactic(auto, using(json_line::proofs::Hearing::hears_value))]
 fn natural_value(reader: &mut Reader<'_>) -> Result<u64, LineFault>
     ensures { Hears (λ n. n) result (next_as natural_of reader.old) reader.new }
 {
     heard(next_natural(reader))
 }
 
-#[tactic(auto, using(crate::proofs::Hearing::hears_value))]
+#[tactic(auto, using(json_line::proofs::Hearing::hears_value))]
 fn flag_value(reader: &mut Reader<'_>) -> Result<bool, LineFault>
     ensures { Hears (λ b. b) result (next_as as_bool reader.old) reader.new }
 {
     heard(next_flag(reader))
 }
 
-#[tactic(auto, using(crate::proofs::Hearing::hears_value))]
+#[tactic(auto, using(json_line::proofs::Hearing::hears_value))]
 fn tags_value(alloc: Global, reader: &mut Reader<'_>) -> Result<Tags, LineFault>
     ensures { Hears (λ t. t) result (next_as tags_of reader.old) reader.new }
 {
@@ -117,15 +68,7 @@ fn optional(reader: &mut Reader<'_>, name: &str, behind: &str) -> Result<Option<
     }
 }
 
-#[tactic(auto, using(crate::proofs::Hearing::hears))]
-fn text<'a>(reader: &mut Reader<'a>, name: &str) -> Result<&'a str, LineFault>
-    ensures { Hears (λ t. t.now) result (member_next name.now as_str reader.old) reader.new }
-{
-    key(reader, name)?;
-    heard(next_text(reader))
-}
-
-#[tactic(auto, using(crate::proofs::Hearing::hears))]
+#[tactic(auto, using(json_line::proofs::Hearing::hears))]
 fn kind(reader: &mut Reader<'_>) -> Result<Kind, LineFault>
     ensures { Hears (λ k. k) result (member_next (codes "type") kind_of reader.old) reader.new }
 {
@@ -133,7 +76,7 @@ fn kind(reader: &mut Reader<'_>) -> Result<Kind, LineFault>
     heard(next_kind(reader))
 }
 
-#[tactic(auto, using(crate::proofs::Hearing::hears))]
+#[tactic(auto, using(json_line::proofs::Hearing::hears))]
 fn tags(alloc: Global, reader: &mut Reader<'_>) -> Result<Tags, LineFault>
     ensures { Hears (λ t. t) result (member_next (codes "tags") tags_of reader.old) reader.new }
 {
@@ -141,7 +84,7 @@ fn tags(alloc: Global, reader: &mut Reader<'_>) -> Result<Tags, LineFault>
     heard(next_tags(alloc, reader))
 }
 
-#[tactic(auto, using(crate::proofs::Hearing::hears))]
+#[tactic(auto, using(json_line::proofs::Hearing::hears))]
 fn operations(alloc: Global, reader: &mut Reader<'_>) -> Result<Vec<RawOp>, LineFault>
     ensures value { Hears (λ v. v.items) result (member_next (codes "osmChange") ops_of reader.old) reader.new }
     ensures raw { IfOk result (λ v. IsRaw v.items) }
@@ -172,7 +115,7 @@ fn user(alloc: Global, reader: &mut Reader<'_>) -> Result<User, LineFault>
     let id = natural(reader, "id")?;
     let limit = optional(reader, "limit", "moderator")?;
     let moderator = flag_value(reader)?;
-    let name = text(reader, "name")?;
+    let name = lent_text(reader, "name")?;
     end(reader)?;
     let name = Text::of(alloc, name)?;
     Ok(User {
@@ -236,7 +179,7 @@ fn single(alloc: Global, reader: &mut Reader<'_>) -> Result<Command, LineFault>
 fn title(alloc: Global, reader: &mut Reader<'_>) -> Result<Command, LineFault>
     ensures { Hears (λ c. c) result (title_next reader.old) reader.new }
 {
-    let title = text(reader, "title")?;
+    let title = lent_text(reader, "title")?;
     let title = Text::of(alloc, title)?;
     Ok(Command::MakeRedaction { title })
 }
@@ -299,25 +242,13 @@ fn command(alloc: Global, reader: &mut Reader<'_>) -> Result<Command, LineFault>
     ensures { Hears (λ c. c) result (command_next reader.old) reader.new }
 {
     begin(reader)?;
-    let act = text(reader, "act")?;
+    let act = lent_text(reader, "act")?;
     let command = by_act(alloc, reader, act)?;
     end(reader)?;
     Ok(command)
 }
 
 // An entry.
-
-#[tactic(auto, unfolding(crate::specs::Read::session_next))]
-fn session(reader: &mut Reader<'_>) -> Result<u32, LineFault>
-    ensures { Hears (λ n. n) result (session_next reader.old) reader.new }
-{
-    let session = natural(reader, "session")?;
-    if session <= u32::MAX as u64 {
-        Ok(session as u32)
-    } else {
-        Err(LineFault::NotLine)
-    }
-}
 
 /// What stands behind the command of an entry: its session and its user.
 fn behind_command(alloc: Global, reader: &mut Reader<'_>) -> Result<(u32, User), LineFault>

@@ -7,6 +7,7 @@ use Rattle.journal_host.specs.Told.{JournalsTold}
 use Rattle.journal_text.specs.Line.{IsEntry}
 use Rattle.journal_text.specs.Text.{text_of}
 use Rattle.recovered_start.specs.Run.{Serving, RunsKept}
+use Rattle.server_frame.specs.declared.exit.Exit.{Exit}
 use Rattle.kept_serve.specs.Ports.{ServesKeptPorts}
 use Rattle.osm_model.specs.Journal.{IsLegal}
 use Rattle.osm_model.specs.declared.commands.Entry.{Entry}
@@ -23,5 +24,5 @@ module _ {F : Type 0} (moment : F → ℕ) (left_since : F → ℕ → List ℕ 
       ServesKeptPorts map_rules map_row text_of moment left_since faults users journal file before after outcome
 
   -- what `serve` with a journal comes to
-  abbrev pub RunsServeKept : List ℕ → List ℕ → ℕ → List ℕ → JournalsTold F → JournalsTold F → HostTold → HostTold → Told → Told → ℕ → Type 0
+  abbrev pub RunsServeKept : List ℕ → List ℕ → ℕ → List ℕ → JournalsTold F → JournalsTold F → HostTold → HostTold → Told → Told → Exit → Type 0
   RunsServeKept = RunsKept moment left_since faults text_of IsEntry IsLegal (AreSeated map_rules.tag_of SESSION_LIMIT) ServesFrom

@@ -23,7 +23,7 @@ use map_machine::{MapMachine, MapWorld, journals_are_the_maps};
 use osm_model::Entry;
 use osm_outside::{Host, Link, Outside, Port, PortOutside};
 use recovered_start::{Begun, KeptJournal, begin_kept};
-use server_frame::{Listening, close_ports};
+use server_frame::{Exit, Listening, close_ports};
 use shared_front::Opened;
 use snapshot_hub::{Twins, follow_from, twins_of};
 use std::alloc::Global;
@@ -139,7 +139,7 @@ pub fn run_serve_kept<H: Host, J: Journals, R: Threads + Wait + Sync, L: Link>(
     host: &mut H,
     journals: &mut J,
     standard: &L,
-) -> u8
+) -> Exit
     requires some { 0 < listening.workers }
     requires few { listening.workers ≤ SESSION_LIMIT }
     ensures { RunsServeKept J.File.moment J.File.left_since J.File.faults users.now listening.entry.address.now listening.entry.workers path.now
@@ -159,6 +159,6 @@ pub fn run_serve_kept<H: Host, J: Journals, R: Threads + Wait + Sync, L: Link>(
             journals.back(device);
             close_ports(host, ports, outcome)
         }
-        Err(status) => status,
+        Err(exit) => exit,
     }
 }

@@ -1,4 +1,4 @@
--- What a run of a mirror does, and which status it ends with.
+-- What a run of a mirror does, and how that ends.
 use Rattle.std.specs.Prelude.{ℕ, ◌⊎◌, ⊤, List, Option, Some, None}
 use Rattle.osm_outside.specs.Told.{Told}
 use Rattle.osm_outside.specs.Host.{HostTold}
@@ -6,6 +6,8 @@ use Rattle.journal_host.specs.Told.{JournalsTold}
 use Rattle.osm_words.specs.Words.{MirrorReading, standard, listens}
 use Rattle.server_frame.specs.Standard.{RunsStandard, IsUnserved}
 use Rattle.server_frame.specs.Listening.{RunsListening}
+use Rattle.server_frame.specs.declared.exit.Exit.{Exit}
+use Rattle.server_frame.specs.declared.exit.Exit.TheVariants.{NoReading, NoMemory}
 use Rattle.mirror_serve.specs.Serve.{ServesMirror}
 use Rattle.mirror_serve.specs.Mirrors.{MirrorsPorts, MirrorsKeptPorts}
 use Rattle.recovered_start.specs.Run.{RunsKept, LeavesFiles}
@@ -14,28 +16,28 @@ use Rattle.journal_text.specs.Text.{text_of}
 use Rattle.osm_model.specs.Journal.{IsLegal}
 
 -- what serving the standard link comes to
-abbrev pub RunsLink : List ℕ → Option ℕ → HostTold → HostTold → Told → Told → ℕ → Type 0
+abbrev pub RunsLink : List ℕ → Option ℕ → HostTold → HostTold → Told → Told → Exit → Type 0
 RunsLink = RunsStandard ServesMirror
 
 -- what listening comes to: the links of so many ports at that address are served by one mirror
-abbrev pub RunsListen : List ℕ → List ℕ → ℕ → HostTold → HostTold → Told → Told → ℕ → Type 0
+abbrev pub RunsListen : List ℕ → List ℕ → ℕ → HostTold → HostTold → Told → Told → Exit → Type 0
 RunsListen = RunsListening MirrorsPorts
 
 -- over what a file that a journal is kept in tells: the moments of its device, what a crash since one of them may leave, and how often a
 -- call has failed
 module _ {F : Type 0} (moment : F → ℕ) (left_since : F → ℕ → List ℕ → Type 0) (faults : F → ℕ) where
   -- what listening with a journal comes to
-  abbrev pub RunsListenKept : List ℕ → List ℕ → ℕ → List ℕ → JournalsTold F → JournalsTold F → HostTold → HostTold → Told → Told → ℕ → Type 0
+  abbrev pub RunsListenKept : List ℕ → List ℕ → ℕ → List ℕ → JournalsTold F → JournalsTold F → HostTold → HostTold → Told → Told → Exit → Type 0
   RunsListenKept = RunsKept moment left_since faults text_of IsEntry IsLegal (λ _. ⊤) (MirrorsKeptPorts moment left_since faults)
 
-  -- what words come to: those without a reading are status 1
-  abbrev pub ComesTo : Option MirrorReading → JournalsTold F → JournalsTold F → HostTold → HostTold → Told → Told → ℕ → Type 0
-  ComesTo None = LeavesFiles (IsUnserved 1)
+  -- what words come to: for those without a reading nothing is done
+  abbrev pub ComesTo : Option MirrorReading → JournalsTold F → JournalsTold F → HostTold → HostTold → Told → Told → Exit → Type 0
+  ComesTo None = LeavesFiles (IsUnserved NoReading)
   ComesTo (Some (standard users at)) = LeavesFiles (RunsLink users at)
   ComesTo (Some (listens users address workers None)) = LeavesFiles (RunsListen users address workers)
   ComesTo (Some (listens users address workers (Some path))) = RunsListenKept users address workers path
 
   -- the same, or there was no memory for reading the words
-  abbrev pub Runs : Option MirrorReading → JournalsTold F → JournalsTold F → HostTold → HostTold → Told → Told → ℕ → Type 0
-  Runs reading journals journals' host host' before after status =
-      ComesTo reading journals journals' host host' before after status ⊎ LeavesFiles (IsUnserved 5) journals journals' host host' before after status
+  abbrev pub Runs : Option MirrorReading → JournalsTold F → JournalsTold F → HostTold → HostTold → Told → Told → Exit → Type 0
+  Runs reading journals journals' host host' before after exit =
+      ComesTo reading journals journals' host host' before after exit ⊎ LeavesFiles (IsUnserved NoMemory) journals journals' host host' before after exit

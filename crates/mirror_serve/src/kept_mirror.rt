@@ -19,7 +19,7 @@ use map_machine::BookKeeper;
 use osm_model::Entry;
 use osm_outside::{Host, Link, Outside, Port, PortOutside};
 use recovered_start::{Begun, KeptJournal, begin_kept};
-use server_frame::{Listening, close_ports};
+use server_frame::{Exit, Listening, close_ports};
 use shared_front::Opened;
 use std::alloc::Global;
 use std::marker::Brand;
@@ -109,7 +109,7 @@ pub fn run_listen_kept<H: Host, J: Journals, R: Threads + Wait + Sync, L: Link>(
     host: &mut H,
     journals: &mut J,
     standard: &L,
-) -> u8
+) -> Exit
     ensures { RunsListenKept J.File.moment J.File.left_since J.File.faults users.now listening.entry.address.now listening.entry.workers path.now
         (J.told journals.old) (J.told journals.new) (H.told host.old) (H.told host.new) (L.told standard.now) (L.told standard.now) result }
 {
@@ -131,6 +131,6 @@ pub fn run_listen_kept<H: Host, J: Journals, R: Threads + Wait + Sync, L: Link>(
             journals.back(device);
             close_ports(host, ports, outcome)
         }
-        Err(status) => status,
+        Err(exit) => exit,
     }
 }

@@ -8,7 +8,7 @@ use crate::ports::mirror_ports;
 use http_link::LinkEnd;
 use link_workers::Outcome;
 use osm_outside::{Host, Link, Outside, Port, PortOutside};
-use server_frame::{LinkServer, Listening, close_ports, open_ports};
+use server_frame::{Exit, LinkServer, Listening, close_ports, open_ports};
 use shared_front::Opened;
 use std::alloc::Global;
 use std::marker::Brand;
@@ -50,7 +50,7 @@ pub fn run_listen<H: Host, R: Threads + Wait + Sync, L: Link>(
     listening: Listening<'_>,
     host: &mut H,
     standard: &L,
-) -> u8
+) -> Exit
     ensures { RunsListen users.now listening.entry.address.now listening.entry.workers (H.told host.old) (H.told host.new)
         (L.told standard.now) (L.told standard.now) result }
 {
@@ -59,6 +59,6 @@ pub fn run_listen<H: Host, R: Threads + Wait + Sync, L: Link>(
             let outcome = serve_handed(rt, alloc, &users, &mut ports);
             close_ports(host, ports, outcome)
         }
-        Err(status) => status,
+        Err(exit) => exit,
     }
 }

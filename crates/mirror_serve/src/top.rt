@@ -1,6 +1,7 @@
 //! The top call.
 ghost use Rattle.std.specs.Prelude.{map, string_bytes, Some};
 ghost use Rattle.osm_words.specs.Words.{mirror_reading_of, shown_mirror};
+ghost use Rattle.server_frame.specs.Exit.{TellsExit};
 ghost use Rattle.mirror_serve.specs.Run.{ComesTo, Runs};
 
 use crate::kept_mirror::run_listen_kept;
@@ -8,7 +9,7 @@ use crate::serve::{MirrorServer, run_listen};
 use journal_host::{Device, Journals};
 use osm_outside::{Host, Link, Outside};
 use osm_words::{MirrorWords, WordsFault, read_mirror_words};
-use server_frame::{Listening, run_standard};
+use server_frame::{Exit, Listening, run_standard};
 use std::alloc::Global;
 use std::sync::Wait;
 use std::thread::Threads;
@@ -21,7 +22,7 @@ fn run_words<H: Host, J: Journals, R: Threads + Wait + Sync, L: Link>(
     host: &mut H,
     journals: &mut J,
     standard: &mut L,
-) -> u8
+) -> Exit
     ensures { ComesTo J.File.moment J.File.left_since J.File.faults (Some (shown_mirror words.entry)) (J.told journals.old) (J.told journals.new) (H.told host.old) (H.told host.new)
         (L.told standard.old) (L.told standard.new) result }
 {
@@ -49,6 +50,25 @@ fn run_words<H: Host, J: Journals, R: Threads + Wait + Sync, L: Link>(
     }
 }
 
+/// Reads the words, and does what they ask.
+fn exit_of_mirror<H: Host, J: Journals, R: Threads + Wait + Sync, L: Link>(
+    rt: &R,
+    alloc: Global,
+    words: &[String],
+    host: &mut H,
+    journals: &mut J,
+    standard: &mut L,
+) -> Exit
+    ensures { Runs J.File.moment J.File.left_since J.File.faults (mirror_reading_of (map string_bytes words.now)) (J.told journals.old) (J.told journals.new) (H.told host.old) (H.told host.new)
+        (L.told standard.old) (L.told standard.new) result }
+{
+    match read_mirror_words(alloc, words) {
+        Ok(words) => run_words(rt, alloc, words, host, journals, standard),
+        Err(WordsFault::NoReading) => Exit::NoReading,
+        Err(WordsFault::Memory) => Exit::NoMemory,
+    }
+}
+
 /// Does what the words ask of a mirror on the host and the standard link, and answers the program's
 /// status: 1 where the words have no reading, 2 where the users text is refused, 3 for a fault of the
 /// host in giving it or a journal's file or in reading, 4 for a fault in writing, 5 for want of memory
@@ -63,12 +83,8 @@ pub fn mirror<H: Host, J: Journals, R: Threads + Wait + Sync, L: Link>(
     journals: &mut J,
     standard: &mut L,
 ) -> u8
-    ensures { Runs J.File.moment J.File.left_since J.File.faults (mirror_reading_of (map string_bytes words.now)) (J.told journals.old) (J.told journals.new) (H.told host.old) (H.told host.new)
-        (L.told standard.old) (L.told standard.new) result }
+    ensures { TellsExit (Runs J.File.moment J.File.left_since J.File.faults (mirror_reading_of (map string_bytes words.now)) (J.told journals.old) (J.told journals.new) (H.told host.old) (H.told host.new)
+        (L.told standard.old) (L.told standard.new)) result }
 {
-    match read_mirror_words(alloc, words) {
-        Ok(words) => run_words(rt, alloc, words, host, journals, standard),
-        Err(WordsFault::NoReading) => 1,
-        Err(WordsFault::Memory) => 5,
-    }
+    exit_of_mirror(rt, alloc, words, host, journals, standard).status()
 }

@@ -5,6 +5,7 @@ use Rattle.osm_outside.specs.Told.{Told}
 use Rattle.osm_outside.specs.Host.{HostTold}
 use Rattle.journal_host.specs.Told.{JournalsTold}
 use Rattle.recovered_start.specs.Run.{Serving, RunsKept}
+use Rattle.server_frame.specs.declared.exit.Exit.{Exit}
 use Rattle.kept_serve.specs.Ports.{ServesKeptPorts}
 use Rattle.notes_text.specs.Line.{IsEntry}
 use Rattle.notes_text.specs.Text.{text_of, IsLegal}
@@ -22,5 +23,5 @@ module _ {F : Type 0} (moment : F → ℕ) (left_since : F → ℕ → List ℕ 
       ServesKeptPorts note_rules note_row text_of moment left_since faults users journal file before after outcome
 
   -- what `serve-notes` with a journal comes to
-  abbrev pub RunsServeNotesKept : List ℕ → List ℕ → ℕ → List ℕ → JournalsTold F → JournalsTold F → HostTold → HostTold → Told → Told → ℕ → Type 0
+  abbrev pub RunsServeNotesKept : List ℕ → List ℕ → ℕ → List ℕ → JournalsTold F → JournalsTold F → HostTold → HostTold → Told → Told → Exit → Type 0
   RunsServeNotesKept = RunsKept moment left_since faults text_of IsEntry IsLegal (AreSeated note_rules.tag_of SESSION_LIMIT) ServesFrom

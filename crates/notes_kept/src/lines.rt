@@ -1,10 +1,9 @@
 //! How the entries of the notes' journal are written, and read again.
 use durable_log::Lines;
 use journal_recovery::{KeptText, TextFault};
+use line_text::LineFault;
 use notes_core::NoteEntry;
-use notes_text::{
-    HEADER, LineFault, lines_are_plain, lines_behind, lines_tell_entries, read_entry,
-};
+use notes_text::{HEADER, lines_are_plain, lines_behind, lines_tell_entries, read_entry};
 use osm_base::Memory;
 use std::alloc::Global;
 

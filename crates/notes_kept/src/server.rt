@@ -21,7 +21,7 @@ use machine_law::Machine;
 use notes_core::{NoteEntry, NotesMachine, NotesWorld};
 use osm_outside::{Host, Link, Outside, Port, PortOutside};
 use recovered_start::{Begun, KeptJournal, begin_kept};
-use server_frame::{Listening, close_ports};
+use server_frame::{Exit, Listening, close_ports};
 use shared_front::Opened;
 use snapshot_hub::{Twins, follow_from, twins_of};
 use std::alloc::Global;
@@ -136,7 +136,7 @@ pub fn run_serve_notes_kept<H: Host, J: Journals, R: Threads + Wait + Sync, L: L
     host: &mut H,
     journals: &mut J,
     standard: &L,
-) -> u8
+) -> Exit
     requires some { 0 < listening.workers }
     requires few { listening.workers ≤ SESSION_LIMIT }
     ensures { RunsServeNotesKept J.File.moment J.File.left_since J.File.faults users.now listening.entry.address.now listening.entry.workers path.now
@@ -156,6 +156,6 @@ pub fn run_serve_notes_kept<H: Host, J: Journals, R: Threads + Wait + Sync, L: L
             journals.back(device);
             close_ports(host, ports, outcome)
         }
-        Err(status) => status,
+        Err(exit) => exit,
     }
 }

@@ -11,7 +11,7 @@ use crate::pipe::serve_notes;
 use crate::workers::notes_all;
 use http_link::LinkEnd;
 use osm_outside::{Host, Link, Outside, Port, PortOutside};
-use server_frame::{LinkServer, Listening, Outcome, close_ports, open_ports};
+use server_frame::{Exit, LinkServer, Listening, Outcome, close_ports, open_ports};
 use snapshot_hub::Seats;
 use std::alloc::Global;
 use std::marker::Brand;
@@ -58,7 +58,7 @@ pub fn run_serve_notes<H: Host, R: Threads + Wait + Sync, L: Link>(
     listening: Listening<'_>,
     host: &mut H,
     standard: &L,
-) -> u8
+) -> Exit
     requires some { 0 < listening.workers }
     requires few { listening.workers ≤ SESSION_LIMIT }
     ensures { RunsServeNotes users.now listening.entry.address.now listening.entry.workers (H.told host.old) (H.told host.new)
@@ -69,6 +69,6 @@ pub fn run_serve_notes<H: Host, R: Threads + Wait + Sync, L: Link>(
             let outcome = serve_handed(rt, alloc, &users, &mut ports);
             close_ports(host, ports, outcome)
         }
-        Err(status) => status,
+        Err(exit) => exit,
     }
 }

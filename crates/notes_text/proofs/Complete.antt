@@ -1,42 +1,22 @@
 -- The tokens of an entry's line are read as that entry.
-use Rattle.std.proofs.Common.{◌≡◌, ℕ, ◌^◌, ◌<◌, Bool, ℤ, List, [], ◌∷◌, ◌++◌, codes, Option, Some, None, refl, sym, ap, ◌∙◌, append_assoc, append-nil, arith}
-use Rattle.std.specs.Prelude.{if◌then◌else◌}
-use Rattle.std.proofs.lemmas.Bool.{lt-ltb}
+use Rattle.std.proofs.Common.{◌≡◌, ℕ, ◌^◌, ◌<◌, ℤ, List, [], ◌∷◌, ◌++◌, codes, Option, Some, None, refl, sym, ap, ◌∙◌, append-nil, arith}
 use Rattle.std.proofs.lemmas.Int.{ints}
 use Rattle.json.specs.Token.{Token, begin_object, end_object}
-use Rattle.json.specs.Tree.{members_tokens}
 use Rattle.serde_json.specs.Data.{string}
 use Rattle.serde_json.specs.Find.{as_str}
-use Rattle.serde_json.specs.Written.{members_outline}
 use Rattle.osm_base.specs.Place.{Position, IsPosition}
 use Rattle.osm_base.specs.declared.people.Owner.{Owner}
 use Rattle.osm_json.specs.Again.{natural_of, next_as}
 use Rattle.osm_json.specs.Sent.{tokens_of}
-use Rattle.osm_json.specs.Shown.{Field, field, field_if, members_of, record_of, natural, integer}
+use Rattle.osm_json.specs.Shown.{Field, field, field_if, natural, integer}
 use Rattle.notes_core.specs.declared.commands.NoteCommand.{NoteCommand}
 use Rattle.notes_core.specs.declared.commands.NoteCommand.TheVariants.{OpenNote, Comment, CloseNote, Reopen}
 use Rattle.notes_core.specs.declared.commands.NoteEntry.{NoteEntry}
 use Rattle.notes_text.specs.Line.{command_fields, command, user_fields, user, entry_fields, line_data, IsCaller, IsCommand, IsEntry}
-use Rattle.notes_text.specs.Read.{Parsed, ◌>>=◌, end_next, member_next, coordinate_next, placed, position_next, opening_next, comment_next, closing_next, reopening_next, by_act, command_next, user_next, caller_next, as_session, session_next, key_next, entry_next}
+use Rattle.json_line.specs.Read.{Parsed, ◌>>=◌, end_next, key_next, member_next, session_next}
+use Rattle.json_line.proofs.Onto.{onto, record_onto, session_read}
+use Rattle.notes_text.specs.Read.{coordinate_next, placed, position_next, opening_next, comment_next, closing_next, reopening_next, by_act, command_next, user_next, caller_next, entry_next}
 use Rattle.notes_text.proofs.Coordinates.{units_again, placed_there}
-
--- ---- the tokens of an object, with what stands behind it
-
-abbrev onto : List Field → List Token → List Token
-onto [] rest = end_object ∷ rest
-onto (None ∷ fs) rest = onto fs rest
-onto (Some m ∷ fs) rest = Token.key m.0 ∷ (tokens_of m.1 ++ onto fs rest)
-
-fields_onto : (fs : List Field) (rest : List Token) → members_tokens (members_outline (members_of fs)) ++ rest ≡ onto fs rest
-unfolding tokens_of
-fields_onto [] rest = refl
-fields_onto (None ∷ fs) rest = fields_onto fs rest
-fields_onto (Some m ∷ fs) rest =
-    ap (λ ts. Token.key m.0 ∷ ts) (append_assoc (tokens_of m.1) (members_tokens (members_outline (members_of fs))) rest ∙ ap (λ ts. tokens_of m.1 ++ ts) (fields_onto fs rest))
-
-record_onto : (fs : List Field) (rest : List Token) → tokens_of (record_of fs) ++ rest ≡ begin_object ∷ onto fs rest
-unfolding tokens_of record_of
-record_onto fs rest = ap (λ ts. begin_object ∷ ts) (fields_onto fs rest)
 
 -- ---- positions
 
@@ -98,11 +78,6 @@ module _
         ap command_next (record_onto (command_fields (Reopen id text)) rest)
         ∙ act_read (codes "reopen") (Reopen id text) (field (codes "id") (natural id) ∷ field (codes "text") (string text) ∷ []) rest (said_read Reopen id text rest is)
 
-    session_read : (n : ℕ) (rest : List Token) → n < 2 ^ 32 → n < 2 ^ 64 → session_next (Token.key (codes "session") ∷ (tokens_of (natural n) ++ rest)) ≡ Some (n, rest)
-    unfolding session_next
-    session_read n rest small fits =
-        ap (λ (o : Parsed ℕ). o >>= λ n ts. as_session n ts) (natural_law n fits rest) ∙ ap (λ (b : Bool). if b then Some (n, rest) else None) (lt-ltb n (2 ^ 32) small)
-
     pub entry_read : (e : NoteEntry) → IsEntry e → entry_next (tokens_of (line_data e)) ≡ Some (e, [])
     unfolding entry_next line_data
     entry_read e is =
@@ -115,5 +90,5 @@ module _
         ∙ ap (λ (o : Parsed NoteCommand). o >>= λ command ts. session_next ts >>= λ session ts. caller_next ts >>= λ caller ts.
         Some (record { session = session; call = e.call; caller = caller; stamp = e.stamp; command = command }, ts)) (command_read e.command (onto (field (codes "session") (natural e.session) ∷ field_if (codes "user") user e.caller ∷ []) []) is.command)
         ∙ ap (λ (o : Parsed ℕ). o >>= λ session ts. caller_next ts >>= λ caller ts.
-        Some (record { session = session; call = e.call; caller = caller; stamp = e.stamp; command = e.command }, ts)) (session_read e.session (onto (field_if (codes "user") user e.caller ∷ []) []) is.session fits)
+        Some (record { session = session; call = e.call; caller = caller; stamp = e.stamp; command = e.command }, ts)) (session_read natural_law e.session (onto (field_if (codes "user") user e.caller ∷ []) []) is.session fits)
         ∙ ap (λ (o : Parsed (Option Owner)). o >>= λ caller ts. Some (record { session = e.session; call = e.call; caller = caller; stamp = e.stamp; command = e.command }, ts)) (caller_read e.caller [] is.caller)

@@ -13,9 +13,10 @@ use Rattle.osm_base.proofs.NumberLemmas.{digits_model}
 use Rattle.json.specs.Token.{Token}
 use Rattle.osm_json.specs.Sent.{tokens_of}
 use Rattle.osm_json.specs.Shown.{integer}
-use Rattle.notes_text.specs.Heard.{Hears}
-use Rattle.notes_text.specs.Read.{Parsed, ◌>>=◌, if_short, short_of, units_of, units_next, coordinate_next, placed, position_next}
-use Rattle.notes_text.specs.declared.faults.LineFault.{LineFault}
+use Rattle.json_line.specs.Heard.{Hears}
+use Rattle.json_line.specs.Read.{Parsed, ◌>>=◌}
+use Rattle.notes_text.specs.Read.{if_short, short_of, units_of, units_next, coordinate_next, placed, position_next}
+use Rattle.line_text.specs.declared.faults.LineFault.{LineFault}
 
 -- ---- what was cut off a sign
 

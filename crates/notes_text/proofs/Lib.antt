@@ -1,7 +1,3 @@
 mod Complete
 mod Coordinates
-mod Found
-mod Hearing
-mod LinesWritten
 mod PlainLine
-mod Sent

@@ -1,4 +1,3 @@
-pub mod Heard
 pub mod Line
 pub mod Read
 pub mod Text

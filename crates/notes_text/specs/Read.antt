@@ -2,39 +2,15 @@
 use Rattle.std.specs.Prelude.{ℕ, ◌^◌, ◌==◌, nat_lt, ℤ, pos, neg_ℤ, List, [], ◌∷◌, codes, if◌then◌else◌, Option, Some, None, option_map}
 use Rattle.std.specs.Str.{bytes_eq}
 use Rattle.json.specs.Token.{Token}
-use Rattle.serde_json.specs.Data.{Data}
 use Rattle.serde_json.specs.Find.{as_str}
 use Rattle.osm_base.specs.Number.{whole_of}
 use Rattle.osm_base.specs.Place.{Position, is_position}
 use Rattle.osm_base.specs.declared.people.Owner.{Owner}
-use Rattle.osm_json.specs.Again.{natural_of, next_as}
+use Rattle.osm_json.specs.Again.{natural_of}
 use Rattle.notes_core.specs.declared.commands.NoteCommand.{NoteCommand}
 use Rattle.notes_core.specs.declared.commands.NoteCommand.TheVariants.{OpenNote, Comment, CloseNote, Reopen}
 use Rattle.notes_core.specs.declared.commands.NoteEntry.{NoteEntry}
-
--- what was read, and the tokens behind it
-abbrev pub Parsed : Type 0 → Type 0
-Parsed A = Option (A × List Token)
-
-infixl 10 ◌>>=◌
-abbrev pub ◌>>=◌ : {A B : Type 0} → Parsed A → (A → List Token → Parsed B) → Parsed B
-None >>= f = None
-(Some p) >>= f = f p.0 p.1
-
-abbrev pub begin_next : List Token → Parsed (Unit {0})
-begin_next (Token.begin_object ∷ ts) = Some (tt, ts)
-begin_next ts = None
-
-abbrev pub end_next : List Token → Parsed (Unit {0})
-end_next (Token.end_object ∷ ts) = Some (tt, ts)
-end_next ts = None
-
-abbrev pub key_next : List ℕ → List Token → Parsed (Unit {0})
-key_next name (Token.key k ∷ ts) = if bytes_eq k name then Some (tt, ts) else None
-key_next name ts = None
-
-abbrev pub member_next : {A : Type 0} → List ℕ → (Data → Option A) → List Token → Parsed A
-member_next name reading ts = key_next name ts >>= λ _ ts. next_as reading ts
+use Rattle.json_line.specs.Read.{Parsed, ◌>>=◌, begin_next, end_next, key_next, member_next, session_next}
 
 -- ---- positions
 
@@ -130,12 +106,6 @@ caller_next (Token.end_object ∷ ts) = Some (None, ts)
 caller_next (Token.key k ∷ ts) = if bytes_eq k (codes "user") then known_next ts else None
 caller_next ts = None
 
-abbrev pub as_session : ℕ → List Token → Parsed ℕ
-as_session n ts = if nat_lt n (2 ^ 32) then Some (n, ts) else None
-
-unfoldable pub session_next : List Token → Parsed ℕ
-session_next ts = member_next (codes "session") natural_of ts >>= λ n ts. as_session n ts
-
 unfoldable pub entry_next : List Token → Parsed NoteEntry
 entry_next ts =
     begin_next ts >>= λ _ ts.
@@ -146,9 +116,3 @@ entry_next ts =
     session_next ts >>= λ session ts.
     caller_next ts >>= λ caller ts.
     Some (record { session = session; call = call; caller = caller; stamp = stamp; command = command }, ts)
-
--- where nothing follows
-abbrev pub alone : Parsed NoteEntry → Option NoteEntry
-alone None = None
-alone (Some (e, [])) = Some e
-alone (Some (e, t ∷ ts)) = None

@@ -3,6 +3,7 @@ use Rattle.std.specs.Prelude.{ℕ, List, [], ◌∷◌, ◌++◌, codes}
 use Rattle.hub_core.specs.Journal.{IsJournal}
 use Rattle.notes_core.specs.Machine.{note_rules}
 use Rattle.notes_core.specs.declared.commands.NoteEntry.{NoteEntry}
+use Rattle.line_text.specs.Lines.{lines_of}
 use Rattle.notes_text.specs.Line.{line}
 
 -- the first line, with the byte 10 that ends it
@@ -10,8 +11,7 @@ abbrev pub header : List ℕ
 header = codes "osm-notes-journal 1" ++ 10 ∷ []
 
 abbrev pub lines : List NoteEntry → List ℕ
-lines [] = []
-lines (e ∷ es) = line e ++ 10 ∷ lines es
+lines es = lines_of line es
 
 abbrev pub text_of : List NoteEntry → List ℕ
 text_of es = header ++ lines es

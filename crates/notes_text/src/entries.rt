@@ -2,15 +2,16 @@
 ghost use Rattle.std.specs.Prelude.{◌≡◌, Err, IfOk, OnOk};
 ghost use Rattle.json.specs.Lex.{tokens};
 ghost use Rattle.notes_core.specs.declared.commands.NoteEntry.{NoteEntry};
-ghost use Rattle.notes_text.specs.declared.faults.LineFault.{LineFault};
-ghost use Rattle.notes_text.specs.Heard.{Finds, IsEntryRead};
+ghost use Rattle.line_text.specs.declared.faults.LineFault.{LineFault};
+ghost use Rattle.line_text.specs.Found.{Finds, IsEntryRead};
+ghost use Rattle.json_line.specs.Read.{alone};
 ghost use Rattle.notes_text.specs.Line.{line, IsEntry};
-ghost use Rattle.notes_text.specs.Read.{entry_next, alone};
+ghost use Rattle.notes_text.specs.Read.{entry_next};
 
-use crate::faults::LineFault;
 use crate::line::entry_line;
 use crate::read::entry;
 use json::{Reader, Scratch};
+use line_text::LineFault;
 use notes_core::NoteEntry;
 use osm_json::{texts_are_read_again, values_are_read_again};
 use std::alloc::Global;

@@ -1,6 +1,6 @@
 //! Laws on lines.
 ghost use Rattle.std.specs.Prelude.{◌≡◌, ℕ, true, List, ◌∷◌};
-ghost use Rattle.osm_json.specs.Again.{is_one_line};
+ghost use Rattle.line_text.specs.OneLine.{is_one_line};
 ghost use Rattle.notes_core.specs.declared.commands.NoteEntry.{NoteEntry};
 ghost use Rattle.notes_text.specs.Line.{line, IsEntry};
 

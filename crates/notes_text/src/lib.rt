@@ -4,7 +4,6 @@
 #![tactic(auto)]
 
 mod entries;
-mod faults;
 mod law;
 mod line;
 mod read;
@@ -14,7 +13,6 @@ mod units;
 mod write;
 
 pub use entries::read_entry;
-pub use faults::LineFault;
 pub use law::{lines_are_plain, lines_tell_entries};
 pub use line::entry_line;
 pub use texts::{HEADER, lines_behind};

@@ -1,78 +1,19 @@
 //! The parts of a line, read token by token.
-ghost use Rattle.std.specs.Prelude.{◌≡◌, codes, Some};
+ghost use Rattle.std.specs.Prelude.{Some};
 ghost use Rattle.serde_json.specs.Find.{as_str};
-ghost use Rattle.osm_json.specs.Again.{natural_of};
-ghost use Rattle.notes_text.specs.Heard.{Hears, heard_of};
-ghost use Rattle.notes_text.specs.Read.{begin_next, end_next, key_next, member_next, units_next, coordinate_next, position_next, opening_next, comment_next, closing_next, reopening_next, by_act, command_next, user_next, known_next, caller_next, session_next, entry_next};
+ghost use Rattle.json_line.specs.Heard.{Hears};
+ghost use Rattle.json_line.specs.Read.{member_next};
+ghost use Rattle.notes_text.specs.Read.{units_next, coordinate_next, position_next, opening_next, comment_next, closing_next, reopening_next, by_act, command_next, user_next, known_next, caller_next, entry_next};
 
-use crate::faults::LineFault;
 use crate::units::{place, read_units};
 use json::{Reader, Token};
+use json_line::{begin, end, key, lent_text, natural, session};
+use line_text::LineFault;
 use notes_core::{NoteCommand, NoteEntry};
 use osm_base::{Coord, Owner, Stamp, Text};
-use osm_json::{BodyFault, next_natural, next_text};
 use std::alloc::Global;
 
-// Tokens.
-
-fn begin(reader: &mut Reader<'_>) -> Result<(), LineFault>
-    ensures { Hears (λ u. u) result (begin_next reader.old) reader.new }
-{
-    match reader.next() {
-        Some(Token::BeginObject) => Ok(()),
-        _ => Err(LineFault::NotLine),
-    }
-}
-
-fn end(reader: &mut Reader<'_>) -> Result<(), LineFault>
-    ensures { Hears (λ u. u) result (end_next reader.old) reader.new }
-{
-    match reader.next() {
-        Some(Token::EndObject) => Ok(()),
-        _ => Err(LineFault::NotLine),
-    }
-}
-
-fn key(reader: &mut Reader<'_>, name: &str) -> Result<(), LineFault>
-    ensures { Hears (λ u. u) result (key_next name.now reader.old) reader.new }
-{
-    match reader.next() {
-        Some(Token::Key(found)) => if found == name {
-            Ok(())
-        } else {
-            Err(LineFault::NotLine)
-        },
-        _ => Err(LineFault::NotLine),
-    }
-}
-
 // Members.
-
-fn heard<T: Drop>(read: Result<T, BodyFault>) -> Result<T, LineFault>
-    ensures { result ≡ heard_of read }
-{
-    match read {
-        Ok(value) => Ok(value),
-        Err(BodyFault::Memory) => Err(LineFault::Memory),
-        Err(BodyFault::NotJson | BodyFault::Shape { .. }) => Err(LineFault::NotLine),
-    }
-}
-
-#[tactic(auto, using(crate::proofs::Hearing::hears))]
-fn natural(reader: &mut Reader<'_>, name: &str) -> Result<u64, LineFault>
-    ensures { Hears (λ n. n) result (member_next name.now natural_of reader.old) reader.new }
-{
-    key(reader, name)?;
-    heard(next_natural(reader))
-}
-
-#[tactic(auto, using(crate::proofs::Hearing::hears))]
-fn lent_text<'a>(reader: &mut Reader<'a>, name: &str) -> Result<&'a str, LineFault>
-    ensures { Hears (λ t. t.now) result (member_next name.now as_str reader.old) reader.new }
-{
-    key(reader, name)?;
-    heard(next_text(reader))
-}
 
 fn text(alloc: Global, reader: &mut Reader<'_>, name: &str) -> Result<Text, LineFault>
     ensures { Hears (λ t. t) result (member_next name.now as_str reader.old) reader.new }
@@ -211,18 +152,6 @@ fn caller(alloc: Global, reader: &mut Reader<'_>) -> Result<Option<Owner>, LineF
             Err(LineFault::NotLine)
         },
         _ => Err(LineFault::NotLine),
-    }
-}
-
-#[tactic(auto, unfolding(crate::specs::Read::session_next))]
-fn session(reader: &mut Reader<'_>) -> Result<u32, LineFault>
-    ensures { Hears (λ n. n) result (session_next reader.old) reader.new }
-{
-    let session = natural(reader, "session")?;
-    if session <= u32::MAX as u64 {
-        Ok(session as u32)
-    } else {
-        Err(LineFault::NotLine)
     }
 }
 

@@ -4,10 +4,10 @@
 //! lead here.
 ghost use Rattle.std.specs.Prelude.{◌≡◌, ◌<◌, ◌^◌, IfSome, List, option_map, pos, neg_ℤ};
 ghost use Rattle.json.specs.Token.{Token};
-ghost use Rattle.notes_text.specs.Heard.{Hears};
+ghost use Rattle.json_line.specs.Heard.{Hears};
 ghost use Rattle.notes_text.specs.Read.{short_of, units_of, placed};
 
-use crate::faults::LineFault;
+use line_text::LineFault;
 use osm_base::{Coord, whole_number};
 
 /// The number of digits alone, below 2^31.

@@ -6,7 +6,8 @@
 mod start;
 
 use osm_real::{FileHost, FileJournals, Stop, StreamLink, ask_at_end};
-use start::{is_until_input_ends, program};
+use osm_words::is_until_input_ends;
+use start::program;
 use std::env;
 use std::process::ExitCode;
 use std::sync::Wait;

@@ -10,6 +10,8 @@ use Rattle.journal_text.specs.declared.faults.JournalFault.TheVariants.{Long, He
 use Rattle.journal_input.specs.Input.{IsRead}
 use Rattle.journal_input.specs.declared.faults.InputFault.{InputFault}
 use Rattle.journal_input.specs.declared.faults.InputFault.TheVariants.{Failed, Text}
+use Rattle.server_frame.specs.declared.exit.Exit.{Exit}
+use Rattle.server_frame.specs.declared.exit.Exit.TheVariants.{NotRead, NoMemory, JournalRefused}
 use Rattle.osm_serve.specs.Tell.{Tells}
 
 -- the lines that tell of the replay of a journal
@@ -17,31 +19,31 @@ abbrev pub AreReplayLines : List Entry → List ℕ → Type 0
 AreReplayLines journal text = text ≡ replay_summary (figures_of (replay journal).elements (length journal))
 
 -- What stands before the gate of the input was read as the text of a journal, and then the lines of its replay were written.
-pub record TellsReplay (before after : Told) (status : ℕ) : Type 0 where
+pub record TellsReplay (before after : Told) (exit : Exit) : Type 0 where
   pub journal : List Entry
   pub between : Told
   pub read : IsRead {X = Unit {0}} before between journal (Ok tt)
-  pub tells : Tells (AreReplayLines journal) between after status
+  pub tells : Tells (AreReplayLines journal) between after exit
 
--- a text that is refused is 8, a failed read 3 and want of memory 5
-abbrev pub status_of_text : JournalFault → ℕ
-status_of_text Memory = 5
-status_of_text Long = 8
-status_of_text Header = 8
-status_of_text (Line n) = 8
-status_of_text (Illegal n) = 8
+-- how a program ends by a fault of a text or of its input
+abbrev pub exit_of_text : JournalFault → Exit
+exit_of_text Memory = NoMemory
+exit_of_text Long = JournalRefused
+exit_of_text Header = JournalRefused
+exit_of_text (Line n) = JournalRefused
+exit_of_text (Illegal n) = JournalRefused
 
-abbrev pub status_of_input : InputFault → ℕ
-status_of_input Failed = 3
-status_of_input (Text why) = status_of_text why
+abbrev pub exit_of_input : InputFault → Exit
+exit_of_input Failed = NotRead
+exit_of_input (Text why) = exit_of_text why
 
 -- Reading ended with a fault, and nothing was written.
-pub record StopsReplay (before after : Told) (status : ℕ) : Type 0 where
+pub record StopsReplay (before after : Told) (exit : Exit) : Type 0 where
   pub journal : List Entry
   pub fault : InputFault
   pub read : IsRead {X = Unit {0}} before after journal (Err fault)
-  pub status_is : status ≡ status_of_input fault
+  pub exit_is : exit ≡ exit_of_input fault
 
 -- what `replay` comes to
-abbrev pub Replays : Told → Told → ℕ → Type 0
-Replays before after status = TellsReplay before after status ⊎ StopsReplay before after status
+abbrev pub Replays : Told → Told → Exit → Type 0
+Replays before after exit = TellsReplay before after exit ⊎ StopsReplay before after exit

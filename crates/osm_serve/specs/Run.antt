@@ -1,10 +1,12 @@
--- What a run of the program does, and which status it ends with.
+-- What a run of the program does, and how that ends.
 use Rattle.std.specs.Prelude.{◌≡◌, ℕ, ◌⊎◌, List, Option, Some, None}
 use Rattle.osm_outside.specs.Told.{Told}
 use Rattle.osm_outside.specs.Host.{HostTold}
 use Rattle.journal_host.specs.Told.{JournalsTold}
 use Rattle.server_frame.specs.Standard.{RunsStandard, IsUnserved}
 use Rattle.server_frame.specs.Listening.{RunsListening}
+use Rattle.server_frame.specs.declared.exit.Exit.{Exit}
+use Rattle.server_frame.specs.declared.exit.Exit.TheVariants.{NoReading, NoMemory}
 use Rattle.osm_words.specs.declared.words.LoadOptions.{LoadOptions}
 use Rattle.osm_words.specs.Words.{Reading, pipe, serve, measure, export, replay, notes, serve_notes}
 use Rattle.map_machine.specs.Machine.{map_rules}
@@ -26,34 +28,34 @@ use Rattle.map_kept.specs.Run.{RunsServeKept}
 -- stands there once and whole, what is refused not at all, and a want of memory that may have an entry is a debt.
 
 -- what `pipe` comes to: the standard link is served by a new hub
-abbrev pub RunsPipe : List ℕ → Option ℕ → HostTold → HostTold → Told → Told → ℕ → Type 0
+abbrev pub RunsPipe : List ℕ → Option ℕ → HostTold → HostTold → Told → Told → Exit → Type 0
 RunsPipe = RunsStandard (ServesPipe map_rules map_row)
 
 -- what `serve` comes to: the links of so many ports at that address are served by a new hub
-abbrev pub RunsServe : List ℕ → List ℕ → ℕ → HostTold → HostTold → Told → Told → ℕ → Type 0
+abbrev pub RunsServe : List ℕ → List ℕ → ℕ → HostTold → HostTold → Told → Told → Exit → Type 0
 RunsServe = RunsListening (ServesPorts map_rules map_row)
 
 -- what `measure` comes to, with the host left alone
-pub record RunsMeasure (load : LoadOptions) (host host' : HostTold) (before after : Told) (status : ℕ) : Type 0 where
+pub record RunsMeasure (load : LoadOptions) (host host' : HostTold) (before after : Told) (exit : Exit) : Type 0 where
   pub host_stays : host' ≡ host
-  pub tells : Tells (AreLines load) before after status
+  pub tells : Tells (AreLines load) before after exit
 
 -- what `export` comes to, with the host left alone
-pub record RunsExport (load : LoadOptions) (host host' : HostTold) (before after : Told) (status : ℕ) : Type 0 where
+pub record RunsExport (load : LoadOptions) (host host' : HostTold) (before after : Told) (exit : Exit) : Type 0 where
   pub host_stays : host' ≡ host
-  pub tells : Tells (IsExport load.seed load.sessions load.uploads) before after status
+  pub tells : Tells (IsExport load.seed load.sessions load.uploads) before after exit
 
 -- what `replay` comes to, with the host left alone
-pub record RunsReplay (host host' : HostTold) (before after : Told) (status : ℕ) : Type 0 where
+pub record RunsReplay (host host' : HostTold) (before after : Told) (exit : Exit) : Type 0 where
   pub host_stays : host' ≡ host
-  pub replays : Replays before after status
+  pub replays : Replays before after exit
 
 -- over what a file that a journal is kept in tells: the moments of its device, what a crash since one of them may leave, and how often a
 -- call has failed
 module _ {F : Type 0} (moment : F → ℕ) (left_since : F → ℕ → List ℕ → Type 0) (faults : F → ℕ) where
-  -- what words come to: those without a reading are status 1
-  abbrev pub ComesTo : Option Reading → JournalsTold F → JournalsTold F → HostTold → HostTold → Told → Told → ℕ → Type 0
-  ComesTo None = LeavesFiles (IsUnserved 1)
+  -- what words come to: for those without a reading nothing is done
+  abbrev pub ComesTo : Option Reading → JournalsTold F → JournalsTold F → HostTold → HostTold → Told → Told → Exit → Type 0
+  ComesTo None = LeavesFiles (IsUnserved NoReading)
   ComesTo (Some (pipe users at)) = LeavesFiles (RunsPipe users at)
   ComesTo (Some (serve users address workers None)) = LeavesFiles (RunsServe users address workers)
   ComesTo (Some (serve users address workers (Some path))) = RunsServeKept moment left_since faults users address workers path
@@ -65,6 +67,6 @@ module _ {F : Type 0} (moment : F → ℕ) (left_since : F → ℕ → List ℕ 
   ComesTo (Some (serve_notes users address workers (Some path))) = RunsServeNotesKept moment left_since faults users address workers path
 
   -- the same, or there was no memory for reading the words
-  abbrev pub Runs : Option Reading → JournalsTold F → JournalsTold F → HostTold → HostTold → Told → Told → ℕ → Type 0
-  Runs reading journals journals' host host' before after status =
-      ComesTo reading journals journals' host host' before after status ⊎ LeavesFiles (IsUnserved 5) journals journals' host host' before after status
+  abbrev pub Runs : Option Reading → JournalsTold F → JournalsTold F → HostTold → HostTold → Told → Told → Exit → Type 0
+  Runs reading journals journals' host host' before after exit =
+      ComesTo reading journals journals' host host' before after exit ⊎ LeavesFiles (IsUnserved NoMemory) journals journals' host host' before after exit

@@ -10,17 +10,18 @@ use hub_core::Book;
 use map_machine::MapMachine;
 use osm_outside::{Link, Outside};
 use osm_words::LoadOptions;
+use server_frame::Exit;
 use std::alloc::Global;
 
 /// Writes the text of the journal of a run of the load, over a book that is empty at first, to the
-/// link, and answers the status: 0 where it was written whole, 4 for a fault, and 5 for want of
-/// memory, in a reply or elsewhere, with nothing written.
+/// link, and answers how that ended. Want of memory in a reply is want of memory too, and nothing is
+/// written then.
 pub fn export<L: Link>(
     alloc: Global,
     book: &mut Book<MapMachine>,
     load: LoadOptions,
     link: &mut L,
-) -> u8
+) -> Exit
     requires some { 0 < load.sessions }
     requires few { load.sessions ≤ SESSION_LIMIT }
     requires empty { book.old ≡ [] }
@@ -28,6 +29,6 @@ pub fn export<L: Link>(
 {
     match journal_of_load(alloc, book, load.seed, load.sessions, load.uploads) {
         Ok(text) => tell(text.as_slice(), link),
-        Err(_) => 5,
+        Err(_) => Exit::NoMemory,
     }
 }

@@ -10,7 +10,7 @@ use map_kept::run_serve_kept;
 use notes_kept::run_serve_notes_kept;
 use notes_serve::run_serve_notes;
 use osm_outside::{Host, Link, Outside};
-use server_frame::Listening;
+use server_frame::{Exit, Listening};
 use std::alloc::Global;
 use std::sync::Wait;
 use std::thread::Threads;
@@ -25,7 +25,7 @@ pub fn listen_for_the_map<H: Host, J: Journals, R: Threads + Wait + Sync, L: Lin
     host: &mut H,
     journals: &mut J,
     standard: &L,
-) -> u8
+) -> Exit
     requires some { 0 < listening.workers }
     requires few { listening.workers ≤ SESSION_LIMIT }
     ensures { ComesTo J.File.moment J.File.left_since J.File.faults
@@ -48,7 +48,7 @@ pub fn listen_for_notes<H: Host, J: Journals, R: Threads + Wait + Sync, L: Link>
     host: &mut H,
     journals: &mut J,
     standard: &L,
-) -> u8
+) -> Exit
     requires some { 0 < listening.workers }
     requires few { listening.workers ≤ SESSION_LIMIT }
     ensures { ComesTo J.File.moment J.File.left_since J.File.faults

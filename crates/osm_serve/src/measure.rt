@@ -11,6 +11,7 @@ use map_machine::MapMachine;
 use osm_base::{Memory, Text};
 use osm_outside::{Link, Outside};
 use osm_words::LoadOptions;
+use server_frame::Exit;
 use std::alloc::Global;
 use workload::{Run, summary};
 
@@ -32,15 +33,14 @@ fn lines_of(alloc: Global, book: &mut Book<MapMachine>, load: LoadOptions) -> Re
     summary(alloc, &run, &played.figures)
 }
 
-/// Writes the lines of a run of the load to the link, and answers the status: 0 where they were
-/// written whole, 4 for a fault, and 5 for want of memory, with nothing written. The book is empty
-/// at first.
+/// Writes the lines of a run of the load to the link, and answers how that ended. In want of memory
+/// nothing is written. The book is empty at first.
 pub fn measure<L: Link>(
     alloc: Global,
     book: &mut Book<MapMachine>,
     load: LoadOptions,
     link: &mut L,
-) -> u8
+) -> Exit
     requires some { 0 < load.sessions }
     requires few { load.sessions ≤ SESSION_LIMIT }
     requires empty { book.old ≡ [] }
@@ -48,6 +48,6 @@ pub fn measure<L: Link>(
 {
     match lines_of(alloc, book, load) {
         Ok(text) => tell(text.as_str().as_bytes(), link),
-        Err(_) => 5,
+        Err(_) => Exit::NoMemory,
     }
 }

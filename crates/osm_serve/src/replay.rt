@@ -3,7 +3,7 @@
 //! `replay` keeps its entries in a book, so beside the map the list of the entries is in memory.
 //! Of the text there is one line, and what was read at once.
 ghost use Rattle.std.specs.Prelude.{◌≡◌, IfOk, []};
-ghost use Rattle.osm_serve.specs.Replay.{AreReplayLines, Replays, status_of_input, status_of_text};
+ghost use Rattle.osm_serve.specs.Replay.{AreReplayLines, Replays, exit_of_input, exit_of_text};
 ghost use Rattle.osm_serve.specs.Tell.{Tells};
 
 use crate::tell::tell;
@@ -13,6 +13,7 @@ use journal_text::JournalFault;
 use map_machine::{BookKeeper, MapMachine};
 use osm_base::{Memory, Text};
 use osm_outside::{Link, Outside};
+use server_frame::Exit;
 use std::alloc::Global;
 use workload::{figures_of, replay_summary};
 
@@ -25,55 +26,54 @@ fn lines_of(alloc: Global, book: &Book<MapMachine>) -> Result<Text, Memory>
 }
 
 /// Writes the lines that tell of a book's map.
-fn tell_of<L: Link>(alloc: Global, book: &Book<MapMachine>, link: &mut L) -> u8
+fn tell_of<L: Link>(alloc: Global, book: &Book<MapMachine>, link: &mut L) -> Exit
     ensures { Tells (AreReplayLines book.now) (L.told link.old) (L.told link.new) result }
 {
     match lines_of(alloc, book) {
         Ok(text) => tell(text.as_str().as_bytes(), link),
-        Err(_) => 5,
+        Err(_) => Exit::NoMemory,
     }
 }
 
-/// The status that a fault of a text is: 5 for want of memory, and 8 where the text is refused.
-fn status_of_text(fault: JournalFault) -> u8
-    ensures { result ≡ status_of_text fault }
+/// How the program ends by a fault of a text.
+fn exit_of_text(fault: JournalFault) -> Exit
+    ensures { result ≡ exit_of_text fault }
 {
     match fault {
-        JournalFault::Memory => 5,
+        JournalFault::Memory => Exit::NoMemory,
         JournalFault::Long
         | JournalFault::Header
         | JournalFault::Line { .. }
-        | JournalFault::Illegal { .. } => 8,
+        | JournalFault::Illegal { .. } => Exit::JournalRefused,
     }
 }
 
-/// The status that a fault of an input is: 3 where a read failed.
-fn status_of_input(fault: InputFault) -> u8
-    ensures { result ≡ status_of_input fault }
+/// How the program ends by a fault of its input.
+fn exit_of_input(fault: InputFault) -> Exit
+    ensures { result ≡ exit_of_input fault }
 {
     match fault {
-        InputFault::Failed => 3,
-        InputFault::Text(fault) => status_of_text(fault),
+        InputFault::Failed => Exit::NotRead,
+        InputFault::Text(fault) => exit_of_text(fault),
     }
 }
 
 /// Reads the text with that keeper, and tells of its map.
-fn replay_with<L: Link>(alloc: Global, keeper: &mut BookKeeper, link: &mut L) -> u8
+fn replay_with<L: Link>(alloc: Global, keeper: &mut BookKeeper, link: &mut L) -> Exit
     requires { keeper.old ≡ [] }
     ensures { Replays (L.told link.old) (L.told link.new) result }
 {
     match read_entries(alloc, link, keeper) {
         Ok(()) => tell_of(alloc, keeper.book(), link),
-        Err(fault) => status_of_input(fault),
+        Err(fault) => exit_of_input(fault),
     }
 }
 
 /// Reads the text of a journal from the link, to the input's end or to one byte past the most that a
 /// text may have, and writes the lines that tell of its map. What stands behind a gate, a byte `#` at a
-/// line's beginning, doesn't count, so the file of a journal is read as its text. The status is 0 where
-/// they were written whole, 3 for a fault in reading, 4 for one in writing, 5 for want of memory, and 8
-/// where the text is refused.
-pub fn replay<L: Link>(alloc: Global, link: &mut L) -> u8
+/// line's beginning, doesn't count, so the file of a journal is read as its text. Answers how that
+/// ended.
+pub fn replay<L: Link>(alloc: Global, link: &mut L) -> Exit
     ensures { Replays (L.told link.old) (L.told link.new) result }
 {
     let mut keeper = BookKeeper::new(alloc);

@@ -3,13 +3,14 @@ ghost use Rattle.osm_serve.specs.Tell.{Writes};
 
 use http_wire::write_all;
 use osm_outside::{Link, Outside};
+use server_frame::Exit;
 
-/// Writes the text, and answers the status: 0 where it was written whole, and 4 for a fault.
-pub fn tell<L: Link>(text: &[u8], link: &mut L) -> u8
+/// Writes the text, and answers how that ended.
+pub fn tell<L: Link>(text: &[u8], link: &mut L) -> Exit
     ensures { Writes text.now (L.told link.old) (L.told link.new) result }
 {
     match write_all(link, text) {
-        Ok(()) => 0,
-        Err(_) => 4,
+        Ok(()) => Exit::Done,
+        Err(_) => Exit::NotWritten,
     }
 }

@@ -4,6 +4,7 @@
 //! no text it is 1: they have no reading.
 ghost use Rattle.std.specs.Prelude.{◌≡◌, [], map, string_bytes};
 ghost use Rattle.osm_words.specs.Words.{HaveSessions, reading_of, shown};
+ghost use Rattle.server_frame.specs.Exit.{TellsExit};
 ghost use Rattle.osm_serve.specs.Run.{Runs, ComesTo};
 
 use crate::export::export;
@@ -17,7 +18,7 @@ use map_machine::MapMachine;
 use notes_serve::NotesServer;
 use osm_outside::{Host, Link, Outside};
 use osm_words::{Words, WordsFault, read_words};
-use server_frame::{Listening, run_standard};
+use server_frame::{Exit, Listening, run_standard};
 use std::alloc::Global;
 use std::sync::Wait;
 use std::thread::Threads;
@@ -31,7 +32,7 @@ fn run_words_over<H: Host, J: Journals, R: Threads + Wait + Sync, L: Link>(
     host: &mut H,
     journals: &mut J,
     standard: &mut L,
-) -> u8
+) -> Exit
     requires sessions { HaveSessions words }
     requires empty { book.old ≡ [] }
     ensures { ComesTo J.File.moment J.File.left_since J.File.faults (Some (shown words.entry)) (J.told journals.old) (J.told journals.new) (H.told host.old) (H.told host.new)
@@ -86,13 +87,32 @@ fn run_words<H: Host, J: Journals, R: Threads + Wait + Sync, L: Link>(
     host: &mut H,
     journals: &mut J,
     standard: &mut L,
-) -> u8
+) -> Exit
     requires { HaveSessions words }
     ensures { ComesTo J.File.moment J.File.left_since J.File.faults (Some (shown words.entry)) (J.told journals.old) (J.told journals.new) (H.told host.old) (H.told host.new)
         (L.told standard.old) (L.told standard.new) result }
 {
     let mut book = Book::<MapMachine>::new(alloc);
     run_words_over(rt, alloc, words, &mut book, host, journals, standard)
+}
+
+/// Reads the words, and does what they ask.
+fn exit_of_run<H: Host, J: Journals, R: Threads + Wait + Sync, L: Link>(
+    rt: &R,
+    alloc: Global,
+    words: &[String],
+    host: &mut H,
+    journals: &mut J,
+    standard: &mut L,
+) -> Exit
+    ensures { Runs J.File.moment J.File.left_since J.File.faults (reading_of (map string_bytes words.now)) (J.told journals.old) (J.told journals.new) (H.told host.old) (H.told host.new)
+        (L.told standard.old) (L.told standard.new) result }
+{
+    match read_words(alloc, words) {
+        Ok(words) => run_words(rt, alloc, words, host, journals, standard),
+        Err(WordsFault::NoReading) => Exit::NoReading,
+        Err(WordsFault::Memory) => Exit::NoMemory,
+    }
 }
 
 /// Does what the words ask on the host and the standard link, and answers the program's status: 1
@@ -108,12 +128,8 @@ pub fn run<H: Host, J: Journals, R: Threads + Wait + Sync, L: Link>(
     journals: &mut J,
     standard: &mut L,
 ) -> u8
-    ensures { Runs J.File.moment J.File.left_since J.File.faults (reading_of (map string_bytes words.now)) (J.told journals.old) (J.told journals.new) (H.told host.old) (H.told host.new)
-        (L.told standard.old) (L.told standard.new) result }
+    ensures { TellsExit (Runs J.File.moment J.File.left_since J.File.faults (reading_of (map string_bytes words.now)) (J.told journals.old) (J.told journals.new) (H.told host.old) (H.told host.new)
+        (L.told standard.old) (L.told standard.new)) result }
 {
-    match read_words(alloc, words) {
-        Ok(words) => run_words(rt, alloc, words, host, journals, standard),
-        Err(WordsFault::NoReading) => 1,
-        Err(WordsFault::Memory) => 5,
-    }
+    exit_of_run(rt, alloc, words, host, journals, standard).status()
 }

@@ -3,10 +3,12 @@
 #![tactic(auto)]
 
 mod commands;
+mod given;
 mod matches;
 mod reading;
 mod values;
 mod words;
 
-pub use reading::{read_mirror_words, read_words, until_input_ends};
+pub use given::{is_until_input_ends, words_of};
+pub use reading::{read_mirror_words, read_words};
 pub use words::{LoadOptions, MirrorWords, UPLOAD_LIMIT, UPLOADS_A_SESSION, Words, WordsFault};

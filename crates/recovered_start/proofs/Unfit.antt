@@ -5,6 +5,7 @@ use Rattle.journal_host.specs.Told.{JournalsTold, taken_back}
 use Rattle.durable_log.specs.Held.{HoldsFrom}
 use Rattle.journal_recovery.specs.Restarts.{StandsFor, LeavesSound}
 use Rattle.journal_recovery.specs.TakenUp.{TakesUp}
+use Rattle.server_frame.specs.declared.exit.Exit.TheVariants.{JournalRefused}
 use Rattle.recovered_start.specs.Run.{DoesNotFit}
 
 -- A file that stands for a journal, and isn't damaged, holds all of it.
@@ -25,7 +26,7 @@ module _ {F E : Type 0} (moment : F → ℕ) (left_since : F → ℕ → List �
   pub does_not_fit : (path : List ℕ) (before lent after : JournalsTold F) (journal : List E) (open_file device : F) (held : List ℕ)
       → TakesUp text is_entry is_legal path before lent journal → held ≡ text journal → after ≡ taken_back lent device → device ≡ open_file
       → StandsFor moment left_since open_file held → (fits journal → ⊥)
-      → DoesNotFit moment left_since faults text is_entry is_legal fits path before after 8
+      → DoesNotFit moment left_since faults text is_entry is_legal fits path before after JournalRefused
   does_not_fit path before lent after journal open_file device held taken holds back is stands unfit = record {
     read = taken.read;
     file = device;
@@ -39,5 +40,5 @@ module _ {F E : Type 0} (moment : F → ℕ) (left_since : F → ℕ → List �
     stands = taken.stands;
     legal = taken.legal;
     unfit = unfit;
-    status_is = refl;
+    exit_is = refl;
   }

@@ -4,14 +4,14 @@ ghost use Rattle.osm_outside.specs.Told.{Told};
 ghost use Rattle.journal_host.specs.Told.{JournalsTold};
 ghost use Rattle.durable_log.specs.Held.{HoldsFrom};
 ghost use Rattle.journal_recovery.specs.TakenUp.{TakesUp};
-ghost use Rattle.recovered_start.specs.Run.{BeginsKept, BeginsNone, LacksServed};
+ghost use Rattle.recovered_start.specs.Run.{BeginsKept, BeginsNone, LacksServed, exit_of_untaken};
 
 use crate::journals::KeptJournal;
-use journal_file::{Device, JournalFile};
+use journal_file::{Device, DiskFault, JournalFile};
 use journal_host::Journals;
-use journal_recovery::take_up;
+use journal_recovery::{RestartFault, Untaken, take_up};
 use osm_outside::{Host, Outside, PortOutside};
-use server_frame::{Listening, accept_users, listen};
+use server_frame::{Exit, Listening, accept_users, listen};
 use std::alloc::Global;
 use std::thread::Threads;
 use user_table::UserTable;
@@ -25,38 +25,51 @@ pub struct Begun<Y, V: Device, P> {
     pub ports: Vec<P>,
 }
 
-/// Takes up the journal in the file at that path. Where it can't, the file is given back, and the error
-/// is the program's status: as `take_up` says, and 8 too where links aren't served on from such a
-/// journal.
+/// How a program ends by why no journal was taken up.
+fn exit_of(why: Untaken) -> Exit
+    ensures { result ≡ exit_of_untaken why }
+{
+    match why {
+        Untaken::NoFile(DiskFault::Memory) | Untaken::Refused(RestartFault::Memory) => {
+            Exit::NoMemory
+        }
+        Untaken::NoFile(DiskFault::Missing | DiskFault::Unfit | DiskFault::Busy | DiskFault::Failed)
+        | Untaken::Refused(RestartFault::Failed) => Exit::NotRead,
+        Untaken::Refused(RestartFault::Damaged | RestartFault::NoJournal) => Exit::JournalRefused,
+    }
+}
+
+/// Takes up the journal in the file at that path. Where it can't, or where links aren't served on from
+/// such a journal, the file is given back, and the error is how the program ends.
 fn take_up_fit<R: Threads + Sync, E: Send + Sync + Drop, S: KeptJournal<E> + Send, J: Journals>(
     rt: &R,
     alloc: Global,
     path: &str,
     journals: &mut J,
-) -> Result<(S::Journal, JournalFile<J::File>), u8>
+) -> Result<(S::Journal, JournalFile<J::File>), Exit>
     ensures taken { MatchResult result
         (λ taken. TakesUp S.Text.text S.Text.is_entry S.is_legal path.now (J.told journals.old) (J.told journals.new) (S.entries taken.0))
-        (λ status. LacksServed J.File.moment J.File.left_since J.File.faults S.Text.text S.Text.is_entry S.is_legal S.fits
-        path.now (J.told journals.old) (J.told journals.new) status) }
+        (λ exit. LacksServed J.File.moment J.File.left_since J.File.faults S.Text.text S.Text.is_entry S.is_legal S.fits
+        path.now (J.told journals.old) (J.told journals.new) exit) }
     ensures text { IfOk result (λ taken. taken.1.text ≡ S.Text.text (S.entries taken.0)) }
     ensures holds { IfOk result (λ taken. HoldsFrom S.Text.text J.File.left_since taken.1.device (J.File.moment taken.1.device) (length (S.entries taken.0)) (S.entries taken.0)) }
     ensures fits { IfOk result (λ taken. S.fits (S.entries taken.0)) }
 {
     let (journal, file) = match take_up::<R, J, E, S::Text, S>(rt, alloc, path, journals) {
         Ok(taken) => taken,
-        Err(status) => return Err(status),
+        Err(why) => return Err(exit_of(why)),
     };
     if S::fits(&journal) {
         return Ok((journal, file));
     }
     let device = file.into_device();
     journals.back(device);
-    Err(8)
+    Err(Exit::JournalRefused)
 }
 
 /// Reads the users of the text at their path, takes up the journal in the file at that one, and opens
 /// so many ports at that address. Where there are no users, no file is asked for; where there are no
-/// ports, the file is given back with the whole journal. The error is the program's status. The standard link is left alone.
+/// ports, the file is given back with the whole journal. The error is how the program ends. The standard link is left alone.
 pub fn begin_kept<
     R: Threads + Sync,
     E: Send + Sync + Drop,
@@ -71,12 +84,12 @@ pub fn begin_kept<
     path: &str,
     host: &mut H,
     journals: &mut J,
-) -> Result<Begun<S::Journal, J::File, H::Port>, u8>
+) -> Result<Begun<S::Journal, J::File, H::Port>, Exit>
     ensures begins { MatchResult result
         (λ begun. BeginsKept S.Text.text S.Text.is_entry S.is_legal S.fits users.now listening.entry.address.now listening.entry.workers path.now
         (J.told journals.old) (J.told journals.new) (H.told host.old) (H.told host.new) (S.entries begun.journal) begun.users (map H.Port.told begun.ports.items))
-        (λ status. (link : Told) → BeginsNone J.File.moment J.File.left_since J.File.faults S.Text.text S.Text.is_entry S.is_legal S.fits
-        users.now listening.entry.address.now path.now (J.told journals.old) (J.told journals.new) (H.told host.old) (H.told host.new) link link status) }
+        (λ exit. (link : Told) → BeginsNone J.File.moment J.File.left_since J.File.faults S.Text.text S.Text.is_entry S.is_legal S.fits
+        users.now listening.entry.address.now path.now (J.told journals.old) (J.told journals.new) (H.told host.old) (H.told host.new) link link exit) }
     ensures text { IfOk result (λ begun. begun.file.text ≡ S.Text.text (S.entries begun.journal)) }
     ensures holds { IfOk result (λ begun. HoldsFrom S.Text.text J.File.left_since begun.file.device (J.File.moment begun.file.device) (length (S.entries begun.journal)) (S.entries begun.journal)) }
     ensures fits { IfOk result (λ begun. S.fits (S.entries begun.journal)) }
@@ -85,11 +98,11 @@ pub fn begin_kept<
 {
     let users = match accept_users(alloc, users, host) {
         Ok(users) => users,
-        Err(status) => return Err(status),
+        Err(exit) => return Err(exit),
     };
     let (journal, file) = match take_up_fit::<R, E, S, J>(rt, alloc, path, journals) {
         Ok(taken) => taken,
-        Err(status) => return Err(status),
+        Err(exit) => return Err(exit),
     };
     match listen(alloc, listening, host) {
         Ok(ports) => Ok(Begun {
@@ -98,10 +111,10 @@ pub fn begin_kept<
             users,
             ports,
         }),
-        Err(status) => {
+        Err(exit) => {
             let device = file.into_device();
             journals.back(device);
-            Err(status)
+            Err(exit)
         }
     }
 }

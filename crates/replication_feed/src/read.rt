@@ -14,7 +14,8 @@ ghost use Rattle.replication_feed.specs.declared.pieces.Piece.{Piece};
 use crate::faults::PieceFault;
 use crate::numerals::{read_number, split_digits};
 use crate::pieces::{BEGINNING, ENDING, MIDDLE, Piece};
-use journal_text::{LineFault, read_entry};
+use journal_text::read_entry;
+use line_text::LineFault;
 use std::alloc::Global;
 
 /// The piece whose text this is, byte for byte: `NotPiece` exactly where it isn't the text of any

@@ -1,12 +1,12 @@
 //! The users of one element, now and before, with promised room: small where there is at most one.
-ghost use Rattle.std.specs.Prelude.{◌≡◌, ◌+◌, ◌-◌, ◌<◌, ◌≤◌, [], ◌∷◌, true, false, OnOk, OnErr, IfOk, IfSome};
+ghost use Rattle.std.specs.Prelude.{◌≡◌, ◌+◌, ◌-◌, ◌<◌, ◌≤◌, ◌||◌, [], ◌∷◌, true, false, OnOk, OnErr, IfOk, IfSome};
 ghost use Rattle.osm_base.specs.Key.{lists_key, insert_key, without_key, IsRising};
 ghost use Rattle.reverse_refs.specs.Held.{row_held};
 ghost use Rattle.reverse_refs.specs.Users.{IsParted};
 
 use crate::key_lists::KeyList;
 use crate::user_lists::UserList;
-use osm_base::{Key, Kind, Memory};
+use osm_base::{Key, Kind, Memory, is_listed};
 use std::alloc::Global;
 use std::marker::Model;
 use std::mem::size_of;
@@ -75,6 +75,17 @@ impl KeySet {
             Held::Nothing | Held::Promised | Held::One { .. } => UserList::none(),
             Held::Left { kind, id } => UserList::one(key_of(*kind, *id)),
             Held::Many(list) => UserList::listed(list.past()),
+        }
+    }
+
+    /// Whether a key is a user, now or before.
+    pub fn knows(&self, key: Key) -> bool
+        ensures { result ≡ lists_key self.now.present key || lists_key self.now.past key }
+    {
+        match &self.held {
+            Held::Nothing | Held::Promised => false,
+            Held::One { kind, id } | Held::Left { kind, id } => key_of(*kind, *id).is(key),
+            Held::Many(list) => is_listed(list.present(), key) || is_listed(list.past(), key),
         }
     }
 

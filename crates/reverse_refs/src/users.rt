@@ -1,5 +1,5 @@
 //! For each element those that use it, and those that did.
-ghost use Rattle.std.specs.Prelude.{◌≡◌, ◌==◌, ℕ, length, ◌+◌, ◌-◌, ◌<◌, ◌≤◌, [], false, true, if◌then◌else◌, count_by, slice_index_or, OnOk, OnErr};
+ghost use Rattle.std.specs.Prelude.{◌≡◌, ◌==◌, ℕ, length, ◌+◌, ◌-◌, ◌<◌, ◌≤◌, ◌||◌, [], false, true, if◌then◌else◌, count_by, slice_index_or, OnOk, OnErr};
 ghost use Rattle.reverse_refs.specs.Users.{no_row, IsParted};
 ghost use Rattle.osm_base.specs.Key.{key_eq, lists_key, insert_key, without_key, IsRising};
 ghost use Rattle.osm_base.specs.declared.keys.Key.{Key};
@@ -97,7 +97,11 @@ impl UserIndex {
     pub fn knows(&self, pair: Pair) -> bool
         ensures { result ≡ knows self.now pair.used pair.user }
     {
-        self.has(pair) || self.had(pair)
+        match pair.used.kind {
+            Kind::Node => is_known_at(&self.nodes, pair.used.id, pair.user),
+            Kind::Way => is_known_at(&self.ways, pair.used.id, pair.user),
+            Kind::Relation => is_known_at(&self.relations, pair.used.id, pair.user),
+        }
     }
 
     /// Promises room for one more user for each of the pairs. After a refusal no more is promised
@@ -240,6 +244,16 @@ fn past_at(rows: &Segments<KeySet>, id: u64) -> UserList<'_>
     match rows.get(id as usize) {
         Some(row) => row.past(),
         None => UserList::none(),
+    }
+}
+
+/// Whether a user stands in either part of a row, which is looked up once.
+fn is_known_at(rows: &Segments<KeySet>, id: u64, user: Key) -> bool
+    ensures { result ≡ lists_key (slice_index_or rows.now id no_row).present user || lists_key (slice_index_or rows.now id no_row).past user }
+{
+    match rows.get(id as usize) {
+        Some(row) => row.knows(user),
+        None => false,
     }
 }
 

@@ -1,3 +1,4 @@
+pub mod Exit
 pub mod OnLink
 pub mod Users
 pub mod Standard

@@ -1,4 +1,4 @@
--- Listening by the users of a text, with a worker for each port, and the status that it comes to.
+-- Listening by the users of a text, with a worker for each port, and how the program ends by that.
 use Rattle.std.specs.Prelude.{◌≡◌, ℕ, ◌⊎◌, List, Ok, length}
 use Rattle.osm_outside.specs.Told.{Told, Rose}
 use Rattle.osm_outside.specs.Host.{HostTold, OnlyAsked, OnlyPorts}
@@ -10,6 +10,8 @@ use Rattle.link_workers.specs.declared.outcome.Outcome.{Outcome}
 use Rattle.link_workers.specs.declared.outcome.Outcome.TheVariants.{Served, Failed, Unkept, LacksMemory}
 use Rattle.server_frame.specs.Users.{IsTextOf}
 use Rattle.server_frame.specs.Standard.{RefusesUsers, LacksUsers, LacksRoom}
+use Rattle.server_frame.specs.declared.exit.Exit.{Exit}
+use Rattle.server_frame.specs.declared.exit.Exit.TheVariants.{Done, NoMemory, NoLinks, NotKept}
 
 -- The users text at that path was read and accepted.
 pub record AcceptsUsers (path : List ℕ) (host asked : HostTold) (users : Users) : Type 0 where
@@ -28,45 +30,45 @@ pub record OpensPorts (path address : List ℕ) (workers : ℕ) (host opened : H
   pub lent : opened.lent ≡ hand_out asked.lent ports
 
 -- Listening failed, and no port was handed out.
-pub record LacksPorts (host host' : HostTold) (status : ℕ) : Type 0 where
+pub record LacksPorts (host host' : HostTold) (exit : Exit) : Type 0 where
   pub failed : Rose host.faults host'.faults
   pub lent : host'.lent ≡ host.lent
-  pub status_is : status ≡ 6
+  pub exit_is : exit ≡ NoLinks
 
 -- There was no memory, and no port was handed out.
-pub record LacksRoomToListen (host host' : HostTold) (status : ℕ) : Type 0 where
+pub record LacksRoomToListen (host host' : HostTold) (exit : Exit) : Type 0 where
   pub lent : host'.lent ≡ host.lent
-  pub status_is : status ≡ 5
+  pub exit_is : exit ≡ NoMemory
 
 -- The users were read, and the host was asked to listen at that address, but there were no ports.
-pub record LacksLinks (path address : List ℕ) (host host' : HostTold) (status : ℕ) : Type 0 where
+pub record LacksLinks (path address : List ℕ) (host host' : HostTold) (exit : Exit) : Type 0 where
   pub users : Users
   pub asked : HostTold
   pub accepts : AcceptsUsers path host asked users
   pub listens : OnlyPorts address asked host'
-  pub comes_to : LacksPorts asked host' status ⊎ LacksRoomToListen asked host' status
+  pub comes_to : LacksPorts asked host' exit ⊎ LacksRoomToListen asked host' exit
 
 -- There were no users, and nobody listened.
-pub record LacksUsersToServe (path : List ℕ) (host host' : HostTold) (before after : Told) (status : ℕ) : Type 0 where
+pub record LacksUsersToServe (path : List ℕ) (host host' : HostTold) (before after : Told) (exit : Exit) : Type 0 where
   pub keeps : OnlyAsked path host host'
-  pub comes_to : RefusesUsers host before after status ⊎ LacksUsers host host' before after status ⊎ LacksRoom before after status
+  pub comes_to : RefusesUsers host before after exit ⊎ LacksUsers host host' before after exit ⊎ LacksRoom before after exit
 
--- no port was handed out, and why, by the status; the standard link was left alone
-abbrev pub OpensNone : List ℕ → List ℕ → HostTold → HostTold → Told → Told → ℕ → Type 0
-OpensNone path address host host' before after status =
-    LacksUsersToServe path host host' before after status ⊎ LacksLinks path address host host' status
+-- no port was handed out, and why, by the exit; the standard link was left alone
+abbrev pub OpensNone : List ℕ → List ℕ → HostTold → HostTold → Told → Told → Exit → Type 0
+OpensNone path address host host' before after exit =
+    LacksUsersToServe path host host' before after exit ⊎ LacksLinks path address host host' exit
 
--- the status that serving ports is
-abbrev pub outcome_status : Outcome → ℕ
-outcome_status Served = 0
-outcome_status Failed = 6
-outcome_status LacksMemory = 5
-outcome_status Unkept = 9
+-- how a program ends by how serving ports did
+abbrev pub exit_of_outcome : Outcome → Exit
+exit_of_outcome Served = Done
+exit_of_outcome Failed = NoLinks
+exit_of_outcome LacksMemory = NoMemory
+exit_of_outcome Unkept = NotKept
 
--- So many ports that the host handed out were served so by the users of the text, as ended so, and taken back: 6 only where accepting
+-- So many ports that the host handed out were served so by the users of the text, as ended so, and taken back: `NoLinks` only where accepting
 -- failed at one, which its count shows; where there was no memory they came back as they were.
 pub record ServesOpened (serves : Users → List PortTold → List PortTold → Outcome → Type 0)
-    (path address : List ℕ) (workers : ℕ) (host host' : HostTold) (status : ℕ) : Type 0 where
+    (path address : List ℕ) (workers : ℕ) (host host' : HostTold) (exit : Exit) : Type 0 where
   pub opened : HostTold
   pub users : Users
   pub ports : List PortTold
@@ -75,10 +77,10 @@ pub record ServesOpened (serves : Users → List PortTold → List PortTold → 
   pub back : host' ≡ record opened { lent = take_all opened.lent returned }
   pub outcome : Outcome
   pub served : serves users ports returned outcome
-  pub status_is : status ≡ outcome_status outcome
+  pub exit_is : exit ≡ exit_of_outcome outcome
 
 -- what listening comes to, with the users of the text at that path, and so many workers at that address; the standard link is left alone
 pub record RunsListening (serves : Users → List PortTold → List PortTold → Outcome → Type 0)
-    (path address : List ℕ) (workers : ℕ) (host host' : HostTold) (before after : Told) (status : ℕ) : Type 0 where
+    (path address : List ℕ) (workers : ℕ) (host host' : HostTold) (before after : Told) (exit : Exit) : Type 0 where
   pub unserved : after ≡ before
-  pub comes_to : ServesOpened serves path address workers host host' status ⊎ OpensNone path address host host' before after status
+  pub comes_to : ServesOpened serves path address workers host host' exit ⊎ OpensNone path address host host' before after exit

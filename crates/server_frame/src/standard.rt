@@ -1,7 +1,8 @@
 //! Serving the standard link.
 ghost use Rattle.std.specs.Prelude.{◌≡◌};
-ghost use Rattle.server_frame.specs.Standard.{IsStarted, RunsStandard, ServesFrom, status_of};
+ghost use Rattle.server_frame.specs.Standard.{IsStarted, RunsStandard, ServesFrom, exit_of_end};
 
+use crate::exit::Exit;
 use crate::users::accept_users;
 use http_link::{LinkEnd, Withheld};
 use osm_outside::{Clock, Host, Link, Outside};
@@ -24,19 +25,18 @@ pub trait LinkServer {
         ensures { serves users.now (L.told link.old) (L.told link.new) result };
 }
 
-/// The status that an end of the standard link is: 0 where it was served to its end, 3 for a read
-/// fault, 4 for a write fault, 5 for want of memory, 7 where what came was refused, 9
-/// where a reply was withheld since what it tells of couldn't be kept.
-fn status_of(end: LinkEnd) -> u8
-    ensures { result ≡ status_of end }
+/// How a program ends by an end of its standard link. A reply that was withheld for want of memory is
+/// want of memory.
+fn exit_of(end: LinkEnd) -> Exit
+    ensures { result ≡ exit_of_end end }
 {
     match end {
-        LinkEnd::Ended | LinkEnd::Closed | LinkEnd::Budget => 0,
-        LinkEnd::ReadFault => 3,
-        LinkEnd::WriteFault => 4,
-        LinkEnd::Memory | LinkEnd::Unkept(Withheld::Memory) => 5,
-        LinkEnd::Unkept(Withheld::Failed) => 9,
-        LinkEnd::Refused(_) => 7,
+        LinkEnd::Ended | LinkEnd::Closed | LinkEnd::Budget => Exit::Done,
+        LinkEnd::ReadFault => Exit::NotRead,
+        LinkEnd::WriteFault => Exit::NotWritten,
+        LinkEnd::Memory | LinkEnd::Unkept(Withheld::Memory) => Exit::NoMemory,
+        LinkEnd::Unkept(Withheld::Failed) => Exit::NotKept,
+        LinkEnd::Refused(_) => Exit::MessageRefused,
     }
 }
 
@@ -55,15 +55,15 @@ fn serve_from<S: LinkServer, R: Wait, L: Link>(
     users: &UserTable,
     at: Option<u64>,
     standard: &mut L,
-) -> u8
+) -> Exit
     ensures { ServesFrom S.serves users.now at (L.told standard.old) (L.told standard.new) result }
 {
     start(standard, at);
-    status_of(S::serve(rt, alloc, users, standard))
+    exit_of(S::serve(rt, alloc, users, standard))
 }
 
 /// Reads the users of the text at that path, fixes the clock where a moment is given, in seconds
-/// since 1970, and serves the standard link. The result is the program's status.
+/// since 1970, and serves the standard link. The result is how the program ends.
 pub fn run_standard<S: LinkServer, H: Host, R: Wait, L: Link>(
     rt: &R,
     alloc: Global,
@@ -71,12 +71,12 @@ pub fn run_standard<S: LinkServer, H: Host, R: Wait, L: Link>(
     at: Option<u64>,
     host: &mut H,
     standard: &mut L,
-) -> u8
+) -> Exit
     ensures { RunsStandard S.serves users.now at (H.told host.old) (H.told host.new)
         (L.told standard.old) (L.told standard.new) result }
 {
     match accept_users(alloc, users, host) {
         Ok(users) => serve_from::<S, R, L>(rt, alloc, &users, at, standard),
-        Err(status) => status,
+        Err(exit) => exit,
     }
 }

@@ -4,6 +4,7 @@ ghost use Rattle.osm_outside.specs.Told.{Told};
 ghost use Rattle.server_frame.specs.Listening.{AcceptsUsers, LacksUsersToServe};
 ghost use Rattle.server_frame.specs.Users.{ReadsUsers, GivesTable};
 
+use crate::exit::Exit;
 use osm_outside::{Host, HostFault};
 use std::alloc::Global;
 use user_table::{UserTable, UsersFault};
@@ -29,18 +30,18 @@ pub fn read_users<H: Host>(alloc: Global, path: &str, host: &mut H) -> Result<Us
     }
 }
 
-/// The users of the text at that path. Where there are none the error is the program's status. The
+/// The users of the text at that path. Where there are none the error is how the program ends. The
 /// standard link is left alone.
-pub fn accept_users<H: Host>(alloc: Global, path: &str, host: &mut H) -> Result<UserTable, u8>
+pub fn accept_users<H: Host>(alloc: Global, path: &str, host: &mut H) -> Result<UserTable, Exit>
     ensures { MatchResult result
         (λ users. AcceptsUsers path.now (H.told host.old) (H.told host.new) users)
-        (λ status. (link : Told) → LacksUsersToServe path.now (H.told host.old) (H.told host.new) link link status) }
+        (λ exit. (link : Told) → LacksUsersToServe path.now (H.told host.old) (H.told host.new) link link exit) }
 {
     match read_users(alloc, path, host) {
         Ok(users) => Ok(users),
-        Err(NoUsers::Failed) => Err(3),
-        Err(NoUsers::Refused) => Err(2),
-        Err(NoUsers::Memory) => Err(5),
+        Err(NoUsers::Failed) => Err(Exit::NotRead),
+        Err(NoUsers::Refused) => Err(Exit::UsersRefused),
+        Err(NoUsers::Memory) => Err(Exit::NoMemory),
     }
 }
 

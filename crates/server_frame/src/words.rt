@@ -1,26 +1,17 @@
-//! The words that the system gave a program.
-ghost use Rattle.std.specs.Prelude.{◌≡◌, IfOk};
+//! A program to which the system gave no words.
+ghost use Rattle.std.specs.Prelude.{◌≡◌};
 ghost use Rattle.std.specs.IoError.{error_kind};
-ghost use Rattle.std.specs.Vec.Iter.{into_iter_items};
-ghost use Rattle.server_frame.specs.Words.{lacking_status};
+ghost use Rattle.server_frame.specs.Words.{exit_without_words};
 
-use std::alloc::{AllocError, Global};
-use std::env::Args;
+use crate::exit::Exit;
 use std::io;
 
-/// The words, in their order.
-pub fn words_of(alloc: Global, args: Args) -> Result<Vec<String>, AllocError>
-    ensures { IfOk result (λ words. words.items ≡ into_iter_items args) }
-{
-    args.collect(alloc)
-}
-
-/// The status where the system gave no words: 5 for want of memory, 1 for words that are no text.
-pub fn lacking_status(why: &io::Error) -> u8
-    ensures { result ≡ lacking_status (error_kind why.now) }
+/// How a program ends to which the system gave no words, for want of memory or since they are no text.
+pub fn exit_without_words(why: &io::Error) -> Exit
+    ensures { result ≡ exit_without_words (error_kind why.now) }
 {
     match why.kind() {
-        io::ErrorKind::OutOfMemory => 5,
-        _ => 1,
+        io::ErrorKind::OutOfMemory => Exit::NoMemory,
+        _ => Exit::NoReading,
     }
 }

@@ -2,7 +2,7 @@ use Rattle.std.proofs.Common.{◌≡◌, ◌++◌, ℕ, List, [], Some, sym, ◌
 use Rattle.std.proofs.lemmas.Bool.{true≢false}
 use Rattle.osm_base.specs.Parts.{parted}
 use Rattle.journal_input.specs.Going.{Stands, LinesFail}
-use Rattle.journal_input.proofs.Cut.{cut_shorter}
+use Rattle.line_text.proofs.Cuts.{cut_shorter}
 use Rattle.journal_input.proofs.Exits.{at_exit}
 use Rattle.journal_input.proofs.LinesLemmas.{piece_closes, piece_comes, piece_goes, line_goes, line_fails}
 use Rattle.journal_input.proofs.lines.judge_piece.Goals as goal

@@ -10,7 +10,7 @@ returns-in_err-intake g c =
     at_end g.T.Lines.lines g.T.KeptText.is_entry g.S.EntryJudge.is_legal g.S.EntryJudge.entries text c.from_residual.result c.in_err-intake.field-0.0
     c.from_residual.ensures.1
     (λ told.
-    no_part g.T.KeptText.line g.T.Lines.lines g.T.KeptText.is_entry law.none law.first law.one law.tell g.S.EntryJudge.is_legal
+    no_part g.T.KeptText.line g.T.Lines.lines g.T.KeptText.is_entry law.lines law.one law.tell g.S.EntryJudge.is_legal
     text c.loop-part.rest.now c.in-Some.part.now c.in-Some.behind.now c.loop-part.intake.entries.items so_far.0 so_far.1 c.in-Some.ensures
     (c.in_err-intake.ensures told))
 
@@ -22,9 +22,9 @@ loop-part-preserved g c =
     let all = c.in_ok-intake.intake.entries.items in
     let so_far = c.loop-part.invariant in
     let taken = c.in_ok-intake.ensures in (
-      read_part g.T.KeptText.line g.T.Lines.lines g.T.KeptText.is_entry law.none law.first
+      read_part g.T.KeptText.line g.T.Lines.lines g.T.KeptText.is_entry law.lines
           c.args.text.now c.loop-part.rest.now part c.in-Some.behind.now es taken.more all so_far.0 c.in-Some.ensures taken.read taken.entries,
-      typed_all g.T.KeptText.line g.T.Lines.lines g.T.KeptText.is_entry law.none law.first part es taken.more all so_far.1 taken.read taken.entries,
+      typed_all g.T.KeptText.line g.T.Lines.lines g.T.KeptText.is_entry law.lines part es taken.more all so_far.1 taken.read taken.entries,
       taken.so_far,
     )
 
@@ -36,7 +36,7 @@ returns-in_err-intake-2 g c =
     at_end g.T.Lines.lines g.T.KeptText.is_entry g.S.EntryJudge.is_legal g.S.EntryJudge.entries text c.from_residual-in_err-intake-2.result
     c.in_err-intake-2.field-0.0 c.from_residual-in_err-intake-2.ensures.1
     (λ told.
-    no_rest g.T.KeptText.line g.T.Lines.lines g.T.KeptText.is_entry law.none law.first law.one law.tell g.S.EntryJudge.is_legal
+    no_rest g.T.KeptText.line g.T.Lines.lines g.T.KeptText.is_entry law.lines law.one law.tell g.S.EntryJudge.is_legal
     text c.loop-part.rest.now c.loop-part.intake.entries.items so_far.0 so_far.1 (c.in_err-intake-2.ensures told))
 
 pub returns : goal.returns
@@ -47,8 +47,8 @@ returns g c =
     let so_far = c.loop-part.invariant in
     let taken = c.in_ok-intake-2.ensures in
     let are =
-    read_rest g.T.KeptText.line g.T.Lines.lines g.T.KeptText.is_entry law.none law.first
+    read_rest g.T.KeptText.line g.T.Lines.lines g.T.KeptText.is_entry law.lines
     text c.loop-part.rest.now c.loop-part.intake.entries.items taken.more all so_far.0 so_far.1 taken.read taken.entries in
     at_journal g.T.Lines.lines g.T.KeptText.is_entry g.S.EntryJudge.is_legal g.S.EntryJudge.entries text c.judge.result all are
-    (λ es other. only g.T.KeptText.line g.T.Lines.lines g.T.KeptText.is_entry law.none law.first law.one law.tell text all es are other)
+    (λ es other. only g.T.KeptText.line g.T.Lines.lines g.T.KeptText.is_entry law.lines law.one law.tell text all es are other)
     c.judge.ensures

@@ -11,7 +11,7 @@ returns-in_err-entries g t c =
     let fault = c.in_err-entries.field-0.0 in
     at_fault lines is_entry c.args.text.now c.from_residual.result (λ v. v.items) fault c.from_residual.ensures.1
     (λ told.
-    refused_front g.T.KeptText.line lines is_entry law.none law.first law.one c.args.text.now front c.in-Some.back.now c.in-Some.ensures
+    refused_front g.T.KeptText.line lines is_entry law.lines law.one c.args.text.now front c.in-Some.back.now c.in-Some.ensures
     (of_err lines is_entry front c.join-first.result.0 (λ v. v.items) fault c.in_err-entries.was c.join-first.ensures.first told))
 
 pub returns-in_err-rest : goal.returns-in_err-rest
@@ -23,7 +23,7 @@ returns-in_err-rest g t c =
     let fault = c.in_err-rest.field-0.0 in
     at_fault lines is_entry c.args.text.now c.from_residual-in_err-rest.result (λ v. v.items) fault c.from_residual-in_err-rest.ensures.1
     (λ told.
-    refused_back g.T.KeptText.line lines is_entry law.none law.first law.one c.args.text.now c.in-Some.front.now back c.in-Some.ensures
+    refused_back g.T.KeptText.line lines is_entry law.lines law.one c.args.text.now c.in-Some.front.now back c.in-Some.ensures
     (of_err lines is_entry back c.join-first.result.1 (λ v. v.items) fault c.in_err-rest.was c.join-first.ensures.second told))
 
 pub returns : goal.returns
@@ -37,7 +37,7 @@ returns g t c =
     let rest = c.in_ok-rest.rest in
     at_both lines is_entry c.args.text.now c.together.result (λ v. v.items) entries.items rest.items
     (λ all is.
-    joined g.T.KeptText.line lines is_entry law.none law.first c.args.text.now front back entries.items rest.items all c.in-Some.ensures
+    joined g.T.KeptText.line lines is_entry law.lines c.args.text.now front back entries.items rest.items all c.in-Some.ensures
     (of_ok lines is_entry front c.join-first.result.0 (λ v. v.items) entries c.in_ok-entries.was c.join-first.ensures.first)
     (of_ok lines is_entry back c.join-first.result.1 (λ v. v.items) rest c.in_ok-rest.was c.join-first.ensures.second)
     is)

@@ -46,5 +46,5 @@ returns-clause-only g c entries typed same =
     let lines =
     lines_are g.T.Lines.text g.T.Lines.lines g.T.KeptText.header found law.begins c.header.ensures.header
     text rest entries (behind_header text found rest cases.0 cases.1) (c.kept_text.ensures ∙ same) in
-    only g.T.KeptText.line g.T.Lines.lines g.T.KeptText.is_entry law.none law.first law.one law.tell rest (g.S.EntryJudge.entries c.in_ok-journal.journal) entries
+    only g.T.KeptText.line g.T.Lines.lines g.T.KeptText.is_entry law.lines law.one law.tell rest (g.S.EntryJudge.entries c.in_ok-journal.journal) entries
     c.in_ok-journal.ensures.read (record { is = lines; typed = typed })

@@ -1,5 +1,5 @@
 use Rattle.json.specs.Reads.{token_of}
-use Rattle.journal_text.proofs.Found.{is_alone, not_alone}
+use Rattle.json_line.proofs.Found.{is_alone, not_alone}
 use Rattle.journal_text.proofs.entries.whole.Goals as goal
 
 pub returns-in-None : goal.returns-in-None

@@ -2,9 +2,9 @@ use Rattle.std.proofs.Common.{◌≡◌, ◌+◌, [], ◌∷◌, ◌++◌, take,
 use Rattle.std.specs.Prelude.{All}
 use Rattle.std.proofs.lemmas.List.{take_more}
 use Rattle.std.proofs.lemmas.List.Elements.{All-more}
+use Rattle.line_text.proofs.LinesOf.{lines_more}
 use Rattle.journal_text.specs.Line.{line, IsEntry}
 use Rattle.journal_text.specs.Text.{lines}
-use Rattle.journal_text.proofs.LinesRead.{lines_more}
 use Rattle.journal_text.proofs.journals.lines_behind.Goals as goal
 
 pub loop-entry-preserved : goal.loop-entry-preserved
@@ -17,7 +17,7 @@ loop-entry-preserved c =
       c.in_ok-push.ensures.items
           ∙ ap (λ ts. ts ++ 10 ∷ []) c.in_ok-text.ensures.line
           ∙ append_assoc c.loop-entry.text.items (line e) (10 ∷ [])
-          ∙ lines_more (take i es) e c.loop-entry.text.items c.args.bytes.items c.loop-entry.invariant.0
+          ∙ lines_more line (take i es) e c.loop-entry.text.items c.args.bytes.items c.loop-entry.invariant.0
           ∙ ap (λ xs. c.args.bytes.items ++ lines xs) (sym next),
       All-more IsEntry es i e within c.loop-entry.invariant.1 (subst IsEntry c.entry-item.is c.in_ok-text.ensures.typed),
     )

@@ -2,9 +2,10 @@ use Rattle.std.proofs.Common.{◌≡◌, [], Some, sym, ap, ◌∙◌}
 use Rattle.json.specs.Lex.{tokens}
 use Rattle.osm_model.specs.declared.commands.Entry.{Entry}
 use Rattle.journal_text.specs.Line.{line, line_data, IsEntry}
-use Rattle.journal_text.specs.Read.{Parsed, entry_next}
+use Rattle.json_line.specs.Read.{Parsed}
+use Rattle.journal_text.specs.Read.{entry_next}
 use Rattle.journal_text.proofs.Complete.{entry_read}
-use Rattle.journal_text.proofs.Found.{same_read}
+use Rattle.json_line.proofs.Found.{same_read}
 use Rattle.journal_text.proofs.PlainLine.{line_plain}
 use Rattle.journal_text.proofs.law.lines_tell_entries.Goals as goal
 

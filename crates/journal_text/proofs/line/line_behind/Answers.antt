@@ -1,7 +1,7 @@
 use Rattle.std.proofs.Common.{◌++◌, ap, ◌∙◌}
 use Rattle.serde_json.specs.Written.{compact_text}
 use Rattle.journal_text.specs.Line.{line_data}
-use Rattle.journal_text.proofs.Sent.{text_behind, utf8_behind}
+use Rattle.json_line.proofs.Sent.{text_behind, utf8_behind}
 use Rattle.journal_text.proofs.line.line_behind.Goals as goal
 
 pub returns-clause-line : goal.returns-clause-line

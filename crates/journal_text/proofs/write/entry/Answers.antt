@@ -1,6 +1,6 @@
 use Rattle.std.proofs.Common.{codes}
 use Rattle.journal_text.specs.Line.{command, user, line_data}
-use Rattle.journal_text.proofs.Sent.{◌⊕◌, member_sent, record_sent, sent, at_last}
+use Rattle.json_line.proofs.Sent.{◌⊕◌, member_sent, record_sent, sent, at_last}
 use Rattle.journal_text.proofs.write.entry.Goals as goal
 
 pub returns : goal.returns

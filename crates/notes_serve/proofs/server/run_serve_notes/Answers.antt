@@ -13,7 +13,7 @@ returns-in-Ok g c = record {
     back = c.close_ports.ensures.back;
     outcome = c.serve_handed-outcome.result;
     served = c.serve_handed-outcome.ensures.serves;
-    status_is = c.close_ports.ensures.status;
+    exit_is = c.close_ports.ensures.exit;
   });
 }
 

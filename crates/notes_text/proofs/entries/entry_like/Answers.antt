@@ -1,9 +1,10 @@
 use Rattle.std.proofs.Common.{sym, ap, ◌∙◌, subst, IsUtf8}
 use Rattle.json.specs.Lex.{tokens}
 use Rattle.notes_text.specs.Line.{line_data}
-use Rattle.notes_text.specs.Read.{entry_next, alone}
+use Rattle.json_line.specs.Read.{alone}
+use Rattle.notes_text.specs.Read.{entry_next}
 use Rattle.notes_text.proofs.Complete.{entry_read}
-use Rattle.notes_text.proofs.Found.{found_is}
+use Rattle.json_line.proofs.Found.{found_is}
 use Rattle.notes_text.proofs.PlainLine.{line_plain}
 use Rattle.notes_text.proofs.entries.entry_like.Goals as goal
 

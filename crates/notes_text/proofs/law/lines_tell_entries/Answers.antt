@@ -2,9 +2,10 @@ use Rattle.std.proofs.Common.{◌≡◌, [], Some, sym, ap, ◌∙◌}
 use Rattle.json.specs.Lex.{tokens}
 use Rattle.notes_core.specs.declared.commands.NoteEntry.{NoteEntry}
 use Rattle.notes_text.specs.Line.{line, line_data, IsEntry}
-use Rattle.notes_text.specs.Read.{Parsed, entry_next}
+use Rattle.json_line.specs.Read.{Parsed}
+use Rattle.notes_text.specs.Read.{entry_next}
 use Rattle.notes_text.proofs.Complete.{entry_read}
-use Rattle.notes_text.proofs.Found.{same_read}
+use Rattle.json_line.proofs.Found.{same_read}
 use Rattle.notes_text.proofs.PlainLine.{line_plain}
 use Rattle.notes_text.proofs.law.lines_tell_entries.Goals as goal
 

@@ -1,6 +1,6 @@
 use Rattle.std.proofs.Common.{codes}
 use Rattle.notes_text.specs.Line.{user}
-use Rattle.notes_text.proofs.Sent.{member_sent, sent, then_so}
+use Rattle.json_line.proofs.Sent.{member_sent, sent, then_so}
 use Rattle.notes_text.proofs.write.known.Goals as goal
 
 pub returns : goal.returns

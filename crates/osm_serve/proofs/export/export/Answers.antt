@@ -11,4 +11,4 @@ returns-in-Ok g c =
     })
 
 pub returns-in-Err : goal.returns-in-Err
-returns-in-Err g c = inr (record { unserved = refl; status_is = refl })
+returns-in-Err g c = inr (record { unserved = refl; exit_is = refl })

@@ -4,7 +4,7 @@ use Rattle.recovered_start.proofs.Unfit.{does_not_fit, holds_whole}
 use Rattle.recovered_start.proofs.begin.take_up_fit.Goals as goal
 
 pub returns-in-Err-clause-taken : goal.returns-in-Err-clause-taken
-returns-in-Err-clause-taken g c = inl c.in-Err.ensures.taken
+returns-in-Err-clause-taken g c = inl (record { why = c.in-Err.why; lacks = c.in-Err.ensures.taken; exit_is = c.exit_of.ensures })
 
 pub returns-clause-taken : goal.returns-clause-taken
 returns-clause-taken g c =

@@ -6,5 +6,5 @@ returns g c = record {
   started = c.start.ensures;
   end = c.serve.result;
   served = c.serve.ensures;
-  status_is = c.status_of.ensures;
+  exit_is = c.exit_of.ensures;
 }

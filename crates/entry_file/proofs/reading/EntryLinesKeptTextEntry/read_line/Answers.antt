@@ -1,7 +1,7 @@
 use Rattle.std.proofs.Common.{subst}
 use Rattle.std.specs.Prelude.{Err}
-use Rattle.journal_text.specs.Heard.{IsEntryRead}
-use Rattle.journal_text.specs.declared.faults.LineFault.{LineFault}
+use Rattle.line_text.specs.Found.{IsEntryRead}
+use Rattle.line_text.specs.declared.faults.LineFault.{LineFault}
 use Rattle.entry_file.proofs.reading.EntryLinesKeptTextEntry.read_line.Goals as goal
 
 pub returns-in-Err-NotLine-clause-refused : goal.returns-in-Err-NotLine-clause-refused

@@ -1,7 +1,12 @@
-use Rattle.std.proofs.Common.{◌≡◌, ◌+◌, ◌≤◌, true, sym, subst, arith}
-use Rattle.osm_element.specs.Elements.{next_id}
+use Rattle.std.proofs.Common.{◌≡◌, ◌+◌, ◌≤◌, ◌&&◌, ◌||◌, ℕ, true, List, length, sym, ap, ◌∙◌, subst, arith}
+use Rattle.std.specs.Prelude.{not, Option, option_copied, option_and_then}
+use Rattle.osm_base.specs.Key.{key_eq, lists_key}
+use Rattle.osm_base.specs.declared.keys.Key.{Key}
+use Rattle.osm_element.specs.Elements.{content_of, next_id, refs_in, version_in}
+use Rattle.osm_element.specs.Version.{Version}
+use Rattle.osm_element.specs.declared.contents.Content.{Content}
 use Rattle.osm_element.specs.declared.elements.Elements.{Elements}
-use Rattle.reverse_refs.specs.Users.{knows, free_in}
+use Rattle.reverse_refs.specs.Users.{UserRows, users_in, past_in, knows, free_in}
 use Rattle.indexed_map.specs.Ever.{has_used, IsPlacedEver}
 use Rattle.indexed_map.specs.Indexed.{Stand, IsIndexed, times_new, stand}
 use Rattle.indexed_map.specs.Placed.{IsPlaced}
@@ -41,6 +46,12 @@ returns-clause-ever c a b =
 
 pub invariant_of-self : goal.invariant_of-self
 invariant_of-self c =
+    let old : UserRows = c.self.inside.users in
+    let left : UserRows = c.end_uses.new.users in
+    let U : Option (Content ℕ) → Type 0 = λ held. (a b : Key) → lists_key (users_in left b) a ≡ lists_key (users_in old b) a && not (lists_key (refs_in held) b && (key_eq c.args.key a && not (lists_key c.args.listed.now b))) in
+    let L : Option (Content ℕ) → Type 0 = λ held. (a b : Key) → lists_key (past_in left b) a ≡ lists_key (past_in old b) a || (lists_key (users_in old b) a && (lists_key (refs_in held) b && (key_eq c.args.key a && not (lists_key c.args.listed.now b)))) in
+    let held : option_copied c.held_last.result ≡ content_of c.self.inside.store.elements c.args.key
+    = c.held_last.ensures ∙ ap (λ (vs : List Version). option_and_then (λ (v : Version). v.content) (version_in vs (length vs))) c.history-versions.ensures in
     let I : Elements → Type 0 = λ E. IsIndexed E c.begin_uses.new.users in
     let P : Elements → Type 0 = λ E. IsPlaced E c.move_node.new.grid in
     let H : Elements → Type 0 = λ E. IsPlacedEver E c.move_node.new.grid in
@@ -54,9 +65,9 @@ invariant_of-self c =
           follows
           c.self.invariant.indexed
           c.requires.listed
-          c.end_uses.ensures.users
+          (subst U held c.end_uses.ensures.users)
           c.begin_uses.ensures.users
-          c.end_uses.ensures.past
+          (subst L held c.end_uses.ensures.past)
           c.begin_uses.ensures.past);
       placed = subst P (sym c.push_version.ensures.elements) c.move_node.ensures.placed;
       placed_ever = subst H (sym c.push_version.ensures.elements) c.move_node.ensures.ever;

@@ -1,7 +1,7 @@
 use Rattle.std.proofs.Common.{subst}
 use Rattle.std.specs.Prelude.{Err}
-use Rattle.notes_text.specs.Heard.{IsEntryRead}
-use Rattle.notes_text.specs.declared.faults.LineFault.{LineFault}
+use Rattle.line_text.specs.Found.{IsEntryRead}
+use Rattle.line_text.specs.declared.faults.LineFault.{LineFault}
 use Rattle.notes_kept.proofs.lines.NoteLinesKeptTextNoteEntry.read_line.Goals as goal
 
 pub returns-in-Err-NotLine-clause-refused : goal.returns-in-Err-NotLine-clause-refused

@@ -1,0 +1,4 @@
+pub mod Found
+pub mod Hearing
+pub mod Onto
+pub mod Sent

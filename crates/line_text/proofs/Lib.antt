@@ -1,0 +1,4 @@
+pub mod Cuts
+pub mod LineCuts
+pub mod LinesOf
+mod Parted

@@ -1,0 +1,4 @@
+pub mod Cut
+pub mod Found
+pub mod Lines
+pub mod OneLine

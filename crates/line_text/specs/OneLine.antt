@@ -1,0 +1,7 @@
+-- Bytes without the end of a line.
+use Rattle.std.specs.Prelude.{ℕ, ◌==◌, Bool, not, List}
+use Rattle.std.specs.List.{list_all}
+
+-- no byte 10 stands in it
+abbrev pub is_one_line : List ℕ → Bool
+is_one_line text = list_all (λ b. not (b == 10)) text
