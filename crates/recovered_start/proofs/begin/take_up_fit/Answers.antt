@@ -15,8 +15,8 @@ returns-clause-taken g c =
     c.in-Ok.ensures.taken c.in-Ok.ensures.text c.back.ensures
     c.into_device-device.ensures c.in-Ok.ensures.stands (λ fit. both_ways false refl (c.if-fits.ensures.1 fit)))
 
-pub returns-in-Ok-clause-holds : goal.returns-in-Ok-clause-holds
-returns-in-Ok-clause-holds g c =
+pub returns-then-fits-clause-holds : goal.returns-then-fits-clause-holds
+returns-then-fits-clause-holds g c =
     let F = g.J.File.Device in
     holds_whole F.moment F.left_since g.S.Text.Lines.text c.in-Ok.taken.1.device c.in-Ok.taken.1.text (g.S.EntryJudge.entries c.in-Ok.taken.0)
     c.in-Ok.ensures.stands c.in-Ok.ensures.sound c.in-Ok.ensures.text
