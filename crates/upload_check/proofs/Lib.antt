@@ -1,3 +1,4 @@
+mod Older
 mod Noted
 mod Users
 mod FirstUser

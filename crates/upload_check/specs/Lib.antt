@@ -1,4 +1,5 @@
 pub mod Users
+pub mod Older
 pub mod Overlay
 pub mod Checks
 pub mod Effects

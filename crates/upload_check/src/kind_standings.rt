@@ -1,7 +1,7 @@
 //! Where the elements of one kind stand.
 //!
 //! Where created elements stand is kept in a list for each kind, since their ids rise by one from
-//! the world's next id; only older elements stand in a map by id. So a look at a created element
+//! the world's next id; only older elements stand apart, by id. So a look at a created element
 //! takes the same time however many an upload creates, and no id that a client chooses lengthens a
 //! list.
 ghost use Rattle.std.specs.Prelude.{◌≡◌, ℕ, ◌<◌, ◌≤◌, ◌==◌, true, [], Option, None, Some, is_some, if◌then◌else◌, length, slice_get, OnOk, OnErr};
@@ -10,10 +10,10 @@ ghost use Rattle.std.specs.Ordering.{nat_cmp};
 ghost use Rattle.std.specs.BTreeMap.{is_at};
 ghost use Rattle.upload_check.specs.Overlay.{created_at, noted_at, no_notes_from};
 
+use crate::older_standings::OlderStandings;
 use crate::standings::Standing;
 use osm_base::Memory;
 use std::alloc::Global;
-use std::collections::BTreeMap;
 use std::marker::Model;
 
 /// Where the elements of one kind stand of which the operations changed anything. Ids of created
@@ -25,7 +25,7 @@ pub struct KindStandings {
     first: u64,
     room: usize,
     created: Vec<Standing>,
-    older: BTreeMap<u64, Standing>,
+    older: OlderStandings,
 }
 
 impl Model for KindStandings {
@@ -33,7 +33,7 @@ impl Model for KindStandings {
 
     ghost Value = { KindNotes };
 
-    ghost view = { λ s. record { first = s.first; created = s.created.items; older = s.older.entries } };
+    ghost view = { λ s. record { first = s.first; created = s.created.items; older = s.older } };
 }
 
 impl KindStandings {
@@ -46,7 +46,7 @@ impl KindStandings {
             first,
             room,
             created: Vec::new(alloc),
-            older: BTreeMap::new(alloc),
+            older: OlderStandings::new(alloc),
         }
     }
 
@@ -56,7 +56,7 @@ impl KindStandings {
     {
         match self.created(id) {
             Some(standing) => Some(standing),
-            None => self.older.get(&id).copied(),
+            None => self.older.look(id),
         }
     }
 
@@ -78,11 +78,11 @@ impl KindStandings {
         ensures memory { OnErr result (self.new ≡ self.old) }
     {
         if id < self.first {
-            return set_older(&mut self.older, id, standing);
+            return self.older.set(id, standing);
         }
         let place = (id - self.first) as usize;
         if place > self.created.len() {
-            return set_older(&mut self.older, id, standing);
+            return self.older.set(id, standing);
         }
         set_created(&mut self.created, self.room, place, standing)
     }
@@ -94,12 +94,12 @@ impl KindStandings {
         ensures { (i : ℕ) → noted_at self.new i ≡ (if i == id then Some standing else noted_at self.old i) }
     {
         if id < self.first {
-            change_older(&mut self.older, id, standing);
+            self.older.change(id, standing);
             return;
         }
         let place = (id - self.first) as usize;
         if place >= self.created.len() {
-            change_older(&mut self.older, id, standing);
+            self.older.change(id, standing);
             return;
         }
         change_created(&mut self.created, place, standing);
@@ -137,27 +137,9 @@ fn set_created(
     Ok(())
 }
 
-fn set_older(older: &mut BTreeMap<u64, Standing>, id: u64, standing: Standing) -> Result<(), Memory>
-    ensures set { OnOk result ((i : ℕ) → lookup (is_at (nat_cmp i)) older.new.entries
-        ≡ (if i == id then Some standing else lookup (is_at (nat_cmp i)) older.old.entries)) }
-    ensures memory { OnErr result (older.new.entries ≡ older.old.entries) }
-{
-    older.insert(id, standing)?;
-    Ok(())
-}
-
 fn change_created(created: &mut Vec<Standing>, place: usize, standing: Standing)
     requires { place < length created.old.items }
     ensures { (i : ℕ) → slice_get created.new.items i ≡ (if i == place then Some standing else slice_get created.old.items i) }
 {
     created[place] = standing;
-}
-
-/// Only an entry that is new takes memory.
-fn change_older(older: &mut BTreeMap<u64, Standing>, id: u64, standing: Standing)
-    requires { is_some (lookup (is_at (nat_cmp id)) older.old.entries) ≡ true }
-    ensures { (i : ℕ) → lookup (is_at (nat_cmp i)) older.new.entries
-        ≡ (if i == id then Some standing else lookup (is_at (nat_cmp i)) older.old.entries) }
-{
-    let _always = older.insert(id, standing).is_ok();
 }

@@ -17,6 +17,7 @@ mod law;
 mod look_keys;
 mod looks;
 mod names;
+mod older_standings;
 mod orders;
 mod overlays;
 mod planning;
