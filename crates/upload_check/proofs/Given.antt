@@ -63,7 +63,7 @@ named-known (Some x) r k e = let same : x ≡ k = cc in ap (λ (y : Key). Some y
 pub element-known : (s : Sight) (q : Kind) (name : Name) (k : Key) → element s q name ≡ Ok k → known s q name ≡ Some k
 element-known s q name k e = named-known (known s q name) (refused.NoElement (said s.operations name) (place_of s) q) k e
 
-known-is : (s : Sight) (q : Kind) (name : Name) (k : Key) → known s q name ≡ Some k → k ≡ key q (id_of s.over.keys name)
+pub known-is : (s : Sight) (q : Kind) (name : Name) (k : Key) → known s q name ≡ Some k → k ≡ key q (id_of s.over.keys name)
 known-is s q (Old id) k e =
     ⊎_elim
     (λ t. absurd (none-some k (sym (ap (λ (b : Bool). if b then None else Some (key q id)) t) ∙ e)))

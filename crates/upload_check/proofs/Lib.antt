@@ -10,6 +10,7 @@ mod Shifted
 mod Walks
 mod Agrees
 mod Given
+mod Passed
 mod Entered
 mod Alike
 mod SoFar

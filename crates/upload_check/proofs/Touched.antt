@@ -24,20 +24,6 @@ pub cons_widened : (a : Option Area) (o : Option Position) (ps : List Position) 
 cons_widened a None ps = refl
 cons_widened a (Some p) ps = refl
 
--- an element's place, then those of the elements of two lists, then another
-pub touched_is :
-    (f : Key → Option Position) (k : Key) (ks : List Key) (o : Option Position) (a b c : Option Area)
-    → a ≡ widen_all None (option_to_list (f k))
-    → b ≡ widen_all a (filter_map f ks)
-    → c ≡ widen_all b (option_to_list o)
-    → c ≡ widen_all None (filter_map f (k ∷ ks) ++ option_to_list o)
-touched_is f k ks o a b c first listed last =
-    last
-    ∙ ap (λ (x : Option Area). widen_all x (option_to_list o)) (listed
-    ∙ ap (λ (x : Option Area). widen_all x (filter_map f ks)) first
-    ∙ sym (cons_widened None (f k) (filter_map f ks)))
-    ∙ sym (fold-append widen None (filter_map f (k ∷ ks)) (option_to_list o))
-
 -- -- a place that a box has already
 
 min-twice : (a b : ℤ) → int_min (int_min a b) b ≡ int_min a b
@@ -80,6 +66,39 @@ swapped (Some a) p q =
     (area_join-assoc a (at_position p) (at_position q)
     ∙ ap (area_join a) (area_join-comm (at_position p) (at_position q))
     ∙ sym (area_join-assoc a (at_position q) (at_position p)))
+
+past-one : (a : Option Area) (p : Position) (ps : List Position) → widen_all (widen a p) ps ≡ widen (widen_all a ps) p
+past-one a p [] = refl
+past-one a p (q ∷ qs) = ap (λ (x : Option Area). widen_all x qs) (swapped a p q) ∙ past-one (widen a q) p qs
+
+-- two lists in either order
+past : (a : Option Area) (ps qs : List Position) → widen_all (widen_all a ps) qs ≡ widen_all (widen_all a qs) ps
+past a [] qs = refl
+past a (p ∷ ps) qs = past (widen a p) ps qs ∙ ap (λ (x : Option Area). widen_all x ps) (past-one a p qs)
+
+-- the places of the elements of two lists, then an element's own, then another
+pub touched_is :
+    (f : Key → Option Position) (k : Key) (begun ended : List Key) (o : Option Position) (a b c : Option Area)
+    → a ≡ widen_all None (filter_map f (begun ++ ended))
+    → b ≡ widen_all a (option_to_list (f k))
+    → c ≡ widen_all b (option_to_list o)
+    → c ≡ widen_all None (filter_map f (k ∷ (ended ++ begun)) ++ option_to_list o)
+touched_is f k begun ended o a b c both first last =
+    last
+    ∙ ap (λ (x : Option Area). widen_all x (option_to_list o))
+    (first
+    ∙ ap (λ (x : Option Area). widen_all x (option_to_list (f k))) (both ∙ turned)
+    ∙ past None (filter_map f (ended ++ begun)) (option_to_list (f k))
+    ∙ sym (cons_widened None (f k) (filter_map f (ended ++ begun))))
+    ∙ sym (fold-append widen None (filter_map f (k ∷ (ended ++ begun))) (option_to_list o))
+  where
+    turned : widen_all None (filter_map f (begun ++ ended)) ≡ widen_all None (filter_map f (ended ++ begun))
+    turned =
+        ap (widen_all None) (filter_map-append f begun ended)
+        ∙ fold-append widen None (filter_map f begun) (filter_map f ended)
+        ∙ past None (filter_map f begun) (filter_map f ended)
+        ∙ sym (fold-append widen None (filter_map f ended) (filter_map f begun))
+        ∙ sym (ap (widen_all None) (filter_map-append f ended begun))
 
 stays : (a : Option Area) (p : Position) (ps : List Position) → widen a p ≡ a → widen (widen_all a ps) p ≡ widen_all a ps
 stays a p [] there = there

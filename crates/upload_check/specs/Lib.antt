@@ -2,6 +2,7 @@ pub mod Users
 pub mod Older
 pub mod Overlay
 pub mod Checks
+pub mod Passed
 pub mod Effects
 pub mod Shifts
 pub mod Judged

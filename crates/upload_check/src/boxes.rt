@@ -30,7 +30,7 @@ fn place_given(operation: &Op) -> Option<Coord>
 }
 
 /// The least box with a place, where there is one.
-fn with_place(area: Option<Box7>, place: Option<Coord>) -> Option<Box7>
+pub fn with_place(area: Option<Box7>, place: Option<Coord>) -> Option<Box7>
     ensures { result ≡ widen_all area (option_to_list place) }
 {
     match (area, place) {
@@ -151,17 +151,6 @@ impl<'a> View<'a> {
         }
     }
 
-    /// The least box with the places of those of some elements that are visible nodes.
-    #[tactic(auto, using(crate::proofs::Touched::cons_widened))]
-    fn with_places(&self, mut area: Option<Box7>, keys: &[Key]) -> Option<Box7>
-        ensures { result ≡ widen_all area (filter_map (position_now self.now) keys.now) }
-    {
-        for key in keys {
-            area = with_place(area, self.place_of(*key));
-        }
-        area
-    }
-
     /// The box with the place of an element, unless it is known to hold that.
     fn with_element(&self, area: Option<Box7>, key: Key, known: bool) -> Option<Box7>
         ensures { result ≡ (if known then area else widen_all area (option_to_list (position_now self.now key))) }
@@ -173,34 +162,38 @@ impl<'a> View<'a> {
         }
     }
 
-    /// The least box with the places of the elements of both lists. What stands at the same place in
-    /// both is looked at once, so where a long list hardly changes it costs no more than one.
-    fn with_lists(&self, area: Option<Box7>, ended: &[Key], begun: &[Key]) -> Option<Box7>
-        ensures { result ≡ widen_all area (filter_map (position_now self.now) (ended.now ++ begun.now)) }
+    /// The least box with the places of the elements of both lists, from that of what begins. What
+    /// stands at the same place in both isn't looked at, so where a long list hardly changes, what ends
+    /// costs next to nothing.
+    fn with_ended(&self, area: Option<Box7>, begun: &[Key], ended: &[Key]) -> Option<Box7>
+        requires { area ≡ widen_all None (filter_map (position_now self.now) begun.now) }
+        ensures { result ≡ widen_all None (filter_map (position_now self.now) (begun.now ++ ended.now)) }
     {
-        let mut both = self.with_places(area, ended);
-        for (place, key) in begun.iter().enumerate() {
-            both = self.with_element(both, *key, has_at(ended, place, *key));
+        let mut both = area;
+        for (place, key) in ended.iter().enumerate() {
+            both = self.with_element(both, *key, has_at(begun, place, *key));
         }
         both
     }
 
-    /// The least box of what an operation touches: where its element lies, whose content stands there,
-    /// where what the element listed and what it lists lies, and the element's new place.
+    /// The least box of what an operation touches, from that of what it lists: where its element lies,
+    /// whose content stands there, where what the element listed lies, and the element's new place.
     pub fn touched(
         &self,
         operation: &Op,
         key: Key,
         holds: Holds,
-        ended: &[Key],
+        area: Option<Box7>,
         begun: &[Key],
+        ended: &[Key],
     ) -> Option<Box7>
         requires fresh { IsFresh self.now operation.now key }
         requires holds { holds ≡ (standing self.now key).holds }
+        requires area { area ≡ widen_all None (filter_map (position_now self.now) begun.now) }
         ensures { result ≡ widen_all None (filter_map (position_now self.now) (key ∷ (ended.now ++ begun.now)) ++ option_to_list (new_position (content_of_op self.now.over.keys operation.now))) }
     {
-        let area = with_place(None, self.place_before(operation, key, holds));
-        let area = self.with_lists(area, ended, begun);
+        let area = self.with_ended(area, begun, ended);
+        let area = with_place(area, self.place_before(operation, key, holds));
         with_place(area, place_given(operation))
     }
 }

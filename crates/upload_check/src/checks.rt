@@ -1,20 +1,45 @@
 //! The tests of one operation, on what those before it left.
-ghost use Rattle.std.specs.Prelude.{◌≡◌, ◌+◌, ◌<◌, ◌^◌, length, map, find, IfOk};
+//!
+//! What an operation names is looked for once: the test that a reference is visible takes its place
+//! for the box, too, and where the operation's own element stands goes with the operation.
+ghost use Rattle.std.specs.Prelude.{◌≡◌, ◌+◌, ◌<◌, ◌^◌, None, length, map, IfOk};
 ghost use Rattle.osm_change.specs.Change.{named, named_member, names_listed};
 ghost use Rattle.upload_check.specs.Effects.{done_with};
-ghost use Rattle.upload_check.specs.Checks.{place_of, element, current_version, is_missing, missing, references, gone, used, makes, leaves, next_key, check_create, check_modify, check_used, check_unused, check_delete, check};
+ghost use Rattle.upload_check.specs.Checks.{place_of, current_version, missing, gone, used, makes, leaves, next_key, check_create, check_modify, check_used, check_unused, check_visible, check_delete, check};
+ghost use Rattle.upload_check.specs.Overlay.{standing};
+ghost use Rattle.upload_check.specs.Passed.{box_listed, box_of, AreReferred, AreSeen, IsElement, IsSeen, IsTested};
+ghost use Rattle.osm_element.specs.Elements.{refs};
+ghost use Rattle.osm_model.specs.Names.{with_ids};
 
+use crate::boxes::with_place;
 use crate::counts::increased;
 use crate::sights::View;
-use osm_base::{Key, Kind, Memory};
+use crate::standings::Standing;
+use osm_base::{Box7, Key, Kind, Memory};
 use osm_change::{Name, Named, Op, OpDone, Refusal, kind_of};
 use osm_element::{Content, Member};
 
-/// An operation that is passed: its element, and whether it makes a version of it.
+/// What an operation does: its element, and whether it makes a version of it.
 #[derive(Clone, Copy)]
 pub struct Step {
     pub key: Key,
     pub applies: bool,
+}
+
+/// The element that is named, and where it stands.
+#[derive(Clone, Copy)]
+pub struct Known {
+    pub key: Key,
+    pub stood: Standing,
+}
+
+/// An operation that is passed: what it does, where its element stands before it, and the least box
+/// of what it lists.
+#[derive(Clone, Copy)]
+pub struct Passed {
+    pub step: Step,
+    pub stood: Standing,
+    pub area: Option<Box7>,
 }
 
 /// The operation makes a version of the element.
@@ -76,12 +101,15 @@ impl<'a> View<'a> {
     }
 
     /// The element that is named, if it has a history.
-    fn element(&self, kind: Kind, name: Name) -> Result<Key, Refusal>
+    fn element(&self, kind: Kind, name: Name) -> Result<Known, Refusal>
         requires { length self.now.over.keys + 1 < 2 ^ 32 }
-        ensures { result ≡ element self.now kind name }
+        ensures { IsElement self.now kind name result }
     {
         match self.known(kind, name) {
-            Some(key) => Ok(key),
+            Some(key) => Ok(Known {
+                key,
+                stood: self.standing(key),
+            }),
             None => Err(Refusal::NoElement {
                 id: self.said(name),
                 op: self.place(),
@@ -91,11 +119,18 @@ impl<'a> View<'a> {
     }
 
     /// The element that is named has this current version.
-    fn current_version(&self, kind: Kind, name: Name, key: Key, version: u64) -> Result<(), Refusal>
-        requires { length self.now.over.keys + 1 < 2 ^ 32 }
-        ensures { result ≡ current_version self.now kind name key version }
+    fn current_version(
+        &self,
+        kind: Kind,
+        name: Name,
+        it: Known,
+        version: u64,
+    ) -> Result<(), Refusal>
+        requires few { length self.now.over.keys + 1 < 2 ^ 32 }
+        requires stood { it.stood ≡ standing self.now it.key }
+        ensures { result ≡ current_version self.now kind name it.key version }
     {
-        let found = self.versions(key);
+        let found = it.stood.versions;
         if found == version {
             Ok(())
         } else {
@@ -106,15 +141,6 @@ impl<'a> View<'a> {
                 provided: version,
                 kind,
             })
-        }
-    }
-
-    fn is_missing(&self, named: Named) -> bool
-        ensures { result ≡ is_missing self.now named }
-    {
-        match self.known(named.kind, named.name) {
-            Some(key) => !self.is_visible(key),
-            None => true,
         }
     }
 
@@ -134,47 +160,66 @@ impl<'a> View<'a> {
         }
     }
 
-    fn first_missing_node(&self, nodes: &[Name]) -> Option<Named>
-        ensures { result ≡ find (is_missing self.now) (map (named Kind.Node) nodes.now) }
+    /// The least box with the place of a reference, if that is visible.
+    fn with_named(&self, area: Option<Box7>, named: Named) -> Option<Option<Box7>>
+        ensures { IsSeen self.now named area result }
     {
+        match self.place_named(named.kind, named.name) {
+            Some(place) => Some(with_place(area, place)),
+            None => None,
+        }
+    }
+
+    /// The least box of nodes that are listed, or the first that isn't visible.
+    #[tactic(auto, using(crate::proofs::Touched::cons_widened, crate::proofs::Passed::seen_more))]
+    fn nodes_seen(&self, nodes: &[Name]) -> Result<Option<Box7>, Named>
+        ensures { AreSeen self.now (map (named Kind.Node) nodes.now) result }
+    {
+        let mut area = None;
         for name in nodes {
-            if self.is_missing(node_named(*name)) {
-                return Some(node_named(*name));
+            match self.with_named(area, node_named(*name)) {
+                Some(more) => area = more,
+                None => return Err(node_named(*name)),
             }
         }
-        None
+        Ok(area)
     }
 
-    fn first_missing_member(&self, members: &[Member<Name>]) -> Option<Named>
-        ensures { result ≡ find (is_missing self.now) (map named_member members.now) }
+    /// The same of members.
+    #[tactic(auto, using(crate::proofs::Touched::cons_widened, crate::proofs::Passed::seen_more))]
+    fn members_seen(&self, members: &[Member<Name>]) -> Result<Option<Box7>, Named>
+        ensures { AreSeen self.now (map named_member members.now) result }
     {
+        let mut area = None;
         for member in members {
-            if self.is_missing(member_named(member)) {
-                return Some(member_named(member));
+            match self.with_named(area, member_named(member)) {
+                Some(more) => area = more,
+                None => return Err(member_named(member)),
             }
         }
-        None
+        Ok(area)
     }
 
-    /// The first reference that isn't visible.
-    fn first_missing(&self, content: &Content<Name>) -> Option<Named>
-        ensures { result ≡ find (is_missing self.now) (names_listed content.now) }
+    /// The same of what a content lists.
+    fn listed_seen(&self, content: &Content<Name>) -> Result<Option<Box7>, Named>
+        ensures { AreSeen self.now (names_listed content.now) result }
     {
         match content {
-            Content::Node(_) => None,
-            Content::Way(nodes) => self.first_missing_node(nodes.items()),
-            Content::Relation(members) => self.first_missing_member(members.items()),
+            Content::Node(_) => Ok(None),
+            Content::Way(nodes) => self.nodes_seen(nodes.items()),
+            Content::Relation(members) => self.members_seen(members.items()),
         }
     }
 
-    /// What a new content lists is visible. The first reference that isn't counts.
-    fn references(&self, content: &Content<Name>) -> Result<(), Refusal>
+    /// What a new content lists is visible, and lies in this box. The first reference that isn't
+    /// visible counts.
+    fn references(&self, content: &Content<Name>) -> Result<Option<Box7>, Refusal>
         requires { length self.now.over.keys + 1 < 2 ^ 32 }
-        ensures { result ≡ references self.now content.now }
+        ensures { AreReferred self.now content.now result }
     {
-        match self.first_missing(content) {
-            Some(named) => Err(self.missing(named)),
-            None => Ok(()),
+        match self.listed_seen(content) {
+            Ok(area) => Ok(area),
+            Err(named) => Err(self.missing(named)),
         }
     }
 
@@ -213,34 +258,46 @@ impl<'a> View<'a> {
         Key { kind, id }
     }
 
-    fn check_create(&self, content: &Content<Name>) -> Result<Step, Refusal>
+    #[tactic(auto, using(crate::proofs::Passed::create_passes, crate::proofs::Passed::create_refused))]
+    fn check_create(&self, content: &Content<Name>) -> Result<Passed, Refusal>
         requires { length self.now.over.keys + 1 < 2 ^ 32 }
-        ensures { result ≡ check_create self.now content.now }
+        ensures { IsTested self.now (check_create self.now content.now) (box_of self.now (refs (with_ids self.now.over.keys content.now))) result }
     {
-        self.references(content)?;
-        Ok(makes(self.next_key(kind_of(content))))
+        let area = self.references(content)?;
+        let key = self.next_key(kind_of(content));
+        Ok(Passed {
+            step: makes(key),
+            stood: self.standing(key),
+            area,
+        })
     }
 
+    #[tactic(auto, using(crate::proofs::Passed::modify_passes, crate::proofs::Passed::modify_lists_missing, crate::proofs::Passed::modify_other_version, crate::proofs::Passed::modify_unknown))]
     fn check_modify(
         &self,
         name: Name,
         version: u64,
         content: &Content<Name>,
-    ) -> Result<Step, Refusal>
+    ) -> Result<Passed, Refusal>
         requires { length self.now.over.keys + 1 < 2 ^ 32 }
-        ensures { result ≡ check_modify self.now name version content.now }
+        ensures { IsTested self.now (check_modify self.now name version content.now) (box_of self.now (refs (with_ids self.now.over.keys content.now))) result }
     {
         let kind = kind_of(content);
-        let key = self.element(kind, name)?;
-        self.current_version(kind, name, key, version)?;
-        self.references(content)?;
-        Ok(makes(key))
+        let it = self.element(kind, name)?;
+        self.current_version(kind, name, it, version)?;
+        let area = self.references(content)?;
+        Ok(Passed {
+            step: makes(it.key),
+            stood: it.stood,
+            area,
+        })
     }
 
     /// A delete of what is used names the least user. Only a refusal looks for it.
     fn check_used(&self, kind: Kind, name: Name, key: Key, if_unused: bool) -> Result<Step, Refusal>
         requires { length self.now.over.keys + 1 < 2 ^ 32 }
-        ensures { result ≡ check_used self.now kind name key if_unused }
+        ensures value { result ≡ check_used self.now kind name key if_unused }
+        ensures own { IfOk result (λ step. step.key ≡ key) }
     {
         if if_unused {
             return Ok(leaves(key));
@@ -255,45 +312,70 @@ impl<'a> View<'a> {
         &self,
         kind: Kind,
         name: Name,
-        key: Key,
+        it: Known,
         if_unused: bool,
     ) -> Result<Step, Refusal>
-        requires { length self.now.over.keys + 1 < 2 ^ 32 }
-        ensures { result ≡ check_unused self.now kind name key if_unused }
+        requires few { length self.now.over.keys + 1 < 2 ^ 32 }
+        requires stood { it.stood ≡ standing self.now it.key }
+        ensures value { result ≡ check_unused self.now kind name it.key if_unused }
+        ensures own { IfOk result (λ step. step.key ≡ it.key) }
     {
-        if self.standing(key).users == 0 {
-            Ok(makes(key))
+        if it.stood.users == 0 {
+            Ok(makes(it.key))
         } else {
-            self.check_used(kind, name, key, if_unused)
+            self.check_used(kind, name, it.key, if_unused)
         }
     }
 
+    /// A delete of what is known.
+    fn check_visible(
+        &self,
+        kind: Kind,
+        name: Name,
+        version: u64,
+        if_unused: bool,
+        it: Known,
+    ) -> Result<Step, Refusal>
+        requires few { length self.now.over.keys + 1 < 2 ^ 32 }
+        requires stood { it.stood ≡ standing self.now it.key }
+        ensures value { result ≡ check_visible self.now kind name version if_unused it.key }
+        ensures own { IfOk result (λ step. step.key ≡ it.key) }
+    {
+        if !self.is_visible(it.key, it.stood.holds) {
+            return if if_unused {
+                Ok(leaves(it.key))
+            } else {
+                Err(self.gone(kind, name, it.key))
+            };
+        }
+        self.current_version(kind, name, it, version)?;
+        self.check_unused(kind, name, it, if_unused)
+    }
+
+    #[tactic(auto, using(crate::proofs::Passed::delete_known, crate::proofs::Passed::delete_unknown))]
     fn check_delete(
         &self,
         kind: Kind,
         name: Name,
         version: u64,
         if_unused: bool,
-    ) -> Result<Step, Refusal>
+    ) -> Result<Passed, Refusal>
         requires { length self.now.over.keys + 1 < 2 ^ 32 }
-        ensures { result ≡ check_delete self.now kind name version if_unused }
+        ensures { IsTested self.now (check_delete self.now kind name version if_unused) None result }
     {
-        let key = self.element(kind, name)?;
-        if !self.is_visible(key) {
-            return if if_unused {
-                Ok(leaves(key))
-            } else {
-                Err(self.gone(kind, name, key))
-            };
-        }
-        self.current_version(kind, name, key, version)?;
-        self.check_unused(kind, name, key, if_unused)
+        let it = self.element(kind, name)?;
+        let step = self.check_visible(kind, name, version, if_unused, it)?;
+        Ok(Passed {
+            step,
+            stood: it.stood,
+            area: None,
+        })
     }
 
     /// Judges an operation on what those before it left.
-    pub fn check(&self, operation: &Op) -> Result<Step, Refusal>
+    pub fn check(&self, operation: &Op) -> Result<Passed, Refusal>
         requires { length self.now.over.keys + 1 < 2 ^ 32 }
-        ensures { result ≡ check self.now operation.now }
+        ensures { IsTested self.now (check self.now operation.now) (box_listed self.now operation.now) result }
     {
         match operation {
             Op::Create { content, .. } => self.check_create(content),

@@ -5,9 +5,10 @@ ghost use Rattle.osm_model.specs.declared.uploads.Progress.{Progress};
 ghost use Rattle.osm_world.specs.World.{state_of};
 ghost use Rattle.upload_check.specs.Effects.{HasUsers, IsEntered, IsFresh, done_of};
 ghost use Rattle.upload_check.specs.Judged.{IsAt, IsJudged, Leaves};
-ghost use Rattle.upload_check.specs.Overlay.{sight, StandsAlike, StandsFor};
+ghost use Rattle.upload_check.specs.Overlay.{sight, standing, StandsAlike, StandsFor};
+ghost use Rattle.upload_check.specs.Passed.{box_listed};
 
-use crate::checks::Step;
+use crate::checks::Passed;
 use crate::overlays::Overlay;
 use crate::sights::View;
 use osm_base::{Memory, Steps};
@@ -55,16 +56,15 @@ pub fn check_op<L: Ledger>(
     })
     .check(operation)
     {
-        Ok(step) => {
-            let done = pass(alloc, world, over, operations, operation, step)?;
+        Ok(passed) => {
+            let done = pass(alloc, world, over, operations, operation, passed)?;
             Ok(Judged::Done(done))
         }
         Err(refusal) => Ok(Judged::Refused(refusal)),
     }
 }
 
-/// Enters an operation that is passed, and tells what it did. Where its element stands is looked up
-/// once.
+/// Enters an operation that is passed, and tells what it did.
 #[tactic(auto, using(crate::proofs::Alike::all_alike))]
 fn pass(
     alloc: Global,
@@ -72,22 +72,18 @@ fn pass(
     over: &mut Overlay,
     operations: &[Op],
     operation: &Op,
-    step: Step,
+    passed: Passed,
 ) -> Result<OpDone, Memory>
     requires few { length over.old.keys < 2 ^ 32 }
-    requires users { HasUsers (sight (state_of world.now).elements operations.now over.old) step.key }
-    requires fresh { IsFresh (sight (state_of world.now).elements operations.now over.old) operation.now step.key }
-    ensures entered { OnOk result (IsEntered (sight (state_of world.now).elements operations.now over.old) operation.now step over.new) }
-    ensures done { IfOk result (λ done. done ≡ done_of (sight (state_of world.now).elements operations.now over.old) step) }
+    requires users { HasUsers (sight (state_of world.now).elements operations.now over.old) passed.step.key }
+    requires fresh { IsFresh (sight (state_of world.now).elements operations.now over.old) operation.now passed.step.key }
+    requires stood { passed.stood ≡ standing (sight (state_of world.now).elements operations.now over.old) passed.step.key }
+    requires area { passed.area ≡ box_listed (sight (state_of world.now).elements operations.now over.old) operation.now }
+    ensures entered { OnOk result (IsEntered (sight (state_of world.now).elements operations.now over.old) operation.now passed.step over.new) }
+    ensures done { IfOk result (λ done. done ≡ done_of (sight (state_of world.now).elements operations.now over.old) passed.step) }
     ensures memory { OnErr result (StandsAlike (state_of world.now).elements over.old over.new) }
 {
-    let stood = View {
-        world,
-        operations,
-        over,
-    }
-    .standing(step.key);
-    let done = step.done(stood.versions)?;
-    over.enter(alloc, world, operations, operation, step, stood)?;
+    let done = passed.step.done(passed.stood.versions)?;
+    over.enter(alloc, world, operations, operation, passed)?;
     Ok(done)
 }

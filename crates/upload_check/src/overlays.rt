@@ -11,9 +11,10 @@ ghost use Rattle.osm_world.specs.Beds.{first_ids, content_of_op};
 ghost use Rattle.osm_world.specs.World.{state_of};
 ghost use Rattle.upload_check.specs.Effects.{holds_of, HasUsers, IsApplied, IsEntered, IsFresh};
 ghost use Rattle.upload_check.specs.Overlay.{content_now, position_now, sight, standing, touched_now, StandsAlike, StandsFor};
+ghost use Rattle.upload_check.specs.Passed.{box_listed};
 
 use crate::boxes::Moved;
-use crate::checks::Step;
+use crate::checks::Passed;
 use crate::counts::{make, revise};
 use crate::creations::Creations;
 use crate::orders::in_order;
@@ -98,36 +99,37 @@ impl Overlay {
         &self.standings
     }
 
-    /// Enters an operation that is passed, whose element stood there before it. After `Memory` the
-    /// overlay stands for what it did.
+    /// Enters an operation that is passed. After `Memory` the overlay stands for what it did.
     pub(crate) fn enter(
         &mut self,
         alloc: Global,
         world: &World,
         operations: &[Op],
         operation: &Op,
-        step: Step,
-        stood: Standing,
+        passed: Passed,
     ) -> Result<(), Memory>
         requires few { length self.old.keys < 2 ^ 32 }
-        requires users { HasUsers (sight (state_of world.now).elements operations.now self.old) step.key }
-        requires fresh { IsFresh (sight (state_of world.now).elements operations.now self.old) operation.now step.key }
-        requires stood { stood ≡ standing (sight (state_of world.now).elements operations.now self.old) step.key }
-        ensures entered { OnOk result (IsEntered (sight (state_of world.now).elements operations.now self.old) operation.now step self.new) }
+        requires users { HasUsers (sight (state_of world.now).elements operations.now self.old) passed.step.key }
+        requires fresh { IsFresh (sight (state_of world.now).elements operations.now self.old) operation.now passed.step.key }
+        requires stood { passed.stood ≡ standing (sight (state_of world.now).elements operations.now self.old) passed.step.key }
+        requires area { passed.area ≡ box_listed (sight (state_of world.now).elements operations.now self.old) operation.now }
+        ensures entered { OnOk result (IsEntered (sight (state_of world.now).elements operations.now self.old) operation.now passed.step self.new) }
         ensures memory { OnErr result (StandsAlike (state_of world.now).elements self.old self.new) }
     {
-        if !step.applies {
-            return self.skip(operation, step.key);
+        let key = passed.step.key;
+        let stood = passed.stood;
+        if !passed.step.applies {
+            return self.skip(operation, key);
         }
         let moved = View {
             world,
             operations,
             over: self,
         }
-        .moved(operation, step.key, stood.holds);
+        .moved(operation, key, stood.holds);
         match moved {
-            Some(moved) => self.place(world, operations, operation, moved, step.key, stood),
-            None => self.apply(alloc, world, operations, operation, step.key, stood),
+            Some(moved) => self.place(world, operations, operation, moved, key, stood),
+            None => self.apply(alloc, world, operations, operation, key, stood, passed.area),
         }
     }
 
@@ -186,11 +188,13 @@ impl Overlay {
         operation: &Op,
         key: Key,
         stood: Standing,
+        area: Option<Box7>,
     ) -> Result<(), Memory>
         requires few { length self.old.keys < 2 ^ 32 }
         requires users { HasUsers (sight (state_of world.now).elements operations.now self.old) key }
         requires fresh { IsFresh (sight (state_of world.now).elements operations.now self.old) operation.now key }
         requires stood { stood ≡ standing (sight (state_of world.now).elements operations.now self.old) key }
+        requires area { area ≡ box_listed (sight (state_of world.now).elements operations.now self.old) operation.now }
         ensures keys { OnOk result (self.new.keys ≡ self.old.keys ++ key ∷ []) }
         ensures next { OnOk result (self.new.next ≡ ids_after self.old.next operation.now) }
         ensures notes { OnOk result (IsApplied (sight (state_of world.now).elements operations.now self.old) operation.now key self.new.notes) }
@@ -209,8 +213,9 @@ impl Overlay {
             operation,
             key,
             stood.holds,
-            ended.as_slice(),
+            area,
             begun.as_slice(),
+            ended.as_slice(),
         );
         let holds = holds_of(self.keys().len() as u32, operation);
         self.keys.reserve(1)?;

@@ -1,19 +1,21 @@
 //! The map as some operations left it.
-ghost use Rattle.std.specs.Prelude.{◌≡◌, ◌++◌, [], take, filter, slice_get, option_copied, is_some, OnOk};
+ghost use Rattle.std.specs.Prelude.{◌≡◌, ◌++◌, List, take, filter, slice_get, option_copied, option_map, OnOk};
 ghost use Rattle.osm_base.specs.Key.{lists_key};
-ghost use Rattle.osm_element.specs.Elements.{content_of, refs_in};
+ghost use Rattle.osm_base.specs.declared.keys.Key.{Key};
+ghost use Rattle.osm_element.specs.Elements.{content_of, position_in, refs_in};
 ghost use Rattle.osm_world.specs.Beds.{content_of_op};
 ghost use Rattle.osm_world.specs.World.{state_of};
 ghost use Rattle.upload_check.specs.Checks.{least_where, least_user};
 ghost use Rattle.upload_check.specs.Effects.{IsFresh};
 ghost use Rattle.upload_check.specs.Overlay.{standing, content_now, is_visible, uses};
+ghost use Rattle.upload_check.specs.Passed.{place_named, place_seen};
 ghost use Rattle.upload_check.specs.Users.{least};
 
 use crate::overlays::Overlay;
 use crate::references::{add_given, add_refs, op_lists};
 use crate::standings::{Holds, Standing, standing_in};
-use osm_base::{Key, Memory};
-use osm_change::Op;
+use osm_base::{Coord, Key, Kind, Memory};
+use osm_change::{Name, Op};
 use osm_element::Content;
 use osm_world::World;
 use std::marker::Model;
@@ -56,13 +58,27 @@ fn stored_lists(content: Option<&Content<u64>>, used: Key) -> bool
     }
 }
 
-/// Whether an operation gives a content.
-fn gives_content(operation: &Op) -> bool
-    ensures { result ≡ is_some (content_of_op [] operation.now) }
+/// Where what a content is of lies, if it is visible: nowhere, if it is no node.
+fn seen_stored(content: Option<&Content<u64>>) -> Option<Option<Coord>>
+    ensures { result ≡ option_map position_in (option_copied content.entry) }
+{
+    match content {
+        Some(Content::Node(at)) => Some(Some(*at)),
+        Some(Content::Way(_) | Content::Relation(_)) => Some(None),
+        None => None,
+    }
+}
+
+/// The same of the content that an operation gives, if it gives one.
+fn seen_given(operation: &Op) -> Option<Option<Coord>>
+    ensures { (ks : List Key) → result ≡ option_map position_in (content_of_op ks operation.now) }
 {
     match operation {
-        Op::Create { .. } | Op::Modify { .. } => true,
-        Op::Delete { .. } => false,
+        Op::Create { content, .. } | Op::Modify { content, .. } => match content {
+            Content::Node(at) => Some(Some(*at)),
+            Content::Way(_) | Content::Relation(_) => Some(None),
+        },
+        Op::Delete { .. } => None,
     }
 }
 
@@ -105,17 +121,36 @@ impl<'a> View<'a> {
         }
     }
 
-    /// Whether the element isn't deleted.
-    pub fn is_visible(&self, key: Key) -> bool
+    /// Where an element lies whose content stands there, if it is visible: nowhere, if it is no node.
+    pub fn place_seen(&self, key: Key, holds: Holds) -> Option<Option<Coord>>
+        requires { holds ≡ (standing self.now key).holds }
+        ensures { result ≡ place_seen self.now key }
+    {
+        match holds {
+            Holds::AsBefore => seen_stored(stored(self.world, key)),
+            Holds::Nothing => None,
+            Holds::FromOperation(place) => match self.operations.get(place as usize) {
+                Some(operation) => seen_given(operation),
+                None => None,
+            },
+        }
+    }
+
+    /// Whether an element whose content stands there isn't deleted.
+    pub fn is_visible(&self, key: Key, holds: Holds) -> bool
+        requires { holds ≡ (standing self.now key).holds }
         ensures { result ≡ is_visible self.now key }
     {
-        match self.holds(key) {
-            Holds::AsBefore => stored(self.world, key).is_some(),
-            Holds::Nothing => false,
-            Holds::FromOperation(place) => match self.operations.get(place as usize) {
-                Some(operation) => gives_content(operation),
-                None => false,
-            },
+        self.place_seen(key, holds).is_some()
+    }
+
+    /// The same of an element that is named: it is looked for once.
+    pub fn place_named(&self, kind: Kind, name: Name) -> Option<Option<Coord>>
+        ensures { result ≡ place_named self.now kind name }
+    {
+        match self.known(kind, name) {
+            Some(key) => self.place_seen(key, self.holds(key)),
+            None => None,
         }
     }
 
