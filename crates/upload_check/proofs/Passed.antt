@@ -19,9 +19,9 @@ use Rattle.osm_change.specs.declared.operations.Named.{Named}
 use Rattle.osm_change.specs.declared.refusals.Refusal.{Refusal}
 use Rattle.changeset_core.specs.Changeset.{widen_all}
 use Rattle.osm_model.specs.Names.{member_with_id, with_ids}
-use Rattle.upload_check.specs.Overlay.{Sight, content_now, is_visible, position_now, standing}
+use Rattle.upload_check.specs.Overlay.{Sight, content_now, is_visible, position_now}
 use Rattle.upload_check.specs.Checks.{check_create, check_current, check_delete, check_known, check_modify, check_visible, current_version, element, is_missing, known, makes, missing, next_key, references}
-use Rattle.upload_check.specs.Passed.{box_of, place_named, place_seen, position_named, AllSeen, AreVisible, IsKnown}
+use Rattle.upload_check.specs.Passed.{place_named, place_seen, position_named, AllSeen, AreVisible}
 use Rattle.upload_check.specs.declared.checks.Step.{Step}
 use Rattle.upload_check.proofs.Given.{known-is}
 

@@ -1,4 +1,4 @@
-use Rattle.std.proofs.Common.{List, sym, ◌∙◌, subst}
+use Rattle.std.proofs.Common.{List, sym, subst}
 use Rattle.osm_change.specs.declared.operations.Op.{Op}
 use Rattle.osm_world.specs.World.{state_of}
 use Rattle.upload_check.specs.Effects.{HasUsers}
