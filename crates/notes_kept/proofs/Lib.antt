@@ -1,3 +1,1 @@
 pub mod Serving
-mod OneLine
-mod WholeEntries
