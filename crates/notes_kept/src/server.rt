@@ -10,7 +10,7 @@ ghost use Rattle.snapshot_hub.specs.Closings.{AreSeated};
 ghost use Rattle.notes_kept.specs.Followed.{HasFollowed};
 ghost use Rattle.notes_kept.specs.Run.{RunsServeNotesKept, ServesFrom};
 
-use crate::NoteLines;
+use crate::lines::NoteLines;
 use crate::ports::serve_kept_ports;
 use journal_file::{Device, JournalFile};
 use journal_host::Journals;
