@@ -1,7 +1,6 @@
 //! The file of a journal that several sessions add to, and the receipts of what it holds.
 ghost use Rattle.std.specs.Prelude.{◌≡◌, ◌≤◌, ◌<◌, ◌^◌, ◌++◌, ◌∷◌, [], ℕ, true, false, List, length, IsTrue, ◌↔◌, OnOk, IsErrOf};
 ghost use mathlib.Core.List.{IsPrefix};
-ghost use Rattle.durable_log.specs.Held.{HoldsFrom};
 ghost use Rattle.durable_log.specs.Receipts.{AreKept, last_count, shelved};
 ghost use Rattle.durable_log.specs.declared.keeping.KeepFault.{KeepFault};
 ghost use Rattle.receipts.specs.declared.receipt.Receipt.{Receipt};
@@ -143,10 +142,6 @@ impl<N: HubName, K: HubName, E, T: Lines<E>, D: Device> Shelf<N, K, E, T, D> {
         ensures entries { IsPrefix self.old.entries self.new.entries }
         ensures memory { IsErrOf result KeepFault.Memory → self.new ≡ self.old }
         ensures failed { IsErrOf result KeepFault.File → self.new.broken ≡ true }
-        // What every crash left of the list from a moment on, it leaves from then on still.
-        ensures time { D.moment self.old.device ≤ D.moment self.new.device }
-        ensures stays { (t k : ℕ) → k ≤ length self.old.entries → t ≤ D.moment self.old.device → HoldsFrom T.text D.left_since self.old.device t k self.old.entries
-            → HoldsFrom T.text D.left_since self.new.device t k longer }
     {
         if self.file.is_broken() {
             return Err(KeepFault::File);

@@ -1,4 +1,3 @@
 pub mod Working
 pub mod Serving
 pub mod Begun
-pub mod Leaving

@@ -1,17 +1,14 @@
 //! The shelf of a file that holds a whole journal.
 ghost use Rattle.std.specs.Prelude.{◌≡◌, ◌∷◌, [], length, IfOk, IfErr};
-ghost use Rattle.durable_log.specs.Held.{HoldsFrom, LeavesAll};
 ghost use Rattle.durable_log.specs.Receipts.{Receipt};
 
 use durable_log::{Lines, Receipt, Shelf};
 use journal_file::{Device, JournalFile};
 use shared_front::{Front, HubName, Opened};
 use std::alloc::Global;
-use std::sync::Wait;
 
 /// The shelf of a file that holds all that this front has, and the first receipt, which is for that.
-/// The device comes back where no receipt was given, and what every crash left of the front it leaves
-/// still.
+/// The device comes back where no receipt was given.
 pub fn shelve<N: HubName, K: HubName, E, T: Lines<E>, V: Device>(
     alloc: Global,
     file: JournalFile<V>,
@@ -23,8 +20,6 @@ pub fn shelve<N: HubName, K: HubName, E, T: Lines<E>, V: Device>(
     ensures entries { IfOk result (λ r. r.0.entries ≡ front) }
     ensures receipts { IfOk result (λ r. r.1 ≡ r.0.receipts) }
     ensures first { IfOk result (λ r. (receipt : Receipt) × (r.0.receipts ≡ receipt ∷ []) × (receipt.count ≡ length front)) }
-    ensures err { IfErr result (λ device. HoldsFrom T.text V.left_since file.device (V.moment file.device) (length front) front
-        → HoldsFrom T.text V.left_since device (V.moment device) (length front) front) }
 {
     let (tail, none) = opened.named::<K>();
     let all = front.again();
@@ -36,23 +31,4 @@ pub fn shelve<N: HubName, K: HubName, E, T: Lines<E>, V: Device>(
         }
         Err(_) => Err(shelf.into_device()),
     }
-}
-
-/// The device of a shelf by which nobody was served, once that has given this first receipt and has all
-/// that the receipt is for. It has so at once: no run has shown otherwise, and where it hasn't this waits for ever.
-pub fn leave_shelf<N: HubName, K: HubName, E, T: Lines<E>, V: Device, W: Wait>(
-    rt: &W,
-    first: &Front<N, E>,
-    had: &Front<K, Receipt>,
-    shelf: Shelf<N, K, E, T, V>,
-) -> V
-    requires { (receipt : Receipt) × (had.now ≡ receipt ∷ []) × (receipt.count ≡ length first.now) }
-    ensures { LeavesAll T.text V.moment V.left_since result first.now }
-{
-    for _ in rt.forever() {
-        if shelf.gave(had) && first.begins(shelf.front()) {
-            return shelf.into_device();
-        }
-    }
-    unreachable!()
 }
