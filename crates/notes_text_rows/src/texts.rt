@@ -3,9 +3,10 @@
 ghost use Rattle.std.specs.Prelude.{◌≡◌, ◌==◌, ◌+◌};
 
 use hub_core::{Book, NoOutlet};
+use line_text::LineFault;
 use machine_law::Tag;
 use notes_core::{NoteEntry, NotesMachine};
-use notes_text::{HEADER, LineFault, read_entry};
+use notes_text::{HEADER, read_entry};
 use osm_base::{Memory, split_once};
 use std::alloc::Global;
 
