@@ -21,7 +21,6 @@ from .made_again import operations_of
 from .plain_rows import rows_at
 from .refusals import Asked, Operations, Refused
 from .rows import Changeset
-from .spool import PIECE
 from .times import moment_of
 from .xml_read import ChangeReader, TagsReader
 
@@ -76,9 +75,8 @@ async def upload(call: Call) -> web.StreamResponse:
     call.user()
     number, operations = call.path("id"), Operations()
     body, is_json = await call.document()
-    # What is found in a piece of XML is there at once, and is written together.
-    found, together = (json_read.change(texts_of(body)), 1) if is_json else (ChangeReader().read(body.pieces()), PIECE)
-    sent = await call.sent(change_of(found, operations, together))
+    found = json_read.change(texts_of(body)) if is_json else ChangeReader().read(body.pieces())
+    sent = await call.sent(change_of(found, operations))
     body.close()
     change = Change("POST", f"changeset/{number}/upload", sent, Asked(number, operations), lambda: operations_of(sent), lambda: unended(sent))
     reply = await made_once(call, change)

@@ -69,7 +69,7 @@ async def written(call: Call, kind: str, action: str, method: str, path: str) ->
     else:
         row = await read_element(call, body, kind, action)
     operations = Operations()
-    operations.add(kind, row.get("id", 0))
+    operations.add([row])
     operations.guards = int(action != "create")
     asked, sent = Asked(row.get("changeset", 0), operations), await call.sent([ENCODER.encode(row)])
     # What can be told of a lost answer needs an id and a version, without which the server refuses a change.

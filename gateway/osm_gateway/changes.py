@@ -17,40 +17,32 @@ class Begun(NamedTuple):
     action: str
 
 
-class Operation(NamedTuple):
-    """An element of the block that began last, in the server's form."""
-
-    row: dict[str, Any]
-
-
 class Ended(NamedTuple):
     """The block ends."""
 
     if_unused: bool = False
 
 
-Found = Begun | Operation | Ended
+Rows = list[dict[str, Any]]
+"""Elements of the block that began last, in the server's form: those that are there at once."""
+Found = Begun | Rows | Ended
 
 
-def change_of(found: Iterator[Found | None], operations: Operations, together: int = 1) -> Iterator[str]:
-    """The server's JSON of a change, piece by piece; notes the operations. So many are written together, or up to where None is found."""
+def change_of(found: Iterator[Found | None], operations: Operations) -> Iterator[str]:
+    """The server's JSON of a change, piece by piece; notes the operations. Where None is found a turn may end."""
     yield '{"osmChange":['
-    block, comma, action, start, rows = "", "", "", 0, list[dict[str, Any]]()
+    block, comma, action, start = "", "", "", 0
     for it in found:
-        if isinstance(it, Operation):
-            operations.add(it.row["type"], it.row.get("id", 0))
-            rows.append(it.row)
-            if len(rows) < together:
-                continue
-        if rows:
-            yield comma + ENCODER.encode(rows)[1:-1]
-            comma, rows = ",", []
+        if isinstance(it, list):
+            operations.add(it)
+            yield comma + ENCODER.encode(it)[1:-1]
+            comma = ","
         elif it is None:
             yield ""
-        if isinstance(it, Begun):
+        elif isinstance(it, Begun):
             yield f'{block}{{"{it.action}":['
             block, comma, action, start = ",", "", it.action, len(operations.ids)
-        elif isinstance(it, Ended):
+        else:
             operations.end_block(start, action, it.if_unused)
             yield '],"if-unused":true}' if it.if_unused else "]}"
     yield "]}"

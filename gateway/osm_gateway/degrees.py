@@ -11,6 +11,8 @@ USUAL = re.compile(r"(-?[0-9]{1,3})\.([0-9]{1,7})")
 """A decimal that is a number of whole units."""
 DECIMAL = re.compile(r"[+-]?(?:[0-9]+(?:\.[0-9]*)?|\.[0-9]+)(?:[eE][+-]?[0-9]{1,3})?")
 EXACT = Context(prec=2 * LONGEST)
+TENS = [int(10 ** (7 - places)) for places in range(8)]
+"""Units of the last place, by how many there are."""
 
 
 class NotDecimal(ValueError):
@@ -31,6 +33,17 @@ def units_of(text: str) -> int:
     if len(text) > LONGEST or not DECIMAL.fullmatch(text):
         raise NotDecimal(text[:LONGEST])
     return rounded(Decimal(text))
+
+
+def units_in(number: str) -> int:
+    """The same of a number as JSON has it, with a point or an exponent."""
+    places = len(number) - number.find(".") - 1
+    if places < 8:
+        try:
+            return int(number.replace(".", "", 1)) * TENS[places]
+        except ValueError:  # it has an exponent
+            pass
+    return units_of(number)
 
 
 def degrees_of(units: int) -> str:

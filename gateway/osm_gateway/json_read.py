@@ -3,18 +3,23 @@
 from __future__ import annotations
 
 from collections.abc import Iterator
+from itertools import groupby
 from typing import Any
 
-from .changes import Begun, Ended, Found, Operation
-from .degrees import NotDecimal, units_of
+from .changes import Begun, Ended, Found
+from .degrees import NotDecimal, units_in, units_of
 from .refusals import Refused
 from .rows import ACTIONS, KINDS
-from .walk import OPENED, NotJson, Sort, Walk
+from .walk import ELEMENTS, OPENED, NotJson, Path, Sort, Walk
 from .xml_elements import FARTHEST
 
 LARGE = 1 << 63
 LONGEST = 1 << 22
 """Characters of an element, far more than one with limits has."""
+WHOLE, TEXT = frozenset({int}), frozenset({str})
+NUMBERS = ("id", "changeset", "version")
+TOGETHER: frozenset[Path] = ELEMENTS | {("osmChange", "*")}
+"""Lists of elements, and of blocks or of elements that each say their action."""
 
 
 class DecimalText(str):
@@ -26,7 +31,7 @@ def refuse(why: str) -> Refused:
 
 
 def walk(pieces: Iterator[str]) -> Walk:
-    return Walk(pieces, OPENED, LONGEST, DecimalText)
+    return Walk(pieces, OPENED, LONGEST, DecimalText, together=TOGETHER)
 
 
 def whole(it: Any, name: str) -> int:
@@ -38,36 +43,40 @@ def whole(it: Any, name: str) -> int:
 
 
 def refs_of(rows: list[Any]) -> list[int]:
-    """Numbers of nodes; they are looked at one by one where one of them is none."""
-    if set(map(type, rows)) == {int} and -LARGE < min(rows) and max(rows) < LARGE:
+    """Numbers of elements; they are looked at one by one where one of them is none."""
+    if set(map(type, rows)) == WHOLE and -LARGE < min(rows) and max(rows) < LARGE:
         return rows
     return [whole(ref, "ref") for ref in rows]
 
 
 def place(it: Any, name: str) -> int:
     try:
-        if type(it) is not int and type(it) is not DecimalText:
+        if type(it) is DecimalText:
+            units = units_in(it)
+        elif type(it) is int:
+            units = units_of(str(it))
+        else:
             raise NotDecimal
-        units = units_of(str(it))
     except NotDecimal:
         raise refuse(f"{name} not a number" if it is not None else f"{name} missing") from None
-    if abs(units) > FARTHEST:
+    if not -FARTHEST <= units <= FARTHEST:
         raise Refused(400, "The node is outside this world")
     return units
 
 
 def tags_of(it: Any) -> dict[str, str]:
-    if not isinstance(it, dict) or any(type(value) is not str for value in it.values()):
+    if not isinstance(it, dict) or not TEXT.issuperset(map(type, it.values())):
         raise refuse("tags are an object of texts")
     return it
 
 
 def members_of(rows: Any) -> list[dict[str, Any]]:
-    if not isinstance(rows, list) or any(not isinstance(row, dict) or row.get("type") not in KINDS for row in rows):
+    if not isinstance(rows, list) or not all([type(row) is dict and row.get("type") in KINDS for row in rows]):
         raise refuse("members are objects with a type of node, way or relation, a ref and a role")
-    if any(type(row.get("role", "")) is not str for row in rows):
+    if not TEXT.issuperset([type(row.get("role", "")) for row in rows]):
         raise refuse("a member's role is a text")
-    return [{"type": row["type"], "ref": whole(row.get("ref"), "ref"), "role": row.get("role", "")} for row in rows]
+    refs = refs_of([row.get("ref") for row in rows])
+    return [{"type": row["type"], "ref": ref, "role": row.get("role", "")} for row, ref in zip(rows, refs)]
 
 
 def element_of(it: Any, action: str, kind: str = "") -> dict[str, Any]:
@@ -76,7 +85,10 @@ def element_of(it: Any, action: str, kind: str = "") -> dict[str, Any]:
     if found not in KINDS or kind not in ("", found):
         raise refuse(f"it is no element of type {kind or 'node, way or relation'}")
     row: dict[str, Any] = {"type": found}
-    row |= {name: whole(it[name], name) for name in ("id", "changeset", "version") if name in it}
+    for name in NUMBERS:
+        if name in it:
+            number = it[name]
+            row[name] = number if type(number) is int and -LARGE < number < LARGE else whole(number, name)
     if action == "delete":
         return row
     if found == "node":
@@ -107,7 +119,11 @@ def change_found(pieces: Iterator[str]) -> Iterator[Found]:
     for sort, path, value in walk(pieces).events():
         if path[:1] != ("osmChange",):
             continue
-        if path == ("osmChange",):
+        if len(path) == 4:
+            yield [element_of(it, path[2]) for it in value]
+        elif sort is Sort.ITEMS:
+            yield from spoken(value)
+        elif path == ("osmChange",):
             seen = seen or sort is Sort.OPENED
         elif len(path) == 2 and sort is Sort.OPENED:
             rest, begun = {}, ""
@@ -116,28 +132,43 @@ def change_found(pieces: Iterator[str]) -> Iterator[Found]:
                 raise refuse("a block has one list, create, modify or delete")
             begun = path[2]
             yield Begun(begun)
-        elif len(path) == 4:
-            yield Operation(element_of(value, path[2]))
         elif len(path) == 3 and sort is Sort.VALUE:
             rest[path[2]] = value
         elif len(path) == 2:
-            yield from ended(rest, begun)
+            yield from ended(rest, begun) if sort is Sort.CLOSED else spoken([value])
     if not seen:
         raise refuse("it has no list osmChange")
 
 
 def ended(rest: dict[str, Any], begun: str) -> Iterator[Found]:
     """The end of a block, or an element that says its action."""
-    action = begun or rest.get("action")
-    if action not in ACTIONS:
-        raise refuse("a block has one list, create, modify or delete")
-    if not begun:
-        yield Begun(action)
-        yield Operation(element_of(rest, action))
-    unused = action == "delete" and rest.get("if-unused", False)
+    if begun:
+        yield Ended(unused_of(rest, begun))
+    else:
+        yield from spoken([rest])
+
+
+def unused_of(it: dict[str, Any], action: str) -> bool:
+    unused = action == "delete" and it.get("if-unused", False)
     if type(unused) is not bool:
         raise refuse("if-unused is true or false")
-    yield Ended(unused)
+    return unused
+
+
+def action_of(it: Any) -> tuple[str, bool]:
+    """Of an element that says its action, and whether it may be skipped."""
+    action = it.get("action") if isinstance(it, dict) else None
+    if action not in ACTIONS:
+        raise refuse("a block has one list, create, modify or delete")
+    return action, unused_of(it, action)
+
+
+def spoken(values: list[Any]) -> Iterator[Found]:
+    """Elements that each say their action, those with the same one behind each other as one block."""
+    for (action, unused), rows in groupby(values, action_of):
+        yield Begun(action)
+        yield [element_of(it, action) for it in rows]
+        yield Ended(unused)
 
 
 def value_of(pieces: Iterator[str]) -> Any:

@@ -23,6 +23,7 @@ class Refused(Exception):
 
 
 KIND_NAMES = ("node", "way", "relation")
+KIND_PLACES = {name: place for place, name in enumerate(KIND_NAMES)}
 
 
 @dataclass
@@ -36,10 +37,11 @@ class Operations:
     guards: int = 0
     """Changes of versions that were there before: each is refused where it has been made already, and with it the upload."""
 
-    def add(self, kind: str, number: int) -> None:
-        self.kinds.append(KIND_NAMES.index(kind))
-        self.ids.append(number)
-        self.skipped.append(0)
+    def add(self, rows: list[dict[str, Any]]) -> None:
+        """Elements in the server's form."""
+        self.kinds += bytes([KIND_PLACES[row["type"]] for row in rows])
+        self.ids.extend([row.get("id", 0) for row in rows])
+        self.skipped += bytes(len(rows))
 
     def end_block(self, start: int, action: str, if_unused: bool) -> None:
         """The operations from that number on, counted from 0, are of a block."""

@@ -8,18 +8,22 @@ from collections.abc import Callable, Iterator
 from enum import Enum, auto
 from typing import Any, NamedTuple
 
-from .rows import ACTIONS
+from .rows import ACTIONS, KINDS
 
 Path = tuple[str, ...]
 """The members from the outermost value on; an item of a list is `*`."""
 
 SPACE = re.compile(r"[ \t\r\n]*")
+HEADS = re.compile(rf'(\{{\s*"type"\s*:\s*")({"|".join(KINDS)})("\s*,\s*"[^"\\]*"\s*:)')
+"""How an item begins whose first member is its kind: the second one tells an element of a change from a member of a relation."""
+HEAD = re.compile(r'\{\s*"[^"\\]*"\s*:')
+"""How any other one does: `{"changeset":` of an element of the server, where a member of a relation has `{"ref":`."""
 EXPONENT = 3
 """Characters from which on a part of a number behind its whole digits is read as such: a point and a digit, or `e-5`."""
 AHEAD = 1 << 15
 """Characters that are there before an item isn't taken as it stands: its end may not have come."""
-BEGINNING = 9
-"""Characters of an item's beginning: `{"changes` of an element of the server, where a member of a relation has `{"ref":1,`."""
+BLOCK = re.compile(rf'\{{\s*"(?:{"|".join(ACTIONS)}|if-unused)"')
+"""How a block of a change begins, which may have any number of elements."""
 
 
 class Sort(Enum):
@@ -28,6 +32,8 @@ class Sort(Enum):
     CLOSED = auto()
     ROWS = auto()
     """Several items of a list, taken as they stand."""
+    ITEMS = auto()
+    """Several items of a list, as values."""
 
 
 class Event(NamedTuple):
@@ -53,15 +59,18 @@ class Walk:
     """Reads the text that an iterator gives piece by piece.
 
     `opened` has the paths whose lists or objects are opened. `longest` is the most characters that a value may have, or 0. `rows` takes
-    the items of the lists of elements, as many as it can.
+    the items of the lists of elements, as many as it can. The items of the paths in `together` are told several at once.
     """
 
     def __init__(
-        self, pieces: Iterator[str], opened: frozenset[Path], longest: int = 0, parse_float: Any = None, rows: Rows | None = None
-    ) -> None:
-        self.pieces, self.opened, self.longest, self.rows = pieces, opened, longest, rows
+        self, pieces: Iterator[str], opened: frozenset[Path], longest: int = 0, parse_float: Any = None, rows: Rows | None = None,
+        together: frozenset[Path] = frozenset(),
+    ) -> None:  # fmt: skip
+        self.pieces, self.opened, self.longest, self.rows, self.together = pieces, opened, longest, rows, together
         self.scan = json.JSONDecoder(parse_float=parse_float, parse_constant=no_number).raw_decode
         self.text, self.place, self.ended, self.is_tried, self.is_read = "", 0, False, False, False
+        self.gap = ""
+        """The space behind the comma before an item, which others of its list have too."""
 
     def events(self) -> Iterator[Event]:
         yield from self.value(())
@@ -148,6 +157,8 @@ class Walk:
         while True:
             if rows:
                 yield from self.taken(rows, path)
+            elif path in self.together:
+                yield from self.told_together(path)
             elif plain:
                 for value in self.several():
                     yield Event(Sort.VALUE, path, value)
@@ -155,6 +166,7 @@ class Walk:
                 yield from self.value(path)
             if self.take(",]") == "]":
                 return
+            self.look_behind_comma()
 
     def taken(self, rows: Rows, path: Path) -> Iterator[Event]:
         """The next items as they stand. Where the next one can't be taken it is read, and where the one before couldn't either, several."""
@@ -170,15 +182,39 @@ class Walk:
             yield Event(Sort.VALUE, path, value)
         self.is_read = True
 
+    def look_behind_comma(self) -> None:
+        """Keeps the space there, where it has come whole."""
+        found = SPACE.match(self.text, self.place)
+        if found and found.end() < len(self.text):
+            self.gap = found[0]
+
+    def told_together(self, path: Path) -> Iterator[Event]:
+        """The next items. Of blocks and elements in one list elements alone are read whole, since a block may be long."""
+        if path not in self.opened:
+            yield Event(Sort.ITEMS, path, self.several())
+            return
+        self.next_character()
+        place = self.place
+        values = [] if BLOCK.match(self.text, place) else self.whole_ones()
+        if values and all(type(it) is dict and it.keys().isdisjoint(ACTIONS) for it in values):
+            yield Event(Sort.ITEMS, path, values)
+            return
+        self.place = place
+        yield from self.value(path)
+
     def several(self) -> list[Any]:
-        """The next items of a list, as many objects as are there whole, or one.
+        """The next items of a list, as many objects as are there whole, or one."""
+        return self.whole_ones() or [self.whole()]
+
+    def whole_ones(self) -> list[Any]:
+        """The next items of a list, as many objects as are there whole, or none.
 
         What ends before a `},{` is whole where it is a list of JSON: a place within a value would leave something open. The one that is
         tried begins as this item does, so that it isn't one of a list within; and where it isn't whole none is tried in this text again.
         """
         if self.next_character() == "{" and not self.is_tried:
-            start = self.text[self.place : self.place + BEGINNING]
-            end = self.text.rfind("}," + start, self.place) + 1
+            until = self.place + AHEAD
+            end = max(self.text.rfind(f"}},{self.gap}{head}", self.place, until) for head in self.heads()) + 1
             try:
                 values, read = self.scan(f"[{self.text[self.place : end]}]") if end else ((), 0)
                 if end and read == end - self.place + 2:
@@ -187,7 +223,15 @@ class Walk:
             except (ValueError, RecursionError):
                 pass  # item by item, up to the one that can't be read
             self.is_tried = True
-        return [self.whole()]
+        return []
+
+    def heads(self) -> list[str]:
+        """What items begin with that are like the next one: up to its first value, or to the second where the first is a kind."""
+        found = HEADS.match(self.text, self.place)
+        if found:
+            return [f"{found[1]}{kind}{found[3]}" for kind in KINDS]
+        one = HEAD.match(self.text, self.place)
+        return [one[0]] if one else ["{"]
 
     def members(self, path: Path) -> Iterator[Event]:
         if self.next_character() == "}":

@@ -9,7 +9,7 @@ from collections.abc import Iterator
 from typing import Any
 from xml.parsers import expat
 
-from .changes import Begun, Ended, Found, Operation
+from .changes import Begun, Ended, Found
 from .refusals import Refused
 from .rows import ACTIONS, KINDS
 from .xml_elements import Attributes, Reading, start_of
@@ -117,8 +117,12 @@ class ChangeReader(Reader):
 
     def closed(self, _: str) -> None:
         if len(self.path) == 3 and self.reading:
-            self.found.append(Operation(self.reading.whole()))
-            self.reading = None
+            row, self.reading = self.reading.whole(), None
+            last = self.found[-1] if self.found else None
+            if isinstance(last, list):
+                last.append(row)
+            else:
+                self.found.append([row])
         elif len(self.path) == 2:
             self.found.append(Ended(self.if_unused))
 

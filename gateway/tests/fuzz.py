@@ -224,7 +224,7 @@ def json_wanted(data: bytes) -> Any:
     blocks: list[Row] = []
     for block in it["osmChange"]:
         if not isinstance(block, dict):
-            raise Strange
+            raise Invalid
         named = [name for name in block if name in forms.ACTIONS]
         if len(named) > 1 or named and not isinstance(block[named[0]], list) or not named and block.get("action") not in forms.ACTIONS:
             raise Invalid
@@ -238,11 +238,7 @@ def json_wanted(data: bytes) -> Any:
         json.dumps(blocks, ensure_ascii=False).encode("utf-8")
     except UnicodeError:
         raise Invalid from None  # half of a pair of surrogates, which is no character
-    return {"osmChange": blocks}
-
-
-class Strange(Exception):
-    """The gateway passes over it or refuses it, and either is fine."""
+    return joined({"osmChange": blocks})
 
 
 # ---- XML
@@ -328,16 +324,28 @@ def xml_wanted(data: bytes) -> Any:
             raise Invalid
         read: Row = {block.tag: [xml_row(it, block.tag) for it in block]}
         blocks.append(read | ({"if-unused": True} if block.tag == "delete" and "if-unused" in block.attrib else {}))
-    return {"osmChange": blocks}
+    return joined({"osmChange": blocks})
 
 
 # ---- what the gateway makes of it
 
 
-def sent(found: Iterator[Any], together: int = 1) -> Any:
+def joined(change: Any) -> Any:
+    """With blocks of one action behind each other as one: which elements stand in one may depend on where the document is cut."""
+    blocks: list[Row] = []
+    for block in change["osmChange"]:
+        action = next(name for name in forms.ACTIONS if name in block)
+        if blocks and blocks[-1].keys() == block.keys():
+            blocks[-1][action] += block[action]
+        else:
+            blocks.append(block)
+    return {"osmChange": blocks}
+
+
+def sent(found: Iterator[Any]) -> Any:
     """What the server gets, or Invalid."""
     try:
-        return json.loads("".join(change_of(found, Operations(), together)).encode("utf-8"))
+        return joined(json.loads("".join(change_of(found, Operations())).encode("utf-8")))
     except (Refused, UnicodeError) as why:
         if isinstance(why, Refused) and why.status != 400:
             raise Wrong(f"the status of a refusal is {why.status}: {why.text}") from None
@@ -374,7 +382,7 @@ def text_cuts(it: Drawn, data: bytes) -> list[bytes]:
 
 
 def xml_read_of(pieces: list[bytes]) -> Any:
-    return sent(ChangeReader().read(iter(pieces)), PIECE)
+    return sent(ChangeReader().read(iter(pieces)))
 
 
 def outcome(do: Callable[[], Any]) -> Any:
@@ -392,7 +400,7 @@ def judged(it: Drawn, data: bytes, wanted: Callable[[bytes], Any], read: Callabl
         want(outcome(lambda: read(pieces)), found, f"{data!r} in pieces {pieces!r}")  # noqa: B023
     try:
         want(found, outcome(lambda: wanted(data)), f"{data!r}")
-    except (Twice, Strange):
+    except Twice:
         return "either way"
     return "refused" if found == "refused" else "read"
 
@@ -405,6 +413,36 @@ def of_json(it: Drawn) -> str:
     if it.draw.random() < 0.5:
         data = it.damaged(data)
     return judged(it, data, json_wanted, json_read_of, lambda: text_cuts(it, data))
+
+
+def of_many(it: Drawn) -> str:
+    """Some hundred elements, so that several are read at once, in one style, with some in it that aren't in that."""
+    action = it.draw.choice(forms.ACTIONS)
+    rows = [it.element(action) for _ in range(it.draw.choice((20, 100, 300)))]
+    for row in rows:
+        row |= {name: it.draw.choice(("48.1", "-0.5", "11.1234567", "0", "-12.123456785", "5.0E-4", "1e1")) for name in ("lat", "lon") if name in row}
+    blocks: list[Row] = [{action: rows}]
+    if it.draw.random() < 0.6:
+        blocks = [{"type": row["type"], "action": action, **row} for row in rows]
+        for _ in range(it.draw.choice((0, 0, 1, 3))):
+            at = it.draw.choice(blocks)
+            other: Row = it.draw.choice(({"action": "delete"}, {"if-unused": it.draw.choice((True, False, 1))}, {"action": "x"}, {"create": []}, {"nodes": [[]]}))
+            at |= other
+        blocks[it.draw.randrange(len(blocks)) :] += it.draw.choice(([], [], [5], [{}], [{"create": []}], [{"delete": [it.element("delete")], "if-unused": True}]))
+    item, name = it.draw.choice((",", ", ", ",\n  ", "\r\n,")), it.draw.choice((":", ": ", " :"))
+    text = json.dumps({"osmChange": blocks}, ensure_ascii=it.draw.random() < 0.5, separators=(item, name))
+    for key in ("lat", "lon"):
+        text = re.sub(f'"{key}"{name}"([^"]*)"', lambda found: found[0].replace(f'"{found[1]}"', found[1]), text)  # noqa: B023
+    data = text.encode("utf-8")
+    if it.draw.random() < 0.3:
+        data = it.damaged(data)
+    return judged(it, data, json_wanted, json_read_of, lambda: text_cuts(it, data) if it.draw.random() < 0.5 else at_pieces(it, data))
+
+
+def at_pieces(it: Drawn, data: bytes) -> list[bytes]:
+    """In pieces of one length."""
+    length = it.draw.choice((500, 5_000, PIECE))
+    return [data[place : place + length] for place in range(0, len(data), length)]
 
 
 def of_xml(it: Drawn) -> str:
@@ -526,7 +564,7 @@ def of_reply(it: Drawn) -> str:
     return "read"
 
 
-CASES: tuple[Callable[[Drawn], str], ...] = (of_json, of_json, of_xml, of_xml, of_edge, of_number, of_coding, of_reply)
+CASES: tuple[Callable[[Drawn], str], ...] = (of_json, of_json, of_many, of_xml, of_xml, of_edge, of_number, of_coding, of_reply)
 
 
 def play(seed: int, number: int, counts: Counter[str]) -> None:
