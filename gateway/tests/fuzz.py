@@ -32,7 +32,7 @@ from osm_gateway.changes import change_of
 from osm_gateway.plain_rows import rows_at
 from osm_gateway.refusals import Operations, Refused
 from osm_gateway.spool import PIECE, Coding, Spool
-from osm_gateway.walk import OPENED, NotJson, Walk
+from osm_gateway.walk import OPENED, NotJson, Rows, Walk
 from osm_gateway.xml_read import ChangeReader
 from osm_gateway.xml_texts import Texts
 from serving import Wrong, trial_status
@@ -120,7 +120,7 @@ class Drawn:
 
 def json_text(it: Drawn, value: Any, path: str = "") -> str:
     """JSON in some style: spaces, escapes, decimals as they are."""
-    space = lambda: it.draw.choice(("", "", "", " ", "\n", "\t ", "\r\n"))  # noqa: E731
+    space: Callable[[], str] = lambda: it.draw.choice(("", "", "", " ", "\n", "\t ", "\r\n"))  # noqa: E731
     if isinstance(value, dict):
         return "{" + space() + ("," + space()).join(f"{json_text(it, k)}{space()}:{space()}{json_text(it, v, k)}" for k, v in value.items()) + space() + "}"
     if isinstance(value, list):
@@ -256,7 +256,7 @@ def quoted(it: Drawn, text: str) -> str:
 
 
 def xml_element(it: Drawn, row: Row) -> str:
-    space = lambda: it.draw.choice((" ", " ", "\n", "\t "))  # noqa: E731
+    space: Callable[[], str] = lambda: it.draw.choice((" ", " ", "\n", "\t "))  # noqa: E731
     fields = [(name, str(row[name])) for name in ("id", "changeset", "version", "lat", "lon") if name in row]
     it.draw.shuffle(fields)
     head = row["type"] + "".join(f"{space()}{name}={quoted(it, value)}" for name, value in fields)
@@ -425,10 +425,12 @@ def of_many(it: Drawn) -> str:
     if it.draw.random() < 0.6:
         blocks = [{"type": row["type"], "action": action, **row} for row in rows]
         for _ in range(it.draw.choice((0, 0, 1, 3))):
+            others: list[Row] = [{"action": "delete"}, {"if-unused": it.draw.choice((True, False, 1))}, {"action": "x"}, {"create": []}, {"nodes": [[]]}]
             at = it.draw.choice(blocks)
-            other: Row = it.draw.choice(({"action": "delete"}, {"if-unused": it.draw.choice((True, False, 1))}, {"action": "x"}, {"create": []}, {"nodes": [[]]}))
-            at |= other
-        blocks[it.draw.randrange(len(blocks)) :] += it.draw.choice(([], [], [5], [{}], [{"create": []}], [{"delete": [it.element("delete")], "if-unused": True}]))
+            at |= it.draw.choice(others)
+        ends: list[list[Any]] = [[], [], [5], [{}], [{"create": []}], [{"delete": [it.element("delete")], "if-unused": True}]]
+        place = it.draw.randint(0, len(blocks))
+        blocks[place:place] = it.draw.choice(ends)
     item, name = it.draw.choice((",", ", ", ",\n  ", "\r\n,")), it.draw.choice((":", ": ", " :"))
     text = json.dumps({"osmChange": blocks}, ensure_ascii=it.draw.random() < 0.5, separators=(item, name))
     for key in ("lat", "lon"):
@@ -556,8 +558,11 @@ def of_reply(it: Drawn) -> str:
     text = json.dumps(wanted, ensure_ascii=it.draw.random() < 0.5, separators=(",", ":"), sort_keys=it.draw.random() < 0.7)
     spool = Spool()
     spool.write(text.encode())
-    rows = it.draw.choice((None, rows_at))
-    events = lambda: Walk(iter(it.cuts(text)), OPENED, rows=rows).events() if it.draw.random() < 0.8 else events_of(spool, rows=rows)  # noqa: E731
+    ways: list[Rows | None] = [None, rows_at]
+    way = it.draw.choice(ways)
+    events: Callable[[], documents.Events] = (  # noqa: E731
+        lambda: Walk(iter(it.cuts(text)), OPENED, rows=way).events() if it.draw.random() < 0.8 else events_of(spool, rows=way)
+    )
     want(forms.json_document_of("".join(documents.elements_json(events())).encode()), wanted, f"{text} as JSON")
     want(forms.document_of("".join(documents.elements_xml(events(), Texts())).encode()), wanted, f"{text} as XML")
     spool.close()
