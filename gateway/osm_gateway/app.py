@@ -9,7 +9,7 @@ from collections.abc import Awaitable, Callable, Iterator
 
 from aiohttp import ClientPayloadError, web
 
-from . import calls_about, calls_blocks, calls_changesets, calls_discussions, calls_elements, calls_notes, calls_oauth, calls_preferences, calls_users, id_editor, overview, pages
+from . import blocks_page, calls_about, calls_blocks, calls_changesets, calls_discussions, calls_elements, calls_notes, calls_oauth, calls_preferences, calls_users, id_editor, overview, pages
 from .call import Call, Gateway
 from .doubts import unknown
 from .limits import TooMany, address_of
@@ -205,6 +205,8 @@ FORMS: tuple[tuple[tuple[str, ...], str, Callable[[Gateway, web.Request], Awaita
     (("GET", "POST"), "/oauth2/applications", calls_oauth.applications),
     (("GET", "POST"), "/oauth2/authorized_applications", calls_oauth.authorized),
     (("GET", "POST"), "/users", calls_users.edit),
+    (("GET", "POST"), "/user_blocks", blocks_page.newest),
+    (("GET", "POST"), "/user_blocks/{id:[0-9]{1,19}}", blocks_page.one),
     (("GET",), "/history/comments/feed", calls_discussions.feed),
     (("GET",), "/changeset/{id:[0-9]{1,19}}/comments/feed", calls_discussions.feed),
     (("GET",), "/id", id_editor.moved),

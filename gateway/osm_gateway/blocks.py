@@ -26,6 +26,7 @@ class Block(NamedTuple):
 
 COLUMNS = "id, user, creator, created, updated, ends, needs_view, revoker, reason"
 ACTIVE = "(needs_view OR ends > ?)"
+LISTED = 100
 
 
 def block_of(row: Row) -> Block:
@@ -45,11 +46,14 @@ class Blocks:
         rows = self.store.all(f"SELECT {COLUMNS} FROM blocks WHERE user = ? AND {ACTIVE} ORDER BY id DESC", user, now())
         return [block_of(row) for row in rows]
 
-    def refuse(self, user: User) -> None:
-        """With OSM's words, the reason behind them: here no page tells it to a user who has logged in."""
+    def newest(self) -> list[Block]:
+        return [block_of(row) for row in self.store.all(f"SELECT {COLUMNS} FROM blocks ORDER BY id DESC LIMIT {LISTED}")]
+
+    def refuse(self, user: User, site: str = "") -> None:
+        """With OSM's words, and behind them the address of the page that tells more, and the reason."""
         for it in self.active(user.id)[:1]:
             until = "until you have read it" if it.needs_view and it.ends <= now() else f"until {moment_text(it.ends)}"
-            raise Refused(403, f"Your access to the API has been blocked, {until}, by /api/0.6/user_blocks/{it.id}: {it.reason}")
+            raise Refused(403, f"Your access to the API has been blocked, {until}, by {site}/user_blocks/{it.id}: {it.reason}")
 
     def counts(self, user: int, column: str = "user") -> tuple[int, int]:
         """How many blocks a user has got, or as `creator` given, and how many of them hold."""

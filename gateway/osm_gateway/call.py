@@ -43,6 +43,7 @@ JSON_BODY = 1 << 25
 FORM_BODY = 1 << 16
 READING, WRITING = 300.0, 300.0
 
+FORBIDDEN = "Only a moderator may do this"
 UNCONFIRMED = (
     "This was done, but fewer than {} mirrors had it within {:g} seconds, so it may be lost with the server. "
     "Look whether it is there before you send it again."
@@ -133,7 +134,7 @@ class Call:
         if not self.caller.may(*scopes_of(request.method, request.path)):
             raise Refused(403, UNPERMITTED)
         if self.caller.user and request.method not in READS:
-            gateway.blocks.refuse(self.caller.user)
+            gateway.blocks.refuse(self.caller.user, self.site)
         request["texts"] = self.texts
 
     @property
@@ -160,7 +161,7 @@ class Call:
     def moderator(self) -> User:
         user = self.user()
         if not user.moderator:
-            raise Refused(403, "Only a moderator may do this")
+            raise Refused(403, FORBIDDEN)
         return user
 
     # ---- what was asked

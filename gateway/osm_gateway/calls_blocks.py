@@ -2,13 +2,14 @@
 
 from __future__ import annotations
 
-from typing import Any
+from typing import Any, NamedTuple
 
 from aiohttp import web
 
 from . import documents, json_write, xml_write
 from .blocks import Block
-from .call import Call, number_of
+from .call import FORBIDDEN, Call, Gateway, number_of
+from .people import User
 from .refusals import Refused
 from .times import moment_text
 
@@ -54,13 +55,21 @@ def found(call: Call) -> Block:
     return it
 
 
-async def create(call: Call) -> web.StreamResponse:
+class Wanted(NamedTuple):
+    """What a new block is to be."""
+
+    user: User
+    hours: int
+    needs_view: bool
+    reason: str
+
+
+def wanted_of(gateway: Gateway, given: dict[str, str]) -> Wanted:
     """Refused in the order and the words of OSM's server."""
-    creator, given = call.moderator(), await call.parameters()
     text = given.get("user")
     if not text:
         raise Refused(400, "No user was given")
-    user = call.gateway.people.by_id.get(number_of(text, 1, (1 << 63) - 1) or 0)
+    user = gateway.people.by_id.get(number_of(text, 1, (1 << 63) - 1) or 0)
     if user is None:
         raise Refused(404, f"There is no user with the id {text[:100]}")
     if not given.get("reason"):
@@ -74,7 +83,20 @@ async def create(call: Call) -> web.StreamResponse:
         raise Refused(400, f"Period must be a number of hours between 0 and {MOST_HOURS}")
     if given.get("needs_view", "true") != "true":
         raise Refused(400, "Needs_view must be true if provided")
-    return shown(call, call.gateway.blocks.add(user.id, creator.id, hours, "needs_view" in given, given["reason"]))
+    return Wanted(user, hours, "needs_view" in given, given["reason"])
+
+
+def moderated(gateway: Gateway, user: User) -> None:
+    """Refuses whoever is no moderator, or is blocked."""
+    if not user.moderator:
+        raise Refused(403, FORBIDDEN)
+    gateway.blocks.refuse(user)
+
+
+async def create(call: Call) -> web.StreamResponse:
+    creator = call.moderator()
+    it = wanted_of(call.gateway, await call.parameters())
+    return shown(call, call.gateway.blocks.add(it.user.id, creator.id, it.hours, it.needs_view, it.reason))
 
 
 async def read(call: Call) -> web.StreamResponse:

@@ -13,7 +13,7 @@ from html import escape
 from aiohttp import web
 
 from . import pages
-from .call import Gateway
+from .call import FORBIDDEN, Gateway
 from .calls_oauth import WRONG, form_of
 from .log import shown, tell
 from .people import BadUsers, User
@@ -24,7 +24,6 @@ from .users_text import ROLES, Draft
 TITLE = "Users"
 ANEW = "once the server, and that of notes, has been started anew with this text"
 BUTTONS = {"rename": "Rename", "token": "Give a new token", "promote": "Make a moderator", "demote": "Make an ordinary user", "out": "Take out"}
-FORBIDDEN = "Only a moderator may do this"
 SLOW = "Not all processes of this gateway have read the new text yet. Look at what they tell, or have them read it by SIGHUP."
 
 

@@ -3,13 +3,17 @@
 from __future__ import annotations
 
 import os
-from collections.abc import Iterable
+from collections.abc import Callable, Iterable
 from html import escape
 
 from aiohttp import web
 
+from .people import User
+
 CSP = "default-src 'none'; style-src 'self'; img-src 'self' data:; base-uri 'none'; frame-ancestors 'none'; form-action 'self'"
 
+Doing = Callable[[User, dict[str, str]], None]
+"""What a form is sent for, by whom, with its fields."""
 FOLDER = os.path.join(os.path.dirname(os.path.dirname(os.path.abspath(__file__))), "page")
 HEAD = """<!DOCTYPE html>
 <html lang="en">

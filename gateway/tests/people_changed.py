@@ -4,11 +4,13 @@ from __future__ import annotations
 
 import json
 import os
+import re
 import signal
 import tempfile
 import time
 import xml.etree.ElementTree as ET
 from datetime import datetime
+from urllib.parse import urlencode
 
 from behind import ALICE, BOB, USERS, Gateway, Site, basic, has, want
 from other_calls import refused
@@ -100,6 +102,64 @@ def to_be_read(gateway: Gateway) -> None:
     gateway.changeset()
 
 
+# ---- pages of blocks
+
+
+def sent(gateway: Gateway, status: int, text: str, path: str, do: str, name: str = "bob", token: str = "bobtoken", **fields: str) -> str:
+    """A form, and what its page has to say."""
+    form = urlencode({"name": name, "token": token, "do": do, **fields})
+    came = gateway.ask("POST", path, form, Content_Type="application/x-www-form-urlencoded", Origin=f"http://127.0.0.1:{gateway.port}")
+    want(came.status, status, f"{form} to {path}: {came.text[-900:]}")
+    has(came.text, text, f"{form} to {path}")
+    return came.text
+
+
+def begun_by_page(gateway: Gateway, reason: str, **more: str) -> str:
+    """The path of a new block of alice, which she is told when she changes something."""
+    sent(gateway, 200, "It is done.", "/user_blocks", "block", whom="alice", period="1", reason=reason, **more)
+    told = gateway.api("PUT", "changeset/create", "", ALICE).text
+    found = re.search(f"by http://127.0.0.1:{gateway.port}(/user_blocks/[0-9]+): {re.escape(reason)}$", told)
+    if not found:
+        raise Wrong(f"what a user is told who is blocked by a page: {told}")
+    has(gateway.ask("GET", "/user_blocks").text, f'<a href="{found[1]}">', "the list of blocks")
+    return found[1]
+
+
+def block_pages(gateway: Gateway) -> None:
+    has(gateway.ask("GET", "/user_blocks").text, "Nobody has been blocked", "the list of none")
+    want(gateway.ask("GET", "/user_blocks/7").status, 404, "a block that is none")
+    for status, text, fields in (
+        (404, "There is no user &lt;b&gt;", {"whom": "<b>", "period": "1", "reason": "x"}), (404, "There is no user", {"period": "1", "reason": "x"}),
+        (400, "No reason was given", {"whom": "alice", "period": "1"}), (400, "between 0 and 87660", {"whom": "alice", "period": "1.5", "reason": "x"}),
+    ):  # fmt: skip
+        sent(gateway, status, text, "/user_blocks", "block", **fields)
+    sent(gateway, 403, "Only a moderator", "/user_blocks", "block", "alice", "alicetoken", whom="bob", period="1", reason="x")
+    sent(gateway, 401, "don&#x27;t belong together", "/user_blocks", "block", "bob", "alicetoken", whom="alice", period="1", reason="x")
+    want(gateway.ask("POST", "/user_blocks", "do=block", Origin="https://elsewhere.example").status, 403, "a form of another host")
+    gateway.changeset()
+    path = begun_by_page(gateway, "why <&")
+    page = gateway.ask("GET", path)
+    has(page.text, "alice is blocked by bob and changes nothing", "the page of a block")
+    has(page.text, "why &lt;&amp;", "its reason")
+    want("I have read this" in page.text, False, "whether a block that holds by its hours alone asks to be read")
+    sent(gateway, 403, "Only a moderator", path, "end", "alice", "alicetoken")
+    has(sent(gateway, 200, "It is done.", path, "end"), "alice was blocked by bob", "the page of a block that was ended")
+    gateway.changeset()
+
+
+def read_by_page(gateway: Gateway) -> None:
+    """A block that has to be read is over once its user says so on its page, and its hours are."""
+    path = begun_by_page(gateway, "to be read", needs_view="true")
+    sent(gateway, 403, "of another user", path, "read")
+    sent(gateway, 401, "don&#x27;t belong together", path, "read", "alice", "x")
+    page = sent(gateway, 200, "It is done.", path, "read", "alice", "alicetoken")
+    want(("I have read this" in page, "until it has been read" in page), (False, False), "what a page asks behind that")
+    refused(gateway, 403, "until 20", "PUT", "changeset/create", "", ALICE)
+    sent(gateway, 400, "nothing that is done here", path, "x")
+    sent(gateway, 200, "It is done.", path, "end")
+    gateway.changeset()
+
+
 # ---- the users text
 
 
@@ -135,9 +195,12 @@ def users(gateway: Gateway, count: int = 1) -> None:
 
 def run(program: str) -> str:
     with Site(program, notes=True) as gateway:
+        block_pages(gateway)
+        read_by_page(gateway)
+        users(gateway)
+    with Site(program, notes=True) as gateway:
         blocks(gateway)
         to_be_read(gateway)
-        users(gateway)
     with tempfile.TemporaryDirectory() as folder, Site(program, more=("--processes", "3", "--data", os.path.join(folder, "own"))) as gateway:
         users(gateway, 3)
-    return "users are blocked, for hours and until they have read why; a users text is read again, by one process and by three"
+    return "users are blocked, for hours and until they have read why, by calls and by pages; a users text is read again, by one process and by three"
