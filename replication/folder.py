@@ -21,6 +21,7 @@ from dataclasses import asdict, dataclass
 from typing import Any
 
 from feed import Unusable
+from from_gateway import sync_folder
 
 CHANGESETS = "changesets"
 
@@ -50,14 +51,6 @@ class State:
         return f"---\nlast_run: {stamp}\nsequence: {self.sequence}\n"
 
 
-def sync(path: str) -> None:
-    descriptor = os.open(path, os.O_RDONLY)
-    try:
-        os.fsync(descriptor)
-    finally:
-        os.close(descriptor)
-
-
 def write_whole(path: str, parts: Iterable[bytes]) -> None:
     """No reader finds a part of it, and it is on the disk before anything is written behind it."""
     new = path + ".new"
@@ -67,7 +60,7 @@ def write_whole(path: str, parts: Iterable[bytes]) -> None:
         file.flush()
         os.fsync(file.fileno())
     os.replace(new, path)
-    sync(os.path.dirname(path))
+    sync_folder(os.path.dirname(path))
 
 
 class Folder:
@@ -128,7 +121,7 @@ class Folder:
         if not os.path.isdir(path):
             self.make_folders(os.path.dirname(path))
             os.mkdir(path)
-            sync(os.path.dirname(path))
+            sync_folder(os.path.dirname(path))
 
 
 def has_text(path: str, text: str) -> bool:

@@ -15,7 +15,7 @@ from dataclasses import dataclass, field
 from typing import IO, TYPE_CHECKING
 
 from feed import Taken, Unusable, entry_of, piece_of
-from folder import sync
+from from_gateway import sync_folder
 
 if TYPE_CHECKING:
     from hashlib import _Hash
@@ -112,7 +112,7 @@ class Appending:
         if not os.path.exists(path):
             with open(os.open(path, os.O_WRONLY | os.O_CREAT | os.O_CLOEXEC, 0o600), "wb") as file:
                 file.write(HEADER)
-            sync(os.path.dirname(path))
+            sync_folder(os.path.dirname(path))
         self.opening = opened(path)
         self.file = self.opening.__enter__()
         self.file.readline()
@@ -159,4 +159,4 @@ class Writing:
         os.fsync(self.file.fileno())
         self.file.close()
         os.replace(self.new, self.path)
-        sync(os.path.dirname(self.path))
+        sync_folder(os.path.dirname(self.path))

@@ -12,6 +12,7 @@ from collections.abc import Iterator
 from contextlib import contextmanager, suppress
 from dataclasses import dataclass
 
+from .folders import sync_folder
 from .log import tell
 from .people import BadUsers, People, people_of
 from .processes import Columns
@@ -104,14 +105,6 @@ def write_like(path: str, data: bytes, old: str, like: os.stat_result) -> None:
         file.write(data)
         file.flush()
         os.fsync(file.fileno())
-
-
-def sync_folder(path: str) -> None:
-    folder = os.open(path, os.O_RDONLY | os.O_DIRECTORY | os.O_CLOEXEC)
-    try:
-        os.fsync(folder)
-    finally:
-        os.close(folder)
 
 
 def replace_text(path: str, before: Found, data: bytes) -> None:
