@@ -9,7 +9,7 @@ from collections.abc import Awaitable, Callable, Iterator
 
 from aiohttp import ClientPayloadError, web
 
-from . import blocks_page, calls_about, calls_blocks, calls_changesets, calls_discussions, calls_elements, calls_notes, calls_oauth, calls_preferences, calls_users, id_editor, overview, pages
+from . import blocks_page, calls_about, calls_blocks, calls_changesets, calls_discussions, calls_elements, calls_notes, calls_oauth, calls_preferences, calls_users, changesets_feed, id_editor, overview, pages
 from .call import Call, Gateway
 from .doubts import unknown
 from .limits import TooMany, address_of
@@ -85,6 +85,8 @@ OWN_ENDS: tuple[tuple[str, str, Handler], ...] = (
     ("GET", "user/preferences/{key:.+}", calls_preferences.read),
     ("PUT", "user/preferences/{key:.+}", calls_preferences.write),
     ("DELETE", "user/preferences/{key:.+}", calls_preferences.delete),
+    ("GET", "/history/feed", changesets_feed.feed),
+    ("GET", "/user/{name:[^/]+}/history/feed", changesets_feed.feed),
     ("GET", "/overview/{z:1[0-2]}/{x:[0-9]{1,4}}/{y:[0-9]{1,4}}", overview.tile),
     ("GET", f"notes{MORE_FORMS}", calls_notes.search),
     ("GET", f"notes/search{MORE_FORMS}", calls_notes.search_texts),

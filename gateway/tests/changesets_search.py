@@ -5,10 +5,11 @@ from __future__ import annotations
 import json
 import random
 import time
+import xml.etree.ElementTree as ET
 from dataclasses import dataclass, field
 from datetime import datetime, timedelta, timezone
 from typing import Any
-from urllib.parse import parse_qs, urlencode
+from urllib.parse import parse_qs, quote, urlencode
 
 from behind import USERS, Gateway, has, want
 from rows import Request, Standing
@@ -142,10 +143,35 @@ def compared(gateway: Gateway, rows: list[Row], users: tuple[str, ...], queries:
 # ---- what is tried
 
 
+def boxed(it: Row) -> str | None:
+    """South, west, north and east, as GeoRSS has them."""
+    return " ".join(f"{it[name] / 10_000_000:.7f}" for name in ("minlat7", "minlon7", "maxlat7", "maxlon7")) if "minlon7" in it else None
+
+
+def said(it: Row) -> str:
+    count = it["changes_count"]
+    return (f"{it['tags']['comment']}\n" if it["tags"] else "") + ("1 change" if count == 1 else f"{count} changes")
+
+
+def as_feeds(gateway: Gateway, rows: list[Row]) -> None:
+    """Of all, of boxes and of users, each with its box and what is said of it."""
+    feeds: list[tuple[str, Query]] = [("", {}), *(("", {"bbox": box}) for box in BOXES), *((name, {"display_name": name}) for name in ("bob", "Ünï Cödé"))]
+    for name, query in feeds:
+        path = f"/user/{quote(name)}/history/feed" if name else f"/history/feed?{urlencode(query)}"
+        items = ET.fromstring(gateway.ask("GET", path).body).findall("channel/item")
+        found = [int((it.findtext("link") or "").rpartition("/")[2]) for it in items]
+        want(found, wanted(rows, query), f"the feed of {query}")
+        shown = [(it.findtext("{http://www.georss.org/georss}box"), it.findtext("description")) for it in items]
+        want(shown, [(boxed(it), said(it)) for it in (rows[number - 1] for number in found)], f"what the feed of {query} says")
+    for path in ("/user/nobody/history/feed", "/history/feed?display_name=nobody"):
+        want(gateway.ask("GET", path).status, 404, path)
+
+
 def drawn() -> str:
     rows = drawn_rows(random.Random(SEED), COUNT)
     with Listing(rows=rows) as listing, Gateway(listing.port) as gateway:
         further = compared(gateway, rows, ("1", "2", "3"), QUERIES)
+        as_feeds(gateway, rows)
         # All of a user by pages, as clients read on: up to the moment of the last one that came.
         page, pages = ids(gateway, {"display_name": "bob", "limit": "50"}), list[int]()
         while page and page[-1] not in pages:
@@ -185,7 +211,7 @@ def at_a_server(program: str) -> str:
         links = {token: Link(server.port, token) for token in ("alicetoken", "bobtoken")}
         for number in range(1, 261):
             link = links[draw.choice(("alicetoken", "bobtoken"))]
-            link.ask("PUT", "changeset/create")
+            link.ask("PUT", "changeset/create", {"tags": {"comment": "<&>ü"}} if draw.random() < 0.5 else None)
             if draw.random() < 0.6:
                 place = {"lat7": draw.randint(-20_000_000, 20_000_000), "lon7": draw.randint(-20_000_000, 20_000_000)}
                 link.ask("POST", f"changeset/{number}/upload", {"osmChange": [{"create": [{"type": "node", "id": -1, **place}]}]})
@@ -195,6 +221,7 @@ def at_a_server(program: str) -> str:
                 time.sleep(1.1)
         rows = [link.ask("GET", f"changeset/{number}").read()["changeset"] for number in range(1, 261)]
         further = compared(gateway, rows, ("1", "2"), QUERIES // 2)
+        as_feeds(gateway, rows)
     return f"{QUERIES // 2} of 260 changesets at a server, {further} of them so"
 
 
