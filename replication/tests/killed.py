@@ -19,6 +19,7 @@ sys.path.insert(0, TOP)
 
 import folder
 import kept_journal
+from from_gateway import folders
 
 
 class Steps:
@@ -73,8 +74,8 @@ class Halves(io.FileIO):
 
 if __name__ == "__main__":
     steps = Steps(int(sys.argv[1]))
-    setattr(folder, "os", steps)
-    setattr(kept_journal, "os", steps)
+    for module in (folder, folders, kept_journal):
+        setattr(module, "os", steps)
     setattr(folder, "open", steps.open_file)
     sys.argv[:] = [os.path.join(TOP, "run"), *sys.argv[2:]]
     runpy.run_path(sys.argv[0], run_name="__main__")

@@ -17,6 +17,7 @@ import same
 from change_file import Element, packed, text_of
 from folder import Folder, State
 from from_gateway import KINDS
+from from_gateway import folders as names
 from killed import Steps
 from merged import DAY, hours_and_days, merged
 from parts import Programs, compare, from_nothing, whole_files
@@ -119,12 +120,14 @@ def write_all(small: Folder) -> None:
 
 
 def with_breaks(breaks: Breaks, small: Folder) -> None:
-    setattr(folders, "os", breaks)
+    for module in (folders, names):
+        setattr(module, "os", breaks)
     setattr(folders, "open", breaks.open_file)
     try:
         write_all(small)
     finally:
-        setattr(folders, "os", os)
+        for module in (folders, names):
+            setattr(module, "os", os)
         delattr(folders, "open")
 
 
