@@ -12,7 +12,7 @@ import tempfile
 import time
 from collections import deque
 from collections.abc import Callable, Iterable, Iterator, Sequence
-from contextlib import suppress
+from contextlib import contextmanager, suppress
 from typing import Any, NamedTuple
 
 TICKS: int = os.sysconf("SC_CLK_TCK")
@@ -110,6 +110,23 @@ class Link:
         if self.stream is not None:
             self.stream.close()
             self.stream = None
+
+
+@contextmanager
+def small_disk(folder: str, size: int) -> Iterator[bool]:
+    """Whether a disk of so many KiB stands at the folder; without the right to mount one there is none."""
+    words = ["mount", "-t", "tmpfs", "-o", f"size={size}k", "none", folder]
+    is_mounted = os.geteuid() == 0 and subprocess.run(words, stderr=subprocess.DEVNULL, check=False).returncode == 0
+    try:
+        yield is_mounted
+    finally:
+        if is_mounted:
+            subprocess.run(["umount", "--lazy", folder], check=True)
+
+
+def grown_disk(folder: str) -> None:
+    """Gives it room for all that is tried."""
+    subprocess.run(["mount", "-o", f"remount,size={1 << 20}k", folder], check=True)
 
 
 class Wrong(Exception):

@@ -19,6 +19,8 @@ from kept_link import Lost, Site
 
 WAIT = 7_200  # seconds for a mirror to begin, since its program may have to be built before
 PR_SET_PDEATHSIG = 1
+UNKEPT, ENDING = 9, 1.0
+"""A mirror's status where its disk is full or fails, and seconds that its end may take."""
 
 
 class Ended(Exception):
@@ -69,7 +71,9 @@ class OwnMirror:
         while True:
             try:
                 return int(json.loads(self.site.ask(self.site.get("replication/state")).body)["sequenceNumber"])
-            except Lost:
+            except Lost as why:
+                if self.process.poll() == UNKEPT:
+                    raise self.ended(why) from None
                 if self.process.poll() is not None:
                     raise Unusable(
                         f"the mirror's program {program} ended with status {self.process.returncode}; its journal: {self.journal or 'none'}"
@@ -88,7 +92,16 @@ class OwnMirror:
                         f"piece {self.length} isn't taken by a mirror: {reply.status} {reply.body[:200].decode(errors='replace')}"
                     )
         except Lost as why:
-            raise Ended(str(why)) from why
+            raise self.ended(why) from why
+
+    def ended(self, why: Lost) -> Ended:
+        """With its status, which it has once it is gone."""
+        try:
+            status = self.process.wait(ENDING)
+        except subprocess.TimeoutExpired:
+            return Ended(f"the mirror doesn't answer: {why}")
+        cause = f": {self.journal} can't be written" if status == UNKEPT else ""
+        return Ended(f"the mirror ended with status {status}{cause}")
 
     def bodies(self, paths: Sequence[str]) -> Iterator[dict[str, Any] | None]:
         """Of each read what it tells; none where there is no such thing."""
@@ -98,7 +111,7 @@ class OwnMirror:
                     raise Unusable(f"the mirror's reply to {path}: {reply.status} {reply.body[:200].decode(errors='replace')}")
                 yield json.loads(reply.body) if reply.status == 200 else None
         except Lost as why:
-            raise Ended(str(why)) from why
+            raise self.ended(why) from why
 
     def read(self, paths: Sequence[str]) -> list[dict[str, Any] | None]:
         """The first element of each reply, with those that are redacted; none where there is no such element or version."""

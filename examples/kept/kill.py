@@ -31,13 +31,13 @@ import sys
 import tempfile
 import threading
 import time
-from collections.abc import Callable, Iterator
+from collections.abc import Callable
 
 HERE = os.path.dirname(os.path.abspath(__file__))
 sys.path.insert(1, os.path.join(HERE, ".."))
 
 from editors import Editor, Reader  # noqa: E402
-from serving import Link, Lost, Server, free_port, tell_faults  # noqa: E402
+from serving import Link, Lost, Server, free_port, grown_disk, small_disk, tell_faults  # noqa: E402
 
 PROGRAM = os.path.join(HERE, "..", "..", "crates", "osm", "out", "osm")
 TEXT_LIMIT = 1 << 28  # bytes that `replay` reads
@@ -204,18 +204,6 @@ class Run:
 # ---- a disk that gets full
 
 
-@contextlib.contextmanager
-def small_disk(folder: str, size: int) -> Iterator[bool]:
-    """Whether a disk of so many KiB stands at the folder; without the right to mount one there is none."""
-    words = ["mount", "-t", "tmpfs", "-o", f"size={size}k", "none", folder]
-    is_mounted = os.geteuid() == 0 and subprocess.run(words, stderr=subprocess.DEVNULL, check=False).returncode == 0
-    try:
-        yield is_mounted
-    finally:
-        if is_mounted:
-            subprocess.run(["umount", "--lazy", folder], check=True)
-
-
 def fill(run: Run, blocks: int) -> None:
     """Edits until the disk is full, which has to end the program with its status."""
     with run.server(blocks) as server:
@@ -238,7 +226,7 @@ def try_full(program: str, folder: str, size: int, links: int, seed: int) -> Run
         run = Run(program, os.path.join(folder, "journal"), links, seed)
         fill(run, 0 if is_mounted else 2 * size)
         if is_mounted:
-            subprocess.run(["mount", "-o", f"remount,size={1 << 20}k", folder], check=True)
+            grown_disk(folder)
         run.round(LONGEST)
         finish(run)
     return run

@@ -16,6 +16,7 @@ import time
 import uuid
 import xml.etree.ElementTree as xml
 from collections.abc import Callable
+from contextlib import ExitStack
 from dataclasses import dataclass
 
 import change_file
@@ -49,17 +50,19 @@ def url(port: int) -> str:
 class Running:
     """replication/run on a server and a folder, until the end of a `with`."""
 
-    def __init__(self, programs: Programs, port: int, folder: str, *more: str, killed_at: int = 0, script: str = RUN) -> None:
+    def __init__(self, programs: Programs, port: int, folder: str, *more: str, killed_at: int = 0, script: str = RUN, log: str = "") -> None:
+        """What it says goes into the file `log` where one is named."""
         command = [os.path.join(HERE, "killed.py"), str(killed_at)] if killed_at else [script]
         words = ["--feed", url(port), "--folder", folder, "--mirror", programs.mirror, "--every", "1", *more]
         self.folder, self.mark = Folder(folder), uuid.uuid4().hex
-        self.process = subprocess.Popen(
-            [sys.executable, *command, *words],
-            stdout=subprocess.DEVNULL,
-            stderr=subprocess.PIPE,
-            text=True,
-            env={**os.environ, "HEGUNSAP_TOKEN": "bobtoken", MARK: self.mark},
-        )
+        with ExitStack() as stack:
+            self.process = subprocess.Popen(
+                [sys.executable, *command, *words],
+                stdout=subprocess.DEVNULL,
+                stderr=stack.enter_context(open(log, "w", encoding="utf-8")) if log else subprocess.PIPE,
+                text=True,
+                env={**os.environ, "HEGUNSAP_TOKEN": "bobtoken", MARK: self.mark},
+            )
 
     def __enter__(self) -> Running:
         return self
