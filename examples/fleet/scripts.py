@@ -53,10 +53,10 @@ def add_engine(parser: argparse.ArgumentParser) -> None:
 
 
 def run(name: str, work: Callable[[], None]) -> int:
-    """1 where it can't be gone on with, 3 where there is another journal."""
+    """1 where it can't be gone on with, as on a full disk, and 3 where there is another journal."""
     try:
         work()
-    except (OtherJournal, Unusable) as why:
+    except (OtherJournal, Unusable, OSError) as why:
         say(name, why)
         return 3 if isinstance(why, OtherJournal) else 1
     except KeyboardInterrupt:

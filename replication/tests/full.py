@@ -3,13 +3,16 @@
 from __future__ import annotations
 
 import os
+import subprocess
+import sys
 import time
 
 import edits
 from edits import Session
-from parts import USERS, Programs, Running, compare, export, from_nothing, url, whole_files
+from parts import TOP, USERS, Programs, Running, compare, export, from_nothing, url, whole_files
 from serving import Server, Wrong, grown_disk, small_disk
 
+KEEP = os.path.join(TOP, "examples", "fleet", "keep.py")
 KIB = {"folder": 200, "journal": 700}
 """Of the disk; a mirror lays 256 KiB of room by at a time."""
 LATE = 60.0
@@ -61,6 +64,44 @@ def gone_on(programs: Programs, folder: str, what: str, told: str) -> str:
             return f"under the {what} behind {versions} versions, and {whole_files(running.folder) - versions} more once there was room"
 
 
+def kept(programs: Programs, folder: str) -> str:
+    """examples/fleet/keep.py ends with a line, and goes on behind what it has once there is room."""
+    disk, log = os.path.join(folder, "kept"), os.path.join(folder, "kept.log")
+    os.mkdir(disk)
+    with small_disk(disk, KIB["folder"]) as is_mounted, Server(programs.server, 8, USERS) as server:
+        if not is_mounted:
+            return "keep.py: not tried"
+        session, path = Session(url(server.port)), os.path.join(disk, "journal.txt")
+        words = [sys.executable, KEEP, path, "--server", url(server.port)]
+        with open(log, "w", encoding="utf-8") as file:
+            process = subprocess.Popen(words, stderr=file, env={**os.environ, "HEGUNSAP_TOKEN": "bobtoken"})
+        until = time.monotonic() + LATE
+        while process.poll() is None and time.monotonic() < until:
+            session.create(*[edits.node(-number, number, text=os.urandom(60).hex()) for number in range(1, 201)])
+            time.sleep(0.1)
+        if (process.poll(), said(log).count("\n")) != (1, 1) or "No space left" not in said(log):
+            process.kill()
+            raise Wrong(f"keep.py on a full disk: status {process.returncode}, {said(log)[-600:]!r}")
+        grown_disk(disk)
+        process = subprocess.Popen(words, env={**os.environ, "HEGUNSAP_TOKEN": "bobtoken"})
+        try:
+            wait_for_lines(path, session.number())
+        finally:
+            process.terminate()
+            process.wait()
+    return "keep.py ends with a line, and goes on"
+
+
+def wait_for_lines(path: str, count: int) -> None:
+    until = time.monotonic() + LATE
+    while time.monotonic() < until:
+        with open(path, "rb") as file:
+            if file.read().count(b"\n") == count:
+                return
+        time.sleep(0.1)
+    raise Wrong(f"keep.py doesn't come to {count} pieces behind a full disk")
+
+
 def full(programs: Programs, folder: str) -> str:
     told = gone_on(programs, folder, "folder", "No space left on device"), gone_on(programs, folder, "journal", "can't be written")
-    return f"a disk that gets full: {'; '.join(told)}"
+    return f"a disk that gets full: {'; '.join((*told, kept(programs, folder)))}"
