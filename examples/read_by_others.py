@@ -3,8 +3,9 @@
 
 A made-up town is loaded, and a box of it written; then each of these programs of Debian has to read the file: osmconvert
 counts its elements, tilemaker makes vector tiles by its rules for OpenMapTiles, which take no file without a box in its
-head, mkgmap behind its splitter makes a map for Garmin's devices, and routino finds a way along a street. Status 0 where
-all is as it must be. Needs Debian's osmctools, tilemaker, mkgmap, mkgmap-splitter, routino, python3-pyosmium, python3-tqdm.
+head, mkgmap behind its splitter makes a map for Garmin's devices, routino finds a way along a street, and so does pgRouting
+in what osm2pgrouting fills of its XML. Status 0 where all is as it must be. Needs Debian's osmctools, tilemaker, mkgmap,
+mkgmap-splitter, routino, osm2pgrouting, postgresql-15-pgrouting, python3-pyosmium, python3-tqdm.
 """
 
 from __future__ import annotations
@@ -21,8 +22,10 @@ from collections import Counter
 from contextlib import closing
 from functools import partial
 
+import cluster
 import osm_file
 import serving
+from cluster import Cluster
 from export_osm import degrees
 from map_client import KINDS, Element, Key
 from round_trip import SMALL_BOX, USERS, importing, run, url
@@ -85,7 +88,25 @@ def routino(path: str, elements: Map, folder: str) -> str:
     return f"a way of {len(rows)} rows"
 
 
-PROGRAMS = {it.__name__: it for it in (osmconvert, tilemaker, mkgmap, routino)}
+def osm2pgrouting(path: str, elements: Map, folder: str) -> str:
+    """From one end of a street to the other, over the table that it fills; it reads XML alone."""
+    os.makedirs(folder)
+    text = os.path.join(folder, "box.osm")
+    osm_file.write(text, elements.values())
+    street = next(it["nodes"] for it in elements.values() if it["tags"].get("highway") == "residential")
+    with tempfile.TemporaryDirectory() as place, Cluster(place) as database:
+        database.ask("create extension pgrouting")
+        rules = "/usr/share/osm2pgrouting/mapconfig.xml"
+        cluster.run(["osm2pgrouting", "--file", text, "--conf", rules, "--dbname", "osm", "--username", "postgres", "--host", database.folder, "--clean"])
+        ends = [database.ask(f"select id from ways_vertices_pgr where osm_id = {node}") for node in (street[0], street[-1])]
+        rows = database.ask(f"select edge from pgr_dijkstra('select gid as id, source, target, length_m as cost from ways', {ends[0]}, {ends[1]}, false)")
+        count = database.ask("select count(*) from ways").strip()
+    if len(rows.split()) < 2:
+        raise Wrong("pgRouting finds no way")
+    return f"{count} rows of ways, and a way of {len(rows.split())}"
+
+
+PROGRAMS = {it.__name__: it for it in (osmconvert, tilemaker, mkgmap, routino, osm2pgrouting)}
 
 
 def tried(words: argparse.Namespace) -> None:
