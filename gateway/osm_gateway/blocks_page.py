@@ -15,9 +15,9 @@ from .log import shown, tell
 from .people import User
 from .refusals import Refused
 from .store import now
-from .times import moment_text
+from .times import moment_text, utc
 
-HEADS = ("Block", "User", "By", "From", "Until", "Reason")
+HEADS = ("Block", "User", "Until", "Reason")
 READ = "I have read this"
 READER = "This block is of another user: whoever it is of says so here"
 
@@ -27,15 +27,19 @@ def name_of(gateway: Gateway, number: int) -> str:
     return user.name if user else f"user_{number}"
 
 
+def moment(seconds: int) -> str:
+    return utc(moment_text(seconds))
+
+
 def until(it: Block) -> str:
     if it.revoker is not None:
-        return f"{moment_text(it.ends)}, when it was ended"
-    return moment_text(it.ends) + (", and until it has been read" if it.needs_view else "")
+        return f"{moment(it.ends)}, when it was ended"
+    return moment(it.ends) + (", and until it has been read" if it.needs_view else "")
 
 
 def row(gateway: Gateway, it: Block) -> list[str]:
     """Cells of a table, with a link."""
-    cells = name_of(gateway, it.user), name_of(gateway, it.creator), moment_text(it.created), until(it), it.reason
+    cells = name_of(gateway, it.user), until(it), it.reason
     return [f'<a href="/user_blocks/{it.id}">{it.id}</a>', *[escape(it) for it in cells]]
 
 
@@ -71,7 +75,7 @@ async def one(gateway: Gateway, request: web.Request) -> web.StreamResponse:
     holds = it.needs_view or it.ends > now()
     names = name_of(gateway, it.user), name_of(gateway, it.creator)
     parts += [pages.paragraph(f"{names[0]} is blocked by {names[1]} and changes nothing." if holds else f"{names[0]} was blocked by {names[1]}.")]
-    parts += [pages.paragraph(f"From {moment_text(it.created)} until {until(it)}."), pages.paragraph(it.reason)]
+    parts += [pages.paragraph(f"From {moment(it.created)} until {until(it)}."), pages.paragraph(it.reason)]
     if holds:
         read = pages.button("do", "read", READ) if it.needs_view else ""
         parts += [pages.form(pages.who(), read, pages.button("do", "end", "End it, as a moderator"))]
