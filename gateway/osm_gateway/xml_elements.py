@@ -43,7 +43,8 @@ class Reading:
         text = attributes.get(name)
         if text is None:
             raise self.bad(missing)
-        if len(text) < 19 and text.isascii() and text.isdigit():
+        digits = text[1:] if text[:1] == "-" else text
+        if len(digits) < 19 and digits.isascii() and digits.isdigit():
             return int(text)
         number = whole_number(text)
         if number is None:
