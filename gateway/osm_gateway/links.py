@@ -61,7 +61,12 @@ class Address:
 
     @property
     def url(self) -> str:
-        return f"http://{self.host}:{self.port}"
+        return f"http://{self.authority}"
+
+    @property
+    def authority(self) -> str:
+        """As it stands in an address and in the field Host."""
+        return f"[{self.host}]:{self.port}" if ":" in self.host else f"{self.host}:{self.port}"
 
 
 @dataclass(frozen=True)
@@ -84,7 +89,7 @@ class Reply:
 
 
 def head_of(address: Address, method: str, target: str, token: str | None = None, body: Spool | None = None) -> bytes:
-    fields = [f"{method} {target} HTTP/1.1", f"Host: {address.host}:{address.port}"]
+    fields = [f"{method} {target} HTTP/1.1", f"Host: {address.authority}"]
     fields += [f"Authorization: Bearer {token}"] if token else []
     fields += ["Content-Type: application/json", f"Content-Length: {body.size}"] if body else []
     head = ("\r\n".join(fields) + "\r\n\r\n").encode("ascii")

@@ -165,7 +165,7 @@ async def serve(words: Words, gateway: Gateway, is_shared: bool) -> int:
         metrics.look_again(gateway, gateway.counts)
     if None in runners:
         return 6
-    tell(f"http://{words.host}:{words.port} in front of http://{words.server.host}:{words.server.port}")
+    tell(f"{Address(words.host, words.port).url} in front of {words.server.url}")
     if not os.path.isdir(LEAFLET):
         tell(f"there is no {LEAFLET}: the page has no map without Debian's libjs-leaflet")
     begin(gateway)

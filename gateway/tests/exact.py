@@ -4,12 +4,14 @@ from __future__ import annotations
 
 import base64
 import random
+import re
 from fractions import Fraction
 from typing import Any
 
 from behind import want
 from osm_gateway.call import Form, box_of, quality
-from osm_gateway.degrees import NotDecimal, degrees_of, units_of
+from osm_gateway.degrees import NotDecimal, degrees_of, units_in, units_of
+from osm_gateway.links import Address, head_of
 from osm_gateway.people import BadUsers, people_of
 from osm_gateway.refusals import Refused
 from osm_gateway.spool import Spool
@@ -27,6 +29,8 @@ READ = {
     # As a float the first of these is a little more than the half, the second a little less.
     "11.53412345": 115_341_235, "1.00000005": 10_000_001, "1.00000015": 10_000_002, "8.12345675": 81_234_568,
 }  # fmt: skip
+IN_JSON = re.compile(r"-?(0|[1-9][0-9]*)(\.[0-9]+([eE][+-]?[0-9]+)?|[eE][+-]?[0-9]+)")
+"""What is no whole number there."""
 UNREAD = ("", "-", ".", "e5", "1e", "1,5", "0x10", "1_0", "NaN", "Infinity", "-inf", "١", "１", "1e1000", "1 1", "--1", "1" * 101)
 SHOWN = {
     0: "0.0000000", 1: "0.0000001", -1: "-0.0000001", 10_000_000: "1.0000000", -9_999_999: "-0.9999999", 900_000_000: "90.0000000",
@@ -37,6 +41,8 @@ SHOWN = {
 def positions() -> str:
     for text, wanted in READ.items():
         want(units_of(text), wanted, f"{text!r} in units")
+        if IN_JSON.fullmatch(text):
+            want(units_in(text), wanted, f"{text!r} of JSON in units")
     for text in UNREAD:
         try:
             raise Wrong(f"{text!r} is read as {units_of(text)}")
@@ -52,7 +58,7 @@ def positions() -> str:
         text = f"{draw.choice(('', '-'))}{draw.randint(0, 179)}.{draw.randint(0, 10**places):0{places}}"
         exact = Fraction(text.rstrip(".") or "0") * 10**7
         half_up = (abs(exact) + Fraction(1, 2)).__floor__()
-        want(units_of(text), -half_up if exact < 0 else half_up, text)
+        want((units_of(text), units_in(text)), (-half_up if exact < 0 else half_up,) * 2, text)
     return f"{len(READ)} decimals as OSM rounds them, {len(UNREAD)} that are none, 20,000 drawn ones by fractions"
 
 
@@ -137,5 +143,15 @@ def spools() -> str:
     return "bodies in files"
 
 
+def addresses() -> str:
+    for text, host, url, field in (
+        ("http://127.0.0.1:8080", "127.0.0.1", "http://127.0.0.1:8080", "127.0.0.1:8080"), ("http://map/", "map", "http://map:80", "map:80"),
+        ("http://[::1]:8080", "::1", "http://[::1]:8080", "[::1]:8080"),
+    ):  # fmt: skip
+        it = Address.of(text)
+        want((it.host, it.url, f"\r\nHost: {field}\r\n".encode() in head_of(it, "GET", "/")), (host, url, True), text)
+    return "addresses"
+
+
 def run(_: str) -> str:
-    return "; ".join(part() for part in (positions, boxes, texts, walks, accepted, users, spools))
+    return "; ".join(part() for part in (positions, boxes, texts, walks, accepted, users, spools, addresses))
