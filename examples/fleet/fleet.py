@@ -247,6 +247,7 @@ def taken(fleet: Fleet, _: argparse.Namespace) -> None:
         try:
             told = f"a fresh mirror in rotation: {empty} replies of an empty map, and with level.py {fresh_is_out(fleet, front)}"
             print(f"{told}; {carriers_die(fleet, front)}; {all_behind(fleet, front)}; {numbers_are_told(fleet, shown)}", flush=True)
+            print(unwritten(fleet, front, guard, shown), flush=True)
         except Wrong as why:
             raise Wrong(f"{why}; level.py said {guard.said[-8:]}") from why
         guard.kill()
@@ -320,6 +321,31 @@ def numbers_are_told(fleet: Fleet, shown: str) -> str:
     fleet.carriers[3].start()
     fleet.level("a mirror")
     return "what is shown to Prometheus is so"
+
+
+def unwritten(fleet: Fleet, front: Front, guard: Process, shown: str) -> str:
+    """Files that can't be written are told once each, and level.py and the writer go on; nginx is told once they can."""
+    wait_for(front, fleet.ports[3], True)
+    places = [f"{path}.new" for path in (front.included, shown, fleet.shown)]
+    for place in places:
+        os.mkdir(place)
+    fleet.edit_through(fleet.server.port)
+    fleet.upload(5)
+    fleet.level("a mirror")
+    fleet.carriers[3].kill()
+    fleet.kill_mirror(3)
+    time.sleep(4)
+    told = [sum("can't be written" in line for line in it.said) for it in (guard, fleet.writer)]
+    for place in places:
+        os.rmdir(place)
+    if told != [2, 1]:
+        raise Wrong(f"of files that can't be written level.py and the writer tell {told} times: {fleet.writer.said[-5:]}")
+    wait_for(front, fleet.ports[3], False)
+    wait_for_numbers(fleet.shown, {("engine_changes", ""): number(fleet.server.port)})
+    fleet.start_mirror(3)
+    fleet.carriers[3].start()
+    fleet.level("a mirror")
+    return "files that can't be written are told once each, and level.py and the writer go on"
 
 
 def anew(fleet: Fleet, _: argparse.Namespace) -> None:

@@ -25,7 +25,7 @@ from urllib.parse import urlsplit
 import scripts
 from kept_link import Lost, Site
 from mirror import body_of
-from shown import Number, add_metrics, write_numbers, write_whole
+from shown import Number, Shown, add_metrics, write_whole
 
 EACH = 1.0  # seconds from one look to the next
 WAIT = 1.0  # seconds for an answer
@@ -143,13 +143,20 @@ def reload_nginx(pid: str, trouble: scripts.Trouble) -> bool:
 
 
 def run(words: argparse.Namespace) -> None:
-    level = Level(words.server, words.mirror, words.write, words.most, words.seconds)
-    is_told, trouble = True, scripts.Trouble("level")
+    level, shown = Level(words.server, words.mirror, words.write, words.most, words.seconds), Shown("level", words.metrics)
+    is_told, trouble, disk = True, scripts.Trouble("level"), scripts.Trouble("level", "it is written again")
+    has_begun = False
     while True:
         now = time.monotonic()
-        is_told = not level.look(now) and is_told
-        if words.metrics:
-            write_numbers(words.metrics, level.numbers())
+        try:
+            is_told = not level.look(now) and is_told
+            has_begun = True
+            disk.end()
+        except OSError as why:
+            if not has_begun:
+                raise
+            disk.tell(scripts.unwritten(why, words.write))
+        shown.write(level.numbers())
         if not is_told and words.pid:
             is_told = reload_nginx(words.pid, trouble)
         time.sleep(max(0.0, now + EACH - time.monotonic()))
@@ -167,11 +174,7 @@ def main() -> int:
     words = parser.parse_args()
     if words.most < 0 or words.seconds < EACH:
         parser.error(f"--most is 0 at least, and --seconds {EACH:.0f}")
-    try:
-        return scripts.run("level", lambda: run(words))
-    except OSError as why:
-        scripts.say("level", f"{why.filename or words.write} can't be written: {why.strerror}")
-        return 1
+    return scripts.run("level", lambda: run(words))
 
 
 if __name__ == "__main__":

@@ -14,27 +14,31 @@ sys.path.insert(1, os.path.join(HERE, "..", "..", "replication"))
 from feed import OtherJournal, Unusable
 from given_token import add_token
 
-__all__ = ["AGAIN", "Trouble", "add_engine", "add_token", "run", "say", "usage"]
+__all__ = ["AGAIN", "Trouble", "add_engine", "add_token", "run", "say", "unwritten", "usage"]
 AGAIN = 0.1  # seconds before one who doesn't answer is asked again
 
 
 class Trouble:
     """Says once what doesn't go on, and once that it goes on again."""
 
-    def __init__(self, name: str) -> None:
-        self.name, self.text, self.since = name, "", 0.0
+    def __init__(self, name: str, again: str = "it is asked again") -> None:
+        self.name, self.again, self.text, self.since = name, again, "", 0.0
 
     def tell(self, why: object) -> None:
         if not self.text:
             self.since = time.monotonic()
         if str(why) != self.text:
             self.text = str(why)
-            say(self.name, f"{why}; it is asked again")
+            say(self.name, f"{why}; {self.again}")
 
     def end(self) -> None:
         if self.text:
             say(self.name, f"goes on after {time.monotonic() - self.since:.1f} s")
             self.text = ""
+
+
+def unwritten(why: OSError, path: str) -> str:
+    return f"{why.filename or path} can't be written: {why.strerror}"
 
 
 def say(name: str, text: object) -> None:

@@ -10,6 +10,7 @@ from typing import Any, NamedTuple
 
 sys.path.append(os.path.join(os.path.dirname(os.path.abspath(__file__)), ".."))
 
+import scripts
 from packages import need
 
 
@@ -27,6 +28,22 @@ def write_whole(path: str, data: bytes) -> None:
         file.write(data)
     os.chmod(path + ".new", 0o644)
     os.replace(path + ".new", path)
+
+
+class Shown:
+    """A file of numbers, where one is named. Where it can't be written that is told, and its program goes on."""
+
+    def __init__(self, name: str, path: str | None) -> None:
+        self.path, self.trouble = path, scripts.Trouble(name, "it is written again")
+
+    def write(self, numbers: Iterable[Number]) -> None:
+        if self.path is None:
+            return
+        try:
+            write_numbers(self.path, numbers)
+            self.trouble.end()
+        except OSError as why:
+            self.trouble.tell(scripts.unwritten(why, self.path))
 
 
 def write_numbers(path: str, numbers: Iterable[Number]) -> None:

@@ -16,7 +16,7 @@ import scripts
 from engine import Behind, Engine, EngineLost, open_engine
 from feed import Feed
 from kept_link import Lost
-from shown import Number, add_metrics, write_numbers
+from shown import Number, Shown, add_metrics
 
 SHOWN_EACH = 1.0  # seconds between two times that numbers are written
 PAUSE = 0.01  # seconds between two questions where there is nothing new
@@ -25,14 +25,14 @@ PAUSE = 0.01  # seconds between two questions where there is nothing new
 class Writer:
     def __init__(self, words: argparse.Namespace) -> None:
         self.server, self.token, self.engine, self.is_trusted = words.server, words.token, words.engine, words.trust_engine
-        self.metrics, self.shown = words.metrics, 0.0
+        self.shown, self.shown_at = Shown("writer", words.metrics), 0.0
         self.trouble = scripts.Trouble("writer")
 
     def show(self, number: int) -> None:
         """How many pieces the engine has, for whoever watches the fleet."""
-        if self.metrics and time.monotonic() - self.shown >= SHOWN_EACH:
-            self.shown = time.monotonic()
-            write_numbers(self.metrics, [Number("engine_changes", "The number of the last piece that the engine has.", number)])
+        if time.monotonic() - self.shown_at >= SHOWN_EACH:
+            self.shown_at = time.monotonic()
+            self.shown.write([Number("engine_changes", "The number of the last piece that the engine has.", number)])
 
     def run(self, is_new: bool) -> None:
         while True:
