@@ -199,7 +199,8 @@ class Walk:
         if values and all(type(it) is dict and it.keys().isdisjoint(ACTIONS) for it in values):
             yield Event(Sort.ITEMS, path, values)
             return
-        self.place = place
+        if values:  # one of them is a block, and none is read twice for it in this text
+            self.place, self.is_tried = place, True
         yield from self.value(path)
 
     def several(self) -> list[Any]:
