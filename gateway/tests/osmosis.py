@@ -1,8 +1,9 @@
-"""osmosis reads a made-up town by `--read-api`, and osmium reads what comes out: both have to be the town."""
+"""osmosis reads a made-up town by `--read-api`, and osmium reads what comes out: both have to be the town. osmosis uploads changes too."""
 
 from __future__ import annotations
 
 import gzip
+import json
 import os
 import subprocess
 import tempfile
@@ -11,6 +12,7 @@ from typing import Any
 from behind import BOB, TOP, Gateway, Site, want
 from serving import Wrong
 
+Row = dict[str, Any]
 EXAMPLES = os.path.join(TOP, "examples")
 BOX = {"left": "-30.0005", "bottom": "44.9995", "right": "-29.99", "top": "45.01"}
 
@@ -58,9 +60,47 @@ def run(program: str) -> str:
         want((packed.fields["Content-Encoding"], gzip.decompress(packed.body).decode()), ("gzip", text), "the map in gzip")
         want(gateway.api("GET", f"map?bbox={box}", Accept_Encoding="deflate").fields["Content-Encoding"], None, "deflate")
         changes = checked(gateway, folder, len(rows))
+        uploads(gateway, folder)
     version = command("osmium", "--version").split("\n", 1)[0].split()[-1]
     osmosis = command("dpkg-query", "-W", "-f", "${Version}", "osmosis")
-    return f"osmosis {osmosis} reads {len(rows)} elements as they are, osmium {version} too, and {changes} changes of downloads"
+    told = f"osmosis {osmosis} reads {len(rows)} elements as they are, osmium {version} too, and {changes} changes of downloads"
+    return f"{told}; osmosis uploads creations, changes and deletions, and ends where one is refused"
+
+
+def uploaded(gateway: Gateway, folder: str, changes: str) -> Row | None:
+    """The changeset that osmosis made of these, or None where it was refused and osmosis ended with it."""
+    path = f"{folder}/changes.osc"
+    with open(path, "w", encoding="utf-8") as file:
+        file.write(f"<osmChange version='0.6'>{changes}</osmChange>")
+    words = ["--upload-xml-change", f"server=http://127.0.0.1:{gateway.port}/api/0.6", "user=bob", "password=bobtoken"]
+    try:
+        command("osmosis", "-q", "--read-xml-change", path, *words)
+    except Wrong:
+        return None
+    rows: list[Row] = json.loads(gateway.well("GET", "changesets.json?display_name=bob&limit=1"))["changesets"]
+    return rows[0]
+
+
+def element(kind: str, fields: str, inner: str = "") -> str:
+    """With what osmosis asks of an element and doesn't send on as its own."""
+    return f"<{kind} timestamp='2026-01-01T00:00:00Z' uid='7' user='x' changeset='7' {fields}>{inner}</{kind}>"
+
+
+def uploads(gateway: Gateway, folder: str) -> None:
+    tag = "<tag k='name' v='&lt;&amp;&gt;&quot; ü'/>"
+    nodes = element("node", "id='-1' version='1' lat='0.25' lon='-0.5'", tag) + element("node", "id='-2' version='1' lat='0.2500001' lon='-0.5'")
+    way = element("way", "id='-3' version='1'", "<nd ref='-1'/><nd ref='-2'/>")
+    made = uploaded(gateway, folder, f"<create>{nodes}{way}</create>")
+    want(made and (made["changes_count"], made["open"], made["tags"]["created_by"]), (3, False, "Osmosis"), "what osmosis created")
+    found: list[Row] = json.loads(gateway.well("GET", "map.json?bbox=-0.51,0.24,-0.49,0.26"))["elements"]
+    first, second, street = sorted(found, key=lambda it: (it["type"], it["id"]))
+    want((first["tags"], first["lat"], street["nodes"]), ({"name": '<&>" ü'}, 0.25, [first["id"], second["id"]]), "its elements")
+    changed = element("node", f"id='{first['id']}' version='1' lat='0.26' lon='-0.5'")
+    gone = element("way", f"id='{street['id']}' version='1'") + element("node", f"id='{second['id']}' version='1' lat='0' lon='0'")
+    made = uploaded(gateway, folder, f"<modify>{changed}</modify><delete>{gone}</delete>")
+    want(made and made["changes_count"], 3, "what osmosis changed and deleted")
+    want([gateway.api("GET", f"{it['type']}/{it['id']}").status for it in (first, second, street)], [200, 410, 410], "what is left")
+    want(uploaded(gateway, folder, f"<modify>{changed}</modify>"), None, "a version of before")
 
 
 def checked(gateway: Gateway, folder: str, least: int) -> int:
