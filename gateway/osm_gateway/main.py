@@ -151,7 +151,7 @@ async def listen(app: web.Application, place: tuple[str, int], is_shared: bool, 
 
 async def serve(words: Words, gateway: Gateway, is_shared: bool) -> int:
     if not words.data:
-        tell("authorizations, preferences and discussions are in memory alone: --data names a file for them")
+        tell("authorizations, preferences, discussions and blocks are in memory alone: --data names a file for them")
     ended = told_to_end()
     asyncio.get_running_loop().add_signal_handler(signal.SIGHUP, gateway.users.read_again)
     runners = [
