@@ -116,7 +116,7 @@ def parser_of() -> argparse.ArgumentParser:
     add("--host", action="append", default=[], metavar="NAME", help="a name by which clients know this host besides")
     add("--public-url", type=told(public_of), metavar="URL", help="what clients know this host by in links, as https://map.example")
     add("--room", type=number(1, 10**6), default=1024, metavar="MB", help="what all bodies may take together, 1024 MB if not said")
-    add("--data", default="", metavar="FILE", help="where authorizations, preferences and discussions are kept; else in memory")
+    add("--data", default="", metavar="FILE", help="where authorizations, preferences, discussions and blocks are kept; else in memory")
     add("--id", default="", metavar="FOLDER", help="a build of the editor iD, which is then served at /id")
     add("--rate", type=decimal(0.01, 10**6), metavar="N", help="requests a second that one address may ask, and sixty times as many at once")
     add("--guesses", type=number(1, 10**6), default=20, metavar="N", help="wrong tokens that an address may show at once, 20 if not said")
