@@ -175,18 +175,30 @@ def addresses(page: Page, gateway: Gateway, way: int) -> None:
         want(gateway.ask("GET", path).status, 404, path)
 
 
+def click(page: Page, selector: str) -> None:
+    """What is shown may come behind the address that names it."""
+
+    def is_clicked() -> bool:
+        found = page.all(selector)
+        if found:
+            found[0].click()
+        return bool(found)
+
+    page.until(f"{selector} to click on", is_clicked)
+
+
 def links(page: Page, way: int) -> None:
     """Numbers in a history are links; the browser goes back and forth; an address that is typed into an open page moves its map."""
     visit(page, f"/way/{way}")
     page.until("a history", lambda: len(page.all("#element li.version")) == 2)
-    page.one("#element li.version:first-child a[href^='/changeset/']").click()
+    click(page, "#element li.version:first-child a[href^='/changeset/']")
     page.until("the changeset", lambda: "What it did" in page.text("#changeset"))
     has(path_of(page), "/changeset/", "its address")
-    page.one("#changeset a[href^='/way/']").click()
+    click(page, "#changeset a[href^='/way/']")
     page.until("the way again", lambda: page.one("#element").get_attribute("data-shown") == f"way/{way}" and path_of(page) == f"/way/{way}")
     page.driver.back()
     page.until("the changeset, by going back", lambda: path_of(page).startswith("/changeset/") and page.one("#changeset").is_displayed())
-    page.one("#changeset a[href^='/user/']").click()
+    click(page, "#changeset a[href^='/user/']")
     page.until("its user", lambda: "Those of everybody" in page.text("#changeset"))
     page.driver.execute_script("location.hash = '#map=15/45.10000/-29.80000'")
     page.until("the map elsewhere", lambda: page.driver.execute_script("return location.hash") == "#map=15/45.10000/-29.80000")
