@@ -16,6 +16,5 @@ mod Alike
 mod SoFar
 mod Made
 mod Placed
-mod Rising
 mod Settled
 mod Told

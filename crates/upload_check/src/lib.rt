@@ -18,7 +18,6 @@ mod look_keys;
 mod looks;
 mod names;
 mod older_standings;
-mod orders;
 mod overlays;
 mod planning;
 mod plans;

@@ -17,7 +17,6 @@ use crate::boxes::Moved;
 use crate::checks::Passed;
 use crate::counts::{make, revise};
 use crate::creations::Creations;
-use crate::orders::in_order;
 use crate::references::add_given;
 use crate::sights::View;
 use crate::standings::{Holds, Standing, Standings};
@@ -25,6 +24,7 @@ use changeset_core::join_boxes;
 use osm_base::{Box7, Key, Kind, Memory};
 use osm_change::{FirstIds, Op};
 use osm_world::World;
+use rising_lists::keys_sorted_once;
 use std::alloc::Global;
 use std::marker::Model;
 use std::mem;
@@ -219,8 +219,8 @@ impl Overlay {
         );
         let holds = holds_of(self.keys().len() as u32, operation);
         self.keys.reserve(1)?;
-        let ended = in_order(ended);
-        let begun = in_order(begun);
+        let ended = keys_sorted_once(ended);
+        let begun = keys_sorted_once(begun);
         make(
             world,
             &mut self.standings,
