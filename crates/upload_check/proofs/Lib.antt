@@ -16,5 +16,6 @@ mod Alike
 mod SoFar
 mod Made
 mod Placed
+mod Runs
 mod Settled
 mod Told

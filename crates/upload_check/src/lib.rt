@@ -12,6 +12,7 @@ mod checks;
 mod counts;
 mod creations;
 mod judged;
+mod key_runs;
 mod kind_standings;
 mod law;
 mod look_keys;

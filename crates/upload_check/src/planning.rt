@@ -14,6 +14,7 @@ ghost use Rattle.upload_check.specs.Planned.{outcome_of, IsShown};
 ghost use Rattle.upload_check.specs.Seen.{nothing_seen, outcome_with, IsWatched};
 
 use crate::judged::{Judged, check_op};
+use crate::key_runs::in_order;
 use crate::looks::{count_looks, users_looks};
 use crate::overlays::Overlay;
 use crate::plans::{Found, Plan, UploadCmd};
@@ -22,7 +23,6 @@ use osm_base::{Box7, Items, Memory, Steps};
 use osm_change::{Change, OpDone, Refusal};
 use osm_later::{changes_can_be_planned, stills_say_where_they_differ};
 use osm_world::World;
-use rising_lists::keys_sorted_once;
 use std::alloc::Global;
 use std::sync::ledger::Ledger;
 
@@ -113,8 +113,8 @@ pub fn plan_upload<L: Ledger>(
     world.laws();
     let mut looks = Looks::new(alloc, cmd.change.len())?;
     let verdict = judge_change(alloc, world, &cmd.change, &mut looks, steps)?;
-    let counted = keys_sorted_once(looks.counted);
-    let used = keys_sorted_once(looks.used);
+    let counted = in_order(alloc, looks.counted.as_slice())?;
+    let used = in_order(alloc, looks.used.as_slice())?;
     let found = found_with(verdict, looks.rows);
     let counts = count_looks(alloc, world, counted.as_slice())?;
     let users = users_looks(alloc, world, used.as_slice())?;

@@ -131,7 +131,7 @@ fn skip(sorted: &[Key], from: usize, key: Key) -> usize {
     place
 }
 
-fn is_at(keys: &[Key], place: usize, key: Key) -> bool
+pub fn is_at(keys: &[Key], place: usize, key: Key) -> bool
     ensures { result ≡ true → lists_key keys.now key ≡ true }
 {
     place < keys.len() && keys[place].is(key)
