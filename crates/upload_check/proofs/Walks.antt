@@ -1,14 +1,16 @@
 -- A walk along a list in order: what is listed so far, and what of it another list has not.
-use Rattle.std.proofs.Common.{◌≡◌, ℕ, zero, suc, ◌+◌, ◌<◌, ◌≤◌, Bool, true, false, ◌||◌, ◌&&◌, refl, sym, ap, ◌∙◌, subst, arith, ⊎_elim, List, [], ◌∷◌, length, take, get_or}
-use Rattle.std.specs.Prelude.{not}
+use Rattle.std.proofs.Common.{◌≡◌, ℕ, zero, suc, ◌+◌, ◌<◌, ◌≤◌, Bool, true, false, ◌||◌, ◌&&◌, refl, sym, ap, ap₂, ◌∙◌, subst, arith, ⊎_elim, Some, None, List, [], ◌∷◌, length, take, get_or}
+use Rattle.std.specs.Prelude.{Option, not, if◌then◌else◌}
 use Rattle.std.proofs.lemmas.Bool.{cases_Bool, and_parts}
 use Rattle.std.proofs.lemmas.List.{take_all}
 use Rattle.std.proofs.lemmas.List.Folds.{list_any_more}
-use Rattle.osm_base.specs.Key.{key_eq, lists_key, IsAfter, IsRising}
+use Rattle.std.proofs.lemmas.Option.{none-some}
+use Rattle.osm_base.specs.Key.{key_eq, key_lt, lists_key, IsAfter, IsRising}
 use Rattle.osm_base.specs.declared.keys.Key.{Key}
 use Rattle.osm_base.proofs.KeyOrder.{key_eq-same, key_eq-refl, key_eq-sym}
 use Rattle.osm_base.proofs.KeyLists.{rising-fresh}
 use Rattle.osm_element.specs.declared.elements.Elements.{Elements}
+use Rattle.osm_later.specs.Still.{first_apart}
 use Rattle.upload_check.specs.Overlay.{Notes}
 use Rattle.upload_check.specs.Effects.{user_counts}
 use Rattle.upload_check.specs.Shifts.{HasOne, IsReady, AreReady, IsShifted, apart, unless}
@@ -158,3 +160,28 @@ pub walk_ready :
 walk_ready s E k ks left i d old now stay within up is ready so_far goes =
     ready_kept s E old now (get_or ks i d) (walk-fresh s E k ks left i d old now within up so_far) so_far.stay
     (ready (get_or ks i d) (apart-here k ks left i d within (sym is ∙ goes)))
+
+-- ---- an element that lists what it listed
+
+alike-first : (same less : Bool) (x y : Key) (rest : Option Key) → (if same then rest else if less then Some x else Some y) ≡ None → (same ≡ true) × (rest ≡ None)
+alike-first true less x y rest none = (refl, none)
+alike-first false true x y rest none = absurd (none-some x (sym none))
+alike-first false false x y rest none = absurd (none-some y (sym none))
+
+alike : (xs ys : List Key) → first_apart xs ys ≡ None → xs ≡ ys
+alike [] [] none = refl
+alike [] (y ∷ ys) none = absurd (none-some y (sym none))
+alike (x ∷ xs) [] none = absurd (none-some x (sym none))
+alike (x ∷ xs) (y ∷ ys) none =
+    let h = alike-first (key_eq x y) (key_lt x y) x y (first_apart xs ys) none in
+    ap₂ (λ (k : Key) (ks : List Key). k ∷ ks) (key_eq-same x y h.0) (alike xs ys h.1)
+
+pub shifted_same : (s : Shift) (E : Elements) (k : Key) (ks left : List Key) (n : Notes) → first_apart ks left ≡ None → IsShifted s (apart k ks left) E n n
+shifted_same s E k ks left n none =
+    subst (λ (l : List Key). IsShifted s (apart k ks l) E n n) (alike ks left none)
+    (shifted_none s (apart k ks ks) E n (λ b. nothing (lists_key ks b) (key_eq k b)))
+  where
+    nothing : (p q : Bool) → ((p && not q) && not p) ≡ false
+    nothing true true = refl
+    nothing true false = refl
+    nothing false q = refl

@@ -3,6 +3,7 @@
 ghost use Rattle.std.specs.Prelude.{◌≡◌, ◌≤◌, ◌||◌, true, false, None, Some, length, take, IfOk, IfErr, IsOk, OnOk, OnErr};
 ghost use Rattle.osm_base.specs.Key.{key_eq, lists_key, IsRising};
 ghost use Rattle.osm_base.specs.declared.keys.Key.{Key};
+ghost use Rattle.osm_later.specs.Still.{first_apart};
 ghost use Rattle.osm_world.specs.World.{state_of};
 ghost use Rattle.upload_check.specs.Effects.{user_counts, AreAsBefore, StayNoted};
 ghost use Rattle.upload_check.specs.Overlay.{noted};
@@ -10,6 +11,7 @@ ghost use Rattle.upload_check.specs.Shifts.{opposite, Goes, HasOne, Fits, IsRead
 
 use crate::standings::{Standing, Standings, standing_before};
 use osm_base::{Key, Memory, is_listed};
+use osm_later::first_apart;
 use osm_world::World;
 
 /// One user more, or one less.
@@ -204,6 +206,13 @@ pub fn shift_ready(
     let _always = shift_each(world, standings, user, listed, left, shift).is_ok();
 }
 
+/// Whether an element lists what it listed, so that none of them has a user more or less.
+fn are_same(listed: &[Key], left: &[Key]) -> bool
+    ensures { result ≡ true → first_apart listed.now left.now ≡ None }
+{
+    first_apart(listed, left).is_none()
+}
+
 /// The same of all, or of none. After `Memory` each element stands as before.
 pub fn shift_all(
     world: &World,
@@ -221,6 +230,9 @@ pub fn shift_all(
     ensures memory { OnErr result (AreAsBefore (state_of world.now).elements standings.old standings.new) }
 {
     if listed.is_empty() {
+        return Ok(());
+    }
+    if are_same(listed, left) {
         return Ok(());
     }
     match shift_each(world, standings, user, listed, left, shift) {

@@ -4,8 +4,12 @@ use Rattle.upload_check.specs.Shifts.{AreReady, IsShifted, apart}
 use Rattle.upload_check.specs.declared.shifts.Shift.{Shift}
 use Rattle.upload_check.proofs.Kept.{stay_after}
 use Rattle.upload_check.proofs.Shifted.{shifted_back}
-use Rattle.upload_check.proofs.Walks.{rising_take}
+use Rattle.upload_check.proofs.Walks.{rising_take, shifted_same}
 use Rattle.upload_check.proofs.shifts.shift_all.Goals as goal
+
+pub returns-then-are_same-clause-shifted : goal.returns-then-are_same-clause-shifted
+returns-then-are_same-clause-shifted c =
+    shifted_same c.args.shift (state_of c.args.world.now).elements c.args.user c.args.listed.now c.args.left.now c.args.standings.now (c.are_same.ensures c.if-are_same.true)
 
 pub shift_ready-requires-clause-rising : goal.shift_ready-requires-clause-rising
 shift_ready-requires-clause-rising c = rising_take c.args.listed.now c.in-Err.place c.requires.rising
