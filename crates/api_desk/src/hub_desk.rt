@@ -223,7 +223,7 @@ impl<'a, N: HubName, G: Gate + Drop, R: Wait + Drop, W: Wait> SessionDesk<
         self.session.front()
     }
 
-    fn behind(&mut self, front: &Front<N, Entry>) -> Result<Vec<Entry>, Memory> {
+    fn behind(&mut self, front: &Front<N, Entry>) -> Result<Option<Vec<Entry>>, Memory> {
         behind(self.rt, self.hub, &mut self.session, front)
     }
 

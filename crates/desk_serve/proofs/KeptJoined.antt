@@ -120,6 +120,8 @@ module _ {S C Q P E K : Type 0} (rules : Rules S C Q P E K) (row : RowOf E) wher
   cause_of cause it ends.WriteFault so h = tt
   cause_of cause it (ends.Unkept withheld.Failed) so h = so h
   cause_of cause it (ends.Unkept withheld.Memory) so h = tt
+  cause_of cause it (ends.Unkept withheld.Full) so h = tt
+  cause_of cause it (ends.Unkept withheld.Mismatched) so h = tt
   cause_of cause it ends.Memory so h = tt
 
   -- that keeping failed is noted for good

@@ -5,7 +5,7 @@ use Rattle.std.specs.List.{AllByRecursion, AllZip, list_any, range_with_len}
 use mathlib.Core.List.{IsPrefix}
 use Rattle.osm_outside.specs.Port.{PortTold}
 use Rattle.http_link.specs.Exchange.{Exchange}
-use Rattle.http_link.specs.declared.desk.Withheld.TheVariants.{Failed, Memory}
+use Rattle.http_link.specs.declared.desk.Withheld.TheVariants.{Failed, Memory, Full, Mismatched}
 use Rattle.http_link.specs.declared.end.LinkEnd.{LinkEnd}
 use Rattle.http_link.specs.declared.end.LinkEnd.TheVariants.{Unkept}
 use Rattle.link_workers.specs.Port.{Visit, ServesPort}
@@ -45,6 +45,8 @@ kept_returner rules users number J had = at_kept (at_desk users (returner number
 abbrev pub HasCause : Type 0 → LinkEnd → Type 0
 HasCause cause (Unkept Failed) = cause
 HasCause cause (Unkept Memory) = ⊤
+HasCause cause (Unkept Full) = ⊤
+HasCause cause (Unkept Mismatched) = ⊤
 HasCause cause other = ⊤
 
 -- The one list of a hub that began with the journal J, and of which so many sessions were used, numbered from 0: it goes on from J, it is

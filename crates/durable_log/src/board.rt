@@ -13,6 +13,30 @@ use shared_front::{Front, HubName};
 use std::alloc::Global;
 use std::sync::{Condvar, Mutex, Wait};
 
+/// Why a source has no entries for a file.
+#[derive(Clone, Copy, PartialEq, Eq)]
+pub enum SourceFault {
+    /// There was no memory for them.
+    Memory,
+    /// The source and the file aren't of one list, as far as can be seen. No run has shown it.
+    Mismatched,
+}
+
+impl From<Memory> for SourceFault {
+    fn from(_refused: Memory) -> SourceFault {
+        SourceFault::Memory
+    }
+}
+
+impl From<SourceFault> for KeepFault {
+    fn from(why: SourceFault) -> KeepFault {
+        match why {
+            SourceFault::Memory => KeepFault::Memory,
+            SourceFault::Mismatched => KeepFault::Mismatched,
+        }
+    }
+}
+
 /// Who has the entries of a list that a file lacks.
 pub trait Behind<N: HubName, E> {
     ghost use Rattle.std.specs.Prelude.{◌≡◌, ◌++◌, IfOk};
@@ -24,7 +48,7 @@ pub trait Behind<N: HubName, E> {
     ghost stays: { (source : Self) → becomes source source };
 
     /// The entries behind this beginning of the list, and the longer one that they make of it.
-    fn behind(&mut self, front: &Front<N, E>) -> Result<(Vec<E>, Front<N, E>), Memory>
+    fn behind(&mut self, front: &Front<N, E>) -> Result<(Vec<E>, Front<N, E>), SourceFault>
         ensures entries { IfOk result (λ r. r.1 ≡ front.now ++ r.0.items) }
         ensures becomes { becomes self.old self.new };
 }
@@ -145,7 +169,7 @@ fn keep_all<N: HubName, K: HubName, E: Drop, T: Lines<E>, D: Device, B: Behind<N
     let all = longer.len();
     if all < count {
         // The source lacks them, so no file can be made to hold them.
-        return Err(KeepFault::Full);
+        return Err(KeepFault::Mismatched);
     }
     board.comes_to(rt, all);
     shelf.keep(alloc, &entries, longer)?;

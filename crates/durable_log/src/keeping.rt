@@ -1,5 +1,5 @@
 //! Entries that a file gets behind those that it holds.
-ghost use Rattle.std.specs.Prelude.{◌≡◌, ◌≤◌, ◌+◌, ◌++◌, ℕ, true, false, List, length, OnOk, IsErrOf};
+ghost use Rattle.std.specs.Prelude.{◌≡◌, ◌≤◌, ◌+◌, ◌^◌, ◌++◌, ℕ, true, false, List, length, OnOk, IsErrOf};
 ghost use Rattle.durable_log.specs.Held.{HoldsFrom};
 ghost use Rattle.durable_log.specs.declared.keeping.KeepFault.{KeepFault};
 
@@ -13,9 +13,12 @@ use std::alloc::Global;
 pub enum KeepFault {
     /// There was no memory for their lines. The file is as it was, and goes on.
     Memory,
-    /// There is no room for them: in the file, which takes 2^62 bytes, or in the list of receipts. Or they
-    /// were asked for and aren't there. No run has shown it.
+    /// There is no room for them: in the file, which takes 2^62 bytes, or in the list of receipts, which
+    /// takes 2^61. No run has shown it.
     Full,
+    /// What was to be kept isn't of the file's list, as far as can be seen: they lack entries of each
+    /// other, or there are receipts that the file lacks. No run has shown it.
+    Mismatched,
     /// A call of the device has failed: the file takes no more until it is opened again.
     File,
 }
@@ -47,7 +50,8 @@ pub fn keep<E, T: Lines<E>, D: Device>(
     ensures time { D.moment file.old.device ≤ D.moment file.new.device }
     ensures going { OnOk result ((file.old.broken ≡ false) × (file.new.broken ≡ false)) }
     ensures memory { IsErrOf result KeepFault.Memory → file.new ≡ file.old }
-    ensures full { IsErrOf result KeepFault.Full → file.new ≡ file.old }
+    ensures full { IsErrOf result KeepFault.Full → (file.new ≡ file.old) × (2 ^ 62 ≤ length file.old.text) }
+    ensures matched { IsErrOf result KeepFault.Mismatched → ⊥ }
     ensures failed { IsErrOf result KeepFault.File → file.new.broken ≡ true }
 {
     let lines = T::lines_behind(Vec::new(alloc), entries)?;

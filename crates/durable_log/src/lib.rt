@@ -8,7 +8,7 @@ mod shelf;
 mod told;
 mod writing;
 
-pub use board::{Behind, Board, receipts_for};
+pub use board::{Behind, Board, SourceFault, receipts_for};
 pub use keeping::{KeepFault, keep};
 pub use receipts::{Moment, Receipt};
 pub use shelf::{Shelf, receipts_stay};

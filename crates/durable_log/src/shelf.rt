@@ -1,5 +1,5 @@
 //! The file of a journal that several sessions add to, and the receipts of what it holds.
-ghost use Rattle.std.specs.Prelude.{◌≡◌, ◌≤◌, ◌<◌, ◌^◌, ◌++◌, ◌∷◌, [], ℕ, true, false, List, length, IsTrue, ◌↔◌, OnOk, IsErrOf};
+ghost use Rattle.std.specs.Prelude.{◌≡◌, ◌≤◌, ◌<◌, ◌^◌, ◌++◌, ◌∷◌, ◌⊎◌, [], ℕ, true, false, List, length, IsTrue, ◌↔◌, OnOk, IsErrOf};
 ghost use mathlib.Core.List.{IsPrefix};
 ghost use Rattle.durable_log.specs.Receipts.{AreKept, last_count, shelved};
 ghost use Rattle.durable_log.specs.declared.keeping.KeepFault.{KeepFault};
@@ -141,6 +141,8 @@ impl<N: HubName, K: HubName, E, T: Lines<E>, D: Device> Shelf<N, K, E, T, D> {
         ensures receipts { IsPrefix self.old.receipts self.new.receipts }
         ensures entries { IsPrefix self.old.entries self.new.entries }
         ensures memory { IsErrOf result KeepFault.Memory → self.new ≡ self.old }
+        ensures full { IsErrOf result KeepFault.Full → (self.new ≡ self.old)
+            × ((2 ^ 61 ≤ length self.old.receipts) ⊎ (2 ^ 62 ≤ length (T.text self.old.entries))) }
         ensures failed { IsErrOf result KeepFault.File → self.new.broken ≡ true }
     {
         if self.file.is_broken() {
@@ -156,11 +158,12 @@ impl<N: HubName, K: HubName, E, T: Lines<E>, D: Device> Shelf<N, K, E, T, D> {
                 if give(&self.file, count, &self.tail, &mut self.receipts) {
                     Ok(())
                 } else {
-                    Err(KeepFault::Full)
+                    Err(KeepFault::Mismatched)
                 }
             }
             Err(KeepFault::Memory) => Err(KeepFault::Memory),
             Err(KeepFault::Full) => Err(KeepFault::Full),
+            Err(KeepFault::Mismatched) => Err(KeepFault::Mismatched),
             Err(KeepFault::File) => {
                 self.front = longer;
                 Err(KeepFault::File)

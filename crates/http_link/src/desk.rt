@@ -21,6 +21,10 @@ pub enum Withheld {
     Failed,
     /// There was no memory to keep what it tells of.
     Memory,
+    /// The file that has to keep it, or the list of that file's receipts, can't become longer.
+    Full,
+    /// What is to be kept and what keeps it aren't of one list, as far as can be seen. No run has shown it.
+    Mismatched,
 }
 
 /// What answers messages.

@@ -6,7 +6,7 @@ use Rattle.osm_outside.specs.Event.{Shown}
 use Rattle.http_wire.specs.declared.message.Message.{Message}
 use Rattle.http_link.specs.declared.desk.Reply.{Reply}
 use Rattle.http_link.specs.declared.desk.Withheld.{Withheld}
-use Rattle.http_link.specs.declared.desk.Withheld.TheVariants.{Failed, Memory}
+use Rattle.http_link.specs.declared.desk.Withheld.TheVariants.{Failed, Memory, Full, Mismatched}
 use Rattle.http_link.specs.Exchange.{Exchange}
 use Rattle.http_link.specs.declared.end.LinkEnd.{LinkEnd}
 use Rattle.http_link.specs.declared.end.LinkEnd.TheVariants.{Unkept}
@@ -47,10 +47,13 @@ Tells it = it.tells_of ≤ last_count it.receipts
 abbrev pub shows_kept : {E : Type 0} → AtKept E → List Shown
 shows_kept it = it.receipts ∷ []
 
--- why it may withhold its last reply: keeping failed, which it notes; or there was no memory, of which nothing is said
+-- why it may withhold its last reply: keeping failed, which it notes; or there was no memory, the file or the list of its receipts was full,
+-- or they and the desk weren't of one list as far as could be seen, and of these nothing is said
 abbrev pub Withholds : {E : Type 0} → AtKept E → Withheld → Type 0
 Withholds it Failed = it.failed ≡ true
 Withholds it Memory = ⊤
+Withholds it Full = ⊤
+Withholds it Mismatched = ⊤
 
 -- it had that cause, where a link ended with a reply withheld
 abbrev pub HasWithheld : {E : Type 0} → LinkEnd → AtKept E → Type 0

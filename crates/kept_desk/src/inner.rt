@@ -1,9 +1,8 @@
 //! The desk that answers, as the source of the entries that a file lacks.
 ghost use Rattle.session_desk.specs.Answered.{AtDesk, StaysOrFreshens};
 
-use durable_log::Behind;
+use durable_log::{Behind, SourceFault};
 use machine_law::Machine;
-use osm_base::Memory;
 use session_desk::SessionDesk;
 use shared_front::{Front, HubName};
 use snapshot_hub::Snapshot;
@@ -28,8 +27,10 @@ impl<'a, N: HubName, M: Machine, S: Snapshot<N, M>, D: SessionDesk<N, M, S>> Beh
     fn behind(
         &mut self,
         front: &Front<N, M::Entry>,
-    ) -> Result<(Vec<M::Entry>, Front<N, M::Entry>), Memory> {
-        let entries = self.desk.behind(front)?;
+    ) -> Result<(Vec<M::Entry>, Front<N, M::Entry>), SourceFault> {
+        let Some(entries) = self.desk.behind(front)? else {
+            return Err(SourceFault::Mismatched);
+        };
         let longer = self.desk.front().again();
         Ok((entries, longer))
     }

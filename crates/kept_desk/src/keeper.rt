@@ -119,8 +119,8 @@ impl<'a, N: HubName, K: HubName, E, T: Lines<E>, V: Device, W: Wait> Keeper<'a, 
 
 /// Has the file hold what the desk's last reply may tell of, by the entries that this source has, and
 /// takes the receipt for it, unless one in hand is for as much. Where a call of the device has failed
-/// it notes that. Receipts that are older than those in hand are none for it, and count as want of
-/// memory; no run has shown them.
+/// it notes that. Receipts that are older than those in hand are none for it: they aren't of one list
+/// with those, as far as can be seen, and no run has shown them.
 fn keep_for<N: HubName, K: HubName, E: Drop, T: Lines<E>, V: Device, B: Behind<N, E>, W: Wait>(
     keeper: &mut Keeper<'_, N, K, E, T, V, W>,
     source: &mut B,
@@ -141,7 +141,7 @@ fn keep_for<N: HubName, K: HubName, E: Drop, T: Lines<E>, V: Device, B: Behind<N
     match receipts_for(rt, alloc, shelf, board, source, count) {
         Ok(receipts) => {
             if !keeper.receipts.begins(&receipts) {
-                return Err(Withheld::Memory);
+                return Err(Withheld::Mismatched);
             }
             keeper.receipts = receipts;
             keeper.held = count;
@@ -151,7 +151,9 @@ fn keep_for<N: HubName, K: HubName, E: Drop, T: Lines<E>, V: Device, B: Behind<N
             keeper.failed = true;
             Err(Withheld::Failed)
         }
-        Err(KeepFault::Memory | KeepFault::Full) => Err(Withheld::Memory),
+        Err(KeepFault::Memory) => Err(Withheld::Memory),
+        Err(KeepFault::Full) => Err(Withheld::Full),
+        Err(KeepFault::Mismatched) => Err(Withheld::Mismatched),
     }
 }
 

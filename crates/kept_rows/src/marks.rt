@@ -2,7 +2,7 @@
 ghost use Rattle.std.specs.Prelude.{◌≡◌, ◌++◌, IfOk, OnOk};
 ghost use Rattle.kept_rows.specs.Marks.{mark_line};
 
-use durable_log::{Behind, Lines, Shelf};
+use durable_log::{Behind, Lines, Shelf, SourceFault};
 use journal_file::MemFile;
 use osm_base::Memory;
 use shared_front::{Front, HubName, Tail};
@@ -79,13 +79,15 @@ impl<N: HubName> Marks<N> {
         &self,
         alloc: Global,
         front: &Front<N, bool>,
-    ) -> Result<(Vec<bool>, Front<N, bool>), Memory>
+    ) -> Result<(Vec<bool>, Front<N, bool>), SourceFault>
         ensures { IfOk result (λ r. r.1 ≡ front.now ++ r.0.items) }
     {
         if !front.begins(&self.front) {
-            return Err(Memory);
+            return Err(SourceFault::Mismatched);
         }
-        let marks = self.marks[front.len() as usize..].to_vec(alloc)?;
+        let marks = self.marks[front.len() as usize..]
+            .to_vec(alloc)
+            .map_err(Memory::from)?;
         Ok((marks, self.front.again()))
     }
 }
@@ -105,7 +107,10 @@ impl<'a, N: HubName, R: Wait> Behind<N, bool> for Source<'a, N, R> {
 
     ghost stays = { λ _. tt };
 
-    fn behind(&mut self, front: &Front<N, bool>) -> Result<(Vec<bool>, Front<N, bool>), Memory> {
+    fn behind(
+        &mut self,
+        front: &Front<N, bool>,
+    ) -> Result<(Vec<bool>, Front<N, bool>), SourceFault> {
         self.marks.lock(self.rt).behind(self.alloc, front)
     }
 }

@@ -251,7 +251,7 @@ fn is_right(outcome: Result<bool, KeepFault>) -> Result<bool, Memory> {
     match outcome {
         Ok(is_right) => Ok(is_right),
         Err(KeepFault::Memory) => Err(Memory),
-        Err(KeepFault::File | KeepFault::Full) => Ok(false),
+        Err(KeepFault::File | KeepFault::Full | KeepFault::Mismatched) => Ok(false),
     }
 }
 

@@ -140,6 +140,8 @@ module _ {C E : Type 0} (steps : C → List E → Message → ℕ → Reply → 
   cause_of cause old new exchanges WriteFault so h = tt
   cause_of cause old new exchanges (Unkept withheld.Failed) so (front, last, mid, is, chain, allowed, unshown, noted) = so noted
   cause_of cause old new exchanges (Unkept withheld.Memory) so h = tt
+  cause_of cause old new exchanges (Unkept withheld.Full) so h = tt
+  cause_of cause old new exchanges (Unkept withheld.Mismatched) so h = tt
   cause_of cause old new exchanges Memory so h = tt
 
   -- that keeping failed is noted for good

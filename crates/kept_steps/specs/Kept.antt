@@ -5,7 +5,7 @@ use Rattle.osm_outside.specs.Event.{Shown}
 use Rattle.http_wire.specs.declared.message.Message.{Message}
 use Rattle.http_link.specs.declared.desk.Reply.{Reply}
 use Rattle.http_link.specs.declared.desk.Withheld.{Withheld}
-use Rattle.http_link.specs.declared.desk.Withheld.TheVariants.{Failed, Memory}
+use Rattle.http_link.specs.declared.desk.Withheld.TheVariants.{Failed, Memory, Full, Mismatched}
 use Rattle.durable_log.specs.Receipts.{last_count}
 use Rattle.durable_log.specs.Receipts.{Receipt}
 use Rattle.kept_desk.specs.Kept.{InHand}
@@ -33,10 +33,13 @@ Tells it = it.keeper.tells_of ≤ last_count it.keeper.receipts
 abbrev pub shows_kept : {C E : Type 0} → AtKeptFront C E → List Shown
 shows_kept it = it.keeper.receipts ∷ []
 
--- why it may withhold its last reply: keeping failed, which it notes; or there was no memory, of which nothing is said
+-- why it may withhold its last reply: keeping failed, which it notes; or there was no memory, the file or the list of its receipts was full,
+-- or they and the desk weren't of one list as far as could be seen, and of these nothing is said
 abbrev pub Withholds : {C E : Type 0} → AtKeptFront C E → Withheld → Type 0
 Withholds it Failed = it.keeper.failed ≡ true
 Withholds it Memory = ⊤
+Withholds it Full = ⊤
+Withholds it Mismatched = ⊤
 
 -- What the desk may answer, as the inner one may: the reply may tell of all that is seen of the list then. No receipt is lost, and no note
 -- that keeping failed.

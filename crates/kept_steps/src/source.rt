@@ -1,6 +1,5 @@
 //! The list under the lock, as the source of the entries that a file lacks.
-use durable_log::Behind;
-use osm_base::Memory;
+use durable_log::{Behind, SourceFault};
 use shared_front::{Front, HubName};
 use std::alloc::Global;
 use std::sync::Wait;
@@ -24,7 +23,10 @@ impl<'s, 'a, N: HubName, S: Stepped + Drop, R: Wait> Behind<N, S::Entry>
     fn behind(
         &mut self,
         front: &Front<N, S::Entry>,
-    ) -> Result<(Vec<S::Entry>, Front<N, S::Entry>), Memory> {
-        self.desk.behind(self.alloc, front)
+    ) -> Result<(Vec<S::Entry>, Front<N, S::Entry>), SourceFault> {
+        let Some(part) = self.desk.behind(self.alloc, front)? else {
+            return Err(SourceFault::Mismatched);
+        };
+        Ok(part)
     }
 }

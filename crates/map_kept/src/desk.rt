@@ -132,7 +132,7 @@ impl<'a, N: HubName, K: HubName, V: Device, R: Wait + Drop, W: Wait> SessionDesk
         self.desk.front()
     }
 
-    fn behind(&mut self, front: &Front<N, Entry>) -> Result<Vec<Entry>, Memory> {
+    fn behind(&mut self, front: &Front<N, Entry>) -> Result<Option<Vec<Entry>>, Memory> {
         self.desk.behind(front)
     }
 

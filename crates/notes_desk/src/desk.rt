@@ -204,7 +204,7 @@ impl<'a, N: HubName, G: Gate + Drop, R: Wait + Drop, W: Wait> SessionDesk<
         self.session.front()
     }
 
-    fn behind(&mut self, front: &Front<N, NoteEntry>) -> Result<Vec<NoteEntry>, Memory> {
+    fn behind(&mut self, front: &Front<N, NoteEntry>) -> Result<Option<Vec<NoteEntry>>, Memory> {
         behind(self.rt, self.hub, &mut self.session, front)
     }
 

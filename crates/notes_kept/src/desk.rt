@@ -143,7 +143,7 @@ impl<
         self.desk.front()
     }
 
-    fn behind(&mut self, front: &Front<N, NoteEntry>) -> Result<Vec<NoteEntry>, Memory> {
+    fn behind(&mut self, front: &Front<N, NoteEntry>) -> Result<Option<Vec<NoteEntry>>, Memory> {
         self.desk.behind(front)
     }
 

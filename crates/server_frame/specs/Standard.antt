@@ -19,6 +19,8 @@ exit_of_end ReadFault = NotRead
 exit_of_end WriteFault = NotWritten
 exit_of_end Memory = NoMemory
 exit_of_end (Unkept withheld.Memory) = NoMemory
+exit_of_end (Unkept withheld.Full) = NoMemory
+exit_of_end (Unkept withheld.Mismatched) = NoMemory
 exit_of_end (Unkept withheld.Failed) = NotKept
 exit_of_end (Refused why) = MessageRefused
 

@@ -25,8 +25,8 @@ pub trait LinkServer {
         ensures { serves users.now (L.told link.old) (L.told link.new) result };
 }
 
-/// How a program ends by an end of its standard link. A reply that was withheld for want of memory is
-/// want of memory.
+/// How a program ends by an end of its standard link, on which no desk withholds a reply. One that was
+/// withheld for anything but a failure would count as want of memory, which is tied to no cause.
 fn exit_of(end: LinkEnd) -> Exit
     ensures { result ≡ exit_of_end end }
 {
@@ -34,7 +34,10 @@ fn exit_of(end: LinkEnd) -> Exit
         LinkEnd::Ended | LinkEnd::Closed | LinkEnd::Budget => Exit::Done,
         LinkEnd::ReadFault => Exit::NotRead,
         LinkEnd::WriteFault => Exit::NotWritten,
-        LinkEnd::Memory | LinkEnd::Unkept(Withheld::Memory) => Exit::NoMemory,
+        LinkEnd::Memory
+        | LinkEnd::Unkept(Withheld::Memory | Withheld::Full | Withheld::Mismatched) => {
+            Exit::NoMemory
+        }
         LinkEnd::Unkept(Withheld::Failed) => Exit::NotKept,
         LinkEnd::Refused(_) => Exit::MessageRefused,
     }

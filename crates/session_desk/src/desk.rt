@@ -1,5 +1,5 @@
 //! A desk of one session of a hub.
-ghost use Rattle.std.specs.Prelude.{◌≡◌, ◌++◌, true, OnOk, OnErr, IfOk};
+ghost use Rattle.std.specs.Prelude.{◌≡◌, ◌++◌, true, OnOk, OnErr, IfOk, IfSome};
 ghost use Rattle.machine_law.specs.Rules.{is_legal};
 ghost use Rattle.session_desk.specs.Answered.{AtDesk, IsFresh, RowOf, StaysOrFreshens};
 
@@ -33,8 +33,9 @@ pub trait SessionDesk<N: HubName, M: Machine, S: Snapshot<N, M>>: Desk {
         ensures { result.now ≡ (keeps self.now).known.front };
 
     /// Freshens the session, and copies the entries of its front behind this beginning of the journal.
-    fn behind(&mut self, front: &Front<N, M::Entry>) -> Result<Vec<M::Entry>, Memory>
-        ensures part { IfOk result (λ part. (keeps self.new).known.front ≡ front.now ++ part.items) }
+    /// `None` where the session has seen less than this front, which no run has shown.
+    fn behind(&mut self, front: &Front<N, M::Entry>) -> Result<Option<Vec<M::Entry>>, Memory>
+        ensures part { IfOk result (λ copied. IfSome copied (λ part. (keeps self.new).known.front ≡ front.now ++ part.items)) }
         ensures session { StaysOrFreshens M.rules (keeps self.old) (keeps self.new) };
 
     /// A law: the front of its session is legal.

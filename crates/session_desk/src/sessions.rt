@@ -1,5 +1,5 @@
 //! Requests of a session of a hub, answered once it owes nothing: each call is one row.
-ghost use Rattle.std.specs.Prelude.{◌≡◌, ◌⊎◌, ◌++◌, OnOk, OnErr, IfOk};
+ghost use Rattle.std.specs.Prelude.{◌≡◌, ◌⊎◌, ◌++◌, OnOk, OnErr, IfOk, IfSome};
 ghost use Rattle.session_desk.specs.Rows.Request.{Does, Reads};
 ghost use Rattle.session_desk.specs.Steps.{told, Answers};
 ghost use Rattle.session_desk.specs.Answered.{IsFresh, IsSettled};
@@ -44,22 +44,22 @@ pub fn freshen<N: HubName, M: Machine, S: Snapshot<N, M>, G: Gate + Drop, R: Wai
 }
 
 /// Freshens the session, and copies the entries of its front behind this beginning of the journal.
+/// `None` where the session has seen less than this front, which no run has shown.
 pub fn behind<N: HubName, M: Machine, S: Snapshot<N, M>, G: Gate + Drop, R: Wait + Drop, W: Wait>(
     rt: &W,
     hub: &Hub<N, M, S, G, R>,
     session: &mut Session<N, M, S>,
     front: &Front<N, M::Entry>,
-) -> Result<Vec<M::Entry>, Memory>
-    ensures part { IfOk result (λ part. session.new.front ≡ front.now ++ part.items) }
+) -> Result<Option<Vec<M::Entry>>, Memory>
+    ensures part { IfOk result (λ copied. IfSome copied (λ part. session.new.front ≡ front.now ++ part.items)) }
     ensures session { (session.new ≡ session.old) ⊎ IsFresh M.rules session.old session.new }
 {
     let part = hub.part(rt, session, front.len(), u64::MAX)?;
     let _seen = session.seen();
     if front.begins(session.front()) {
-        Ok(part)
+        Ok(Some(part))
     } else {
-        // The session has seen less than this front, which no run has shown.
-        Err(Memory)
+        Ok(None)
     }
 }
 

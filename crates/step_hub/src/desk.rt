@@ -1,5 +1,5 @@
 //! A desk of one worker.
-ghost use Rattle.std.specs.Prelude.{◌≡◌, ◌++◌, IfOk};
+ghost use Rattle.std.specs.Prelude.{◌≡◌, ◌++◌, IfOk, IfSome};
 ghost use Rattle.step_hub.specs.Steps.{at_front};
 
 use crate::fronts::FrontDesk;
@@ -56,12 +56,13 @@ impl<'a, N: HubName, S: Stepped + Drop, R: Wait> StepDesk<'a, N, S, R> {
     }
 
     /// Copies of the entries that are found under the lock behind this beginning of the list, and the longer one that they make of it.
+    /// `None` where the hub has no list that begins so, which no run has shown.
     pub fn behind(
         &self,
         alloc: Global,
         front: &Front<N, S::Entry>,
-    ) -> Result<(Vec<S::Entry>, Front<N, S::Entry>), Memory>
-        ensures { IfOk result (λ r. r.1 ≡ front.now ++ r.0.items) }
+    ) -> Result<Option<(Vec<S::Entry>, Front<N, S::Entry>)>, Memory>
+        ensures { IfOk result (λ copied. IfSome copied (λ part. part.1 ≡ front.now ++ part.0.items)) }
     {
         self.hub.behind(self.rt, alloc, front)
     }

@@ -5,7 +5,7 @@
 //! that the list under the lock is the whole list, so the case that it is longer has a branch: the
 //! value isn't asked any more, and each message gets 503. No run has shown it. The server's hub
 //! takes its lock again there; a mirror may answer any message with 503.
-ghost use Rattle.std.specs.Prelude.{◌≡◌, ◌<◌, ◌≤◌, ◌+◌, ◌^◌, ◌++◌, [], length, IsTrue, IfOk, OnOk, OnErr};
+ghost use Rattle.std.specs.Prelude.{◌≡◌, ◌<◌, ◌≤◌, ◌+◌, ◌^◌, ◌++◌, [], length, IsTrue, IfOk, IfSome, OnOk, OnErr};
 ghost use mathlib.Core.List.{IsPrefix};
 ghost use Rattle.osm_base.specs.Status.{IsStatus};
 ghost use Rattle.http_link.specs.Desk.{counted_reply};
@@ -108,23 +108,23 @@ impl<N: HubName, S: Stepped + Drop> Held<N, S> {
         reply
     }
 
-    /// Copies of the entries behind this beginning of the list, and the longer one that they make of it, which is all of it.
+    /// Copies of the entries behind this beginning of the list, and the longer one that they make of it, which is all of it. `None`
+    /// where what was seen of the list is longer than the list, or the value has an entry that the list hasn't: no run has shown either.
     pub fn behind(
         &self,
         alloc: Global,
         front: &Front<N, S::Entry>,
-    ) -> Result<(Vec<S::Entry>, Front<N, S::Entry>), Memory>
-        ensures entries { IfOk result (λ r. r.1 ≡ front.now ++ r.0.items) }
-        ensures all { IfOk result (λ r. r.1 ≡ self.now) }
+    ) -> Result<Option<(Vec<S::Entry>, Front<N, S::Entry>)>, Memory>
+        ensures entries { IfOk result (λ copied. IfSome copied (λ part. part.1 ≡ front.now ++ part.0.items)) }
+        ensures all { IfOk result (λ copied. IfSome copied (λ part. part.1 ≡ self.now)) }
     {
-        // What was seen of the list is longer than the list, and the value has an entry that the list hasn't: no run has shown either.
         if self.ahead || !front.begins(&self.front) {
-            return Err(Memory);
+            return Ok(None);
         }
         let entries = self.value.entries();
         let seen = (front.len() as usize).min(entries.len());
         let copies = copy_all(alloc, &entries[seen..])?;
-        Ok((copies, self.front.again()))
+        Ok(Some((copies, self.front.again())))
     }
 }
 

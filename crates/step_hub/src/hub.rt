@@ -1,5 +1,5 @@
 //! One list under a lock.
-ghost use Rattle.std.specs.Prelude.{◌≡◌, ◌++◌, IfOk};
+ghost use Rattle.std.specs.Prelude.{◌≡◌, ◌++◌, IfOk, IfSome};
 
 use crate::held::Held;
 use crate::stepped::Stepped;
@@ -35,13 +35,14 @@ impl<N: HubName, S: Stepped + Drop> StepHub<N, S> {
     }
 
     /// Copies of the entries that are found behind this beginning of the list, and the longer one that they make of it.
+    /// `None` where the hub has no list that begins so, which no run has shown.
     pub fn behind<R: Wait>(
         &self,
         rt: &R,
         alloc: Global,
         front: &Front<N, S::Entry>,
-    ) -> Result<(Vec<S::Entry>, Front<N, S::Entry>), Memory>
-        ensures { IfOk result (λ r. r.1 ≡ front.now ++ r.0.items) }
+    ) -> Result<Option<(Vec<S::Entry>, Front<N, S::Entry>)>, Memory>
+        ensures { IfOk result (λ copied. IfSome copied (λ part. part.1 ≡ front.now ++ part.0.items)) }
     {
         self.held.lock(rt).behind(alloc, front)
     }
