@@ -1,5 +1,5 @@
 -- What a file holds of a list of entries, as that grows.
-use Rattle.std.proofs.Common.{◌≡◌, ◌⊎◌, inl, inr, ℕ, ◌≤◌, List, ◌++◌, length, refl, sym, ap, ◌∙◌, arith, length-append}
+use Rattle.std.proofs.Common.{◌≡◌, ◌⊎◌, inl, inr, ℕ, ◌≤◌, List, ◌++◌, length, refl, sym, ap, ◌∙◌, subst, arith, length-append}
 use Rattle.std.proofs.lemmas.List.{take_at, take_all, take-append-le}
 use Rattle.journal_file.specs.Device.{LeavesOnly}
 use Rattle.journal_file.specs.Settled.{IsBeforeOrAfter, Stands}
@@ -32,6 +32,12 @@ module _ {E : Type 0} (text : List E → List ℕ) where
     is = stands.is ∙ is ∙ ap text (sym (take_all (length all) all (omega arith)));
     sound = stands.sound;
   }
+
+  -- what was promised of a list is kept of a longer one, by a device that is as it was
+  pub stays_longer : {D : Type 0} (left_since : D → ℕ → List ℕ → Type 0) (old new : D) (t k : ℕ) (held more longer : List E)
+      → new ≡ old → longer ≡ held ++ more → HoldsFrom text left_since old t k held → HoldsFrom text left_since new t k longer
+  stays_longer left_since old new t k held more longer same is holds c left =
+      subst (λ (l : List E). Holds text k l c) (sym is) (holds_longer k held more c (holds c (subst (λ (d : _). left_since d t c) same left)))
 
   module _ (lines : List E → List ℕ) (more : (entries others : List E) → text (entries ++ others) ≡ text entries ++ lines others) where
     -- a run that leaves the text with all lines or none keeps what each moment before promised

@@ -1,5 +1,6 @@
 -- What a file holds of a list of entries that only grows.
 use Rattle.std.specs.Prelude.{◌≡◌, ℕ, ◌≤◌, List, length, take}
+use mathlib.Core.List.{IsPrefix}
 use Rattle.journal_file.specs.Settled.{IsDamaged}
 use Rattle.journal_file.specs.Whole.{text_of}
 
@@ -16,3 +17,9 @@ module _ {E : Type 0} (text : List E → List ℕ) where
   -- Every crash from that moment on leaves a beginning of these entries, of so many at least.
   abbrev pub HoldsFrom : {D : Type 0} → (D → ℕ → List ℕ → Type 0) → D → ℕ → ℕ → List E → Type 0
   HoldsFrom left_since device moment least entries = (c : List ℕ) → left_since device moment c → Holds least entries c
+
+  -- Every crash from now on leaves all of these entries, and behind them only such as a list has that begins with them.
+  pub record LeavesAll {D : Type 0} (moment : D → ℕ) (left_since : D → ℕ → List ℕ → Type 0) (device : D) (entries : List E) : Type 0 where
+    pub list : List E
+    pub begins : IsPrefix entries list
+    pub holds : HoldsFrom left_since device (moment device) (length entries) list

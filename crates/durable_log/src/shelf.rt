@@ -1,6 +1,7 @@
 //! The file of a journal that several sessions add to, and the receipts of what it holds.
 ghost use Rattle.std.specs.Prelude.{◌≡◌, ◌≤◌, ◌<◌, ◌^◌, ◌++◌, ◌∷◌, ◌⊎◌, [], ℕ, true, false, List, length, IsTrue, ◌↔◌, OnOk, IsErrOf};
 ghost use mathlib.Core.List.{IsPrefix};
+ghost use Rattle.durable_log.specs.Held.{HoldsFrom};
 ghost use Rattle.durable_log.specs.Receipts.{AreKept, last_count, shelved};
 ghost use Rattle.durable_log.specs.declared.keeping.KeepFault.{KeepFault};
 ghost use Rattle.receipts.specs.declared.receipt.Receipt.{Receipt};
@@ -144,6 +145,10 @@ impl<N: HubName, K: HubName, E, T: Lines<E>, D: Device> Shelf<N, K, E, T, D> {
         ensures full { IsErrOf result KeepFault.Full → (self.new ≡ self.old)
             × ((2 ^ 61 ≤ length self.old.receipts) ⊎ (2 ^ 62 ≤ length (T.text self.old.entries))) }
         ensures failed { IsErrOf result KeepFault.File → self.new.broken ≡ true }
+        // What every crash left of the list from a moment on, it leaves from then on still.
+        ensures time { D.moment self.old.device ≤ D.moment self.new.device }
+        ensures stays { (t k : ℕ) → k ≤ length self.old.entries → t ≤ D.moment self.old.device → HoldsFrom T.text D.left_since self.old.device t k self.old.entries
+            → HoldsFrom T.text D.left_since self.new.device t k longer }
     {
         if self.file.is_broken() {
             return Err(KeepFault::File);

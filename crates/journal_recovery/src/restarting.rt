@@ -86,6 +86,7 @@ pub fn restart<
     requires fine { D.faults device ≡ 0 }
     ensures text { IfOk result (λ r. r.1.text ≡ T.text (S.entries r.0)) }
     ensures same { IfOk result (λ r. r.1.text ≡ text_of file.now) }
+    ensures fine { IfOk result (λ r. D.faults r.1.device ≡ 0) }
     ensures legal { IfOk result (λ r. S.is_legal (S.entries r.0)) }
     // Where the file stands for a journal, that is the one that is read.
     ensures only { IfOk result (λ r. (entries : List E) → All T.is_entry entries → text_of file.now ≡ T.text entries → S.entries r.0 ≡ entries) }
@@ -108,7 +109,10 @@ pub fn restart<
         Err(fault) => return Err((fault, device)),
     };
     match JournalFile::open(device, file, T::header()) {
-        Ok(open) => Ok((journal, open)),
+        Ok(open) => {
+            open.law();
+            Ok((journal, open))
+        }
         Err((OpenFault::Foreign, device)) => Err((RestartFault::NoJournal, device)),
         Err((OpenFault::Failed, device)) => Err((RestartFault::Failed, device)),
     }

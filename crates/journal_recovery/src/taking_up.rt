@@ -39,6 +39,7 @@ pub fn take_up<
         (λ why. LacksJournal J.File.moment J.File.left_since J.File.faults T.text T.is_entry S.is_legal
         path.now (J.told journals.old) (J.told journals.new) why) }
     ensures text { IfOk result (λ r. r.1.text ≡ T.text (S.entries r.0)) }
+    ensures fine { IfOk result (λ r. J.File.faults r.1.device ≡ 0) }
     ensures stands { IfOk result (λ r. StandsFor J.File.moment J.File.left_since r.1.device r.1.text) }
     ensures sound { IfOk result (λ r. LeavesSound J.File.moment J.File.left_since r.1.device) }
 {

@@ -6,6 +6,7 @@ use Rattle.osm_outside.specs.Port.{PortTold}
 use Rattle.machine_law.specs.Rules.{Rules}
 use Rattle.user_table.specs.Users.{Users}
 use Rattle.snapshot_hub.specs.Known.{Known}
+use Rattle.durable_log.specs.Held.{LeavesAll}
 use Rattle.durable_log.specs.Receipts.{Receipt}
 use Rattle.session_desk.specs.Answered.{RowOf}
 use Rattle.desk_serve.specs.KeptPorts.{ServesKept}
@@ -16,7 +17,8 @@ use Rattle.link_workers.specs.declared.outcome.Outcome.TheVariants.{Served, Fail
 module _ {S C Q P E K D : Type 0} (rules : Rules S C Q P E K) (row : RowOf E) (text : List E → List ℕ) (moment : D → ℕ)
     (left_since : D → ℕ → List ℕ → Type 0) (faults : D → ℕ) where
   -- By the users, the journal that the hub began with, the file as it was at last, and the ports before and after. Where serving ended in
-  -- order no call of the device had failed. Where one had, whatever was told before is kept too. Want of memory leaves the ports as they were.
+  -- order no call of the device had failed. Where one had, whatever was told before is kept too. Want of memory leaves the ports as they were,
+  -- and the file with the whole journal, of which no call had failed either.
   abbrev pub ServesKeptPorts : Users → List E → D → List PortTold → List PortTold → Outcome → Type 0
   ServesKeptPorts users J device before after Served =
       ServesKept rules row text moment left_since faults users J before after false device × (faults device ≡ 0)
@@ -24,7 +26,7 @@ module _ {S C Q P E K D : Type 0} (rules : Rules S C Q P E K) (row : RowOf E) (t
       ServesKept rules row text moment left_since faults users J before after true device × (faults device ≡ 0)
   ServesKeptPorts users J device before after Unkept =
       (failed : Bool) × ServesKept rules row text moment left_since faults users J before after failed device × (0 < faults device)
-  ServesKeptPorts users J device before after LacksMemory = after ≡ before
+  ServesKeptPorts users J device before after LacksMemory = (after ≡ before) × LeavesAll text moment left_since device J × (faults device ≡ 0)
 
 -- ---- for clauses of what leads there
 

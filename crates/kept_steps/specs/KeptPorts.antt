@@ -14,6 +14,7 @@ use Rattle.http_link.specs.Link.{ServesTold}
 use Rattle.link_workers.specs.Port.{Visit, ServesPort}
 use Rattle.link_workers.specs.declared.outcome.Outcome.{Outcome}
 use Rattle.link_workers.specs.declared.outcome.Outcome.TheVariants.{Served, Failed, Unkept, LacksMemory}
+use Rattle.durable_log.specs.Held.{LeavesAll}
 use Rattle.durable_log.specs.Receipts.{last_count, AreKept}
 use Rattle.durable_log.specs.Receipts.{Receipt}
 use Rattle.kept_desk.specs.Kept.{Sending}
@@ -126,7 +127,7 @@ module _ {C E D : Type 0} (steps : C → List E → Message → ℕ → Reply �
     (text : List E → List ℕ) (moment : D → ℕ) (left_since : D → ℕ → List ℕ → Type 0) (faults : D → ℕ) where
   -- By what all desks are told, the list that was begun with, the file as it was at last, and the ports before and after. Where serving
   -- ended in order no call of the device had failed. Where one had, whatever was told before is kept too. Want of memory leaves the ports as
-  -- they were.
+  -- they were, and the file with the whole list, of which no call had failed either.
   abbrev pub ServesKeptPorts : C → List E → D → List PortTold → List PortTold → Outcome → Type 0
   ServesKeptPorts setting J device before after Served =
       ServesKept steps setting J legal text moment left_since faults before after false device × (faults device ≡ 0)
@@ -134,4 +135,4 @@ module _ {C E D : Type 0} (steps : C → List E → Message → ℕ → Reply �
       ServesKept steps setting J legal text moment left_since faults before after true device × (faults device ≡ 0)
   ServesKeptPorts setting J device before after Unkept =
       (failed : Bool) × ServesKept steps setting J legal text moment left_since faults before after failed device × (0 < faults device)
-  ServesKeptPorts setting J device before after LacksMemory = after ≡ before
+  ServesKeptPorts setting J device before after LacksMemory = (after ≡ before) × LeavesAll text moment left_since device J × (faults device ≡ 0)

@@ -1,13 +1,14 @@
 //! Serving ports over one list that is kept in a file.
-ghost use Rattle.std.specs.Prelude.{◌≡◌, true, map, vec_len, IsTrue};
+ghost use Rattle.std.specs.Prelude.{◌≡◌, true, length, map, vec_len, IsTrue};
 ghost use Rattle.kept_serve.specs.Ports.{EndsSo};
+ghost use Rattle.durable_log.specs.Held.{HoldsFrom};
 ghost use Rattle.durable_log.specs.Receipts.{Receipt};
 ghost use Rattle.kept_steps.specs.KeptPorts.{AreMatched, ServesKeptPorts};
 
 use crate::ports::{KeptBack, KeptDesks, serve_by};
 use durable_log::{Board, Lines, Receipt, Shelf, Told, receipts_stay};
 use journal_file::{Device, JournalFile};
-use kept_serve::{are_given, ended, shelve};
+use kept_serve::{are_given, ended, leave_shelf, shelve};
 use link_workers::Outcome;
 use osm_outside::{Port, PortOutside};
 use shared_front::{Front, HubName, Opened};
@@ -75,7 +76,7 @@ fn outcome_of<N: HubName, K: HubName, E, T: Lines<E>, V: Device, W: Wait>(
 /// Serves the links of the ports by a new hub of this value, on from the list that it has, under the
 /// names of the list and of its receipts, one worker a port, each in a thread of its own, until no port
 /// has a link to come or accepting fails. A reply is sent only once the file holds what it tells of. The
-/// ports come back in their order, and the file's device does.
+/// ports come back in their order, and the file's device does; want of memory leaves it with the whole list.
 pub fn serve_kept_ports<
     N: HubName + Send + Sync,
     K: HubName + Send + Sync,
@@ -99,6 +100,8 @@ where
     requires named { opened ≡ N.book }
     requires receipts { receipts ≡ K.book }
     requires text { kept.file.text ≡ T.text (S.list kept.value) }
+    requires holds { HoldsFrom T.text V.left_since kept.file.device (V.moment kept.file.device) (length (S.list kept.value)) (S.list kept.value) }
+    requires fine { V.faults kept.file.device ≡ 0 }
     ensures serves { ServesKeptPorts S.steps S.legal T.text V.moment V.left_since V.faults setting.now (S.list kept.value) result.1
         (map P.told ports.old.items) (map P.told ports.new.items) result.0 }
     ensures count { vec_len ports.new ≡ vec_len ports.old }
@@ -109,7 +112,7 @@ where
     let Ok((hub, first)) = StepHub::<N, S>::begin(value, opened) else {
         return (Outcome::LacksMemory, file.into_device());
     };
-    let shelved = shelve::<N, K, S::Entry, T, V>(alloc, file, first.again(), receipts);
+    let shelved = shelve::<N, K, S::Entry, T, V, R>(rt, alloc, file, first.again(), receipts);
     let (shelf, had) = match shelved {
         Ok(shelved) => shelved,
         Err(device) => return (Outcome::LacksMemory, device),
@@ -128,7 +131,7 @@ where
     let served = serve_by(rt, alloc, &desks, ports);
     let shelf = shelf.into_inner();
     let Ok(back) = served else {
-        return (Outcome::LacksMemory, shelf.into_device());
+        return (Outcome::LacksMemory, leave_shelf(rt, &first, &had, shelf));
     };
     shelf.law();
     let outcome = outcome_of(rt, &had, &back, &shelf);

@@ -2,7 +2,7 @@
 //!
 //! As in the file on many workers over a new hub, whoever makes the hub is generic in its name, and
 //! so is whoever makes the list of receipts.
-ghost use Rattle.std.specs.Prelude.{◌≡◌, false, ◌+◌, ◌++◌, ◌<◌, ◌≤◌, ℕ, List, map, vec_len, vec_capacity, IfOk, OnErr};
+ghost use Rattle.std.specs.Prelude.{◌≡◌, false, ◌+◌, ◌++◌, ◌<◌, ◌≤◌, ℕ, List, length, map, vec_len, vec_capacity, IfOk, OnErr};
 ghost use Rattle.std.specs.List.{AllByRecursion};
 ghost use mathlib.Core.List.{IsPrefix};
 ghost use Rattle.hub_core.specs.Journal.{calls_of};
@@ -13,6 +13,7 @@ ghost use Rattle.api_desk.specs.HubDesk.{map_row};
 ghost use Rattle.snapshot_hub.specs.Known.{returner};
 ghost use Rattle.snapshot_hub.specs.Closings.{AreSeated};
 ghost use Rattle.link_workers.specs.Workers.{AllWork};
+ghost use Rattle.durable_log.specs.Held.{HoldsFrom};
 ghost use Rattle.kept_desk.specs.Kept.{AtKept, at_kept};
 ghost use Rattle.desk_serve.specs.Desks.{at_desk};
 ghost use Rattle.desk_serve.specs.Kept.{KeepsLink};
@@ -27,7 +28,7 @@ use entry_file::EntryLines;
 use http_link::LinkEnd;
 use journal_file::{Device, JournalFile};
 use kept_desk::Keeper;
-use kept_serve::{KeptBack, outcome_of, shelve};
+use kept_serve::{KeptBack, leave_shelf, outcome_of, shelve};
 use link_workers::{Outcome, Service, Worker, any_failed, seat_all, serve_all, unseat_all};
 use map_machine::MapMachine;
 use osm_base::Memory;
@@ -227,7 +228,8 @@ fn serve_by_sessions<
 /// Serves the links of the ports by the first sessions of a hub that goes on from the journal of these
 /// twins, under the names of these seats and receipts, one worker a port, each in a thread of its own, until no port
 /// has a link to come or accepting fails. Then it closes the hub. A reply is sent only once the file
-/// holds what it tells of. The ports come back in their order, and the file's device does.
+/// holds what it tells of. The ports come back in their order, and the file's device does; want of memory
+/// leaves it with the whole journal.
 pub fn serve_kept_ports<
     N: HubName + Send + Sync,
     K: HubName + Send + Sync,
@@ -251,6 +253,8 @@ pub fn serve_kept_ports<
     requires count { vec_len ports.old ≤ seats.sessions }
     requires own { AreSeated map_rules.tag_of N.sessions twins }
     requires text { file.text ≡ text_of twins }
+    requires holds { HoldsFrom text_of V.left_since file.device (V.moment file.device) (length twins) twins }
+    requires fine { V.faults file.device ≡ 0 }
     ensures serves { ServesKeptPorts map_rules map_row text_of V.moment V.left_since V.faults users.now twins result.1
         (map P.told ports.old.items) (map P.told ports.new.items) result.0 }
     ensures count { vec_len ports.new ≡ vec_len ports.old }
@@ -269,7 +273,8 @@ pub fn serve_kept_ports<
     let Ok(spare) = sessions.split_off(ports.len()) else {
         return (Outcome::LacksMemory, file.into_device());
     };
-    let (shelf, had) = match shelve::<N, K, Entry, EntryLines, V>(alloc, file, front, receipts) {
+    let shelved = shelve::<N, K, Entry, EntryLines, V, R>(rt, alloc, file, front.again(), receipts);
+    let (shelf, had) = match shelved {
         Ok(shelved) => shelved,
         Err(device) => return (Outcome::LacksMemory, device),
     };
@@ -287,7 +292,7 @@ pub fn serve_kept_ports<
     let served = serve_by_sessions(rt, alloc, &desks, sessions, ports);
     let shelf = shelf.into_inner();
     let Ok(back) = served else {
-        return (Outcome::LacksMemory, shelf.into_device());
+        return (Outcome::LacksMemory, leave_shelf(rt, &front, &had, shelf));
     };
     shelf.law();
     let outcome = outcome_of(rt, &back, &shelf);

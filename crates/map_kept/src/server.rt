@@ -2,6 +2,7 @@
 ghost use Rattle.std.specs.Prelude.{◌≡◌, ◌<◌, ◌≤◌, [], length, map, take, vec_len};
 ghost use Rattle.osm_base.specs.declared.limits.TheConstants.{SESSION_LIMIT};
 ghost use Rattle.journal_text.specs.Text.{text_of};
+ghost use Rattle.durable_log.specs.Held.{HoldsFrom};
 ghost use Rattle.journal_recovery.specs.Judged.{IsFollowed, IsJudged};
 ghost use Rattle.journal_recovery.specs.declared.faults.TextFault.{TextFault};
 ghost use Rattle.osm_model.specs.Journal.{IsLegal};
@@ -117,6 +118,8 @@ fn serve_handed<V: Device + Drop + Send, R: Threads + Wait + Sync, P: Port + Dro
     requires few { vec_len ports.old ≤ SESSION_LIMIT }
     requires seated { AreSeated map_rules.tag_of SESSION_LIMIT twins }
     requires text { file.text ≡ text_of twins }
+    requires holds { HoldsFrom text_of V.left_since file.device (V.moment file.device) (length twins) twins }
+    requires fine { V.faults file.device ≡ 0 }
     ensures serves { ServesFrom V.moment V.left_since V.faults twins result.1 users.now
         (map P.told ports.old.items) (map P.told ports.new.items) result.0 }
     ensures count { vec_len ports.new ≡ vec_len ports.old }

@@ -1,6 +1,7 @@
 //! A mirror whose entries are kept in a file, as what a program runs.
-ghost use Rattle.std.specs.Prelude.{◌≡◌, map, vec_len};
+ghost use Rattle.std.specs.Prelude.{◌≡◌, length, map, vec_len};
 ghost use Rattle.journal_text.specs.Text.{text_of};
+ghost use Rattle.durable_log.specs.Held.{HoldsFrom};
 ghost use Rattle.journal_recovery.specs.Judged.{IsJudged};
 ghost use Rattle.journal_recovery.specs.declared.faults.TextFault.{TextFault};
 ghost use Rattle.osm_model.specs.Journal.{IsLegal};
@@ -86,7 +87,9 @@ fn serve_handed<V: Device + Drop + Send, R: Threads + Wait + Sync, P: Port + Dro
     taken: Taken<V>,
     ports: &mut Vec<P>,
 ) -> (Outcome, V)
-    requires { taken.file.text ≡ text_of taken.follower }
+    requires text { taken.file.text ≡ text_of taken.follower }
+    requires holds { HoldsFrom text_of V.left_since taken.file.device (V.moment taken.file.device) (length taken.follower) taken.follower }
+    requires fine { V.faults taken.file.device ≡ 0 }
     ensures serves { MirrorsKeptPorts V.moment V.left_since V.faults taken.follower result.1 users.now
         (map P.told ports.old.items) (map P.told ports.new.items) result.0 }
     ensures count { vec_len ports.new ≡ vec_len ports.old }

@@ -1,6 +1,7 @@
 //! Many workers over one mirror whose entries are kept in a file.
-ghost use Rattle.std.specs.Prelude.{◌≡◌, map, vec_len};
+ghost use Rattle.std.specs.Prelude.{◌≡◌, length, map, vec_len};
 ghost use Rattle.journal_text.specs.Text.{text_of};
+ghost use Rattle.durable_log.specs.Held.{HoldsFrom};
 ghost use Rattle.mirror_serve.specs.Mirrors.{MirrorsKeptPorts};
 
 use crate::one_mirror::Mirror;
@@ -47,6 +48,8 @@ pub fn mirror_kept_ports<
     requires named { opened ≡ N.book }
     requires receipts { receipts ≡ K.book }
     requires text { taken.file.text ≡ text_of taken.follower }
+    requires holds { HoldsFrom text_of V.left_since taken.file.device (V.moment taken.file.device) (length taken.follower) taken.follower }
+    requires fine { V.faults taken.file.device ≡ 0 }
     ensures serves { MirrorsKeptPorts V.moment V.left_since V.faults taken.follower result.1 users.now
         (map P.told ports.old.items) (map P.told ports.new.items) result.0 }
     ensures count { vec_len ports.new ≡ vec_len ports.old }

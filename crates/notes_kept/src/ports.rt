@@ -1,5 +1,5 @@
 //! Many workers over a hub of notes whose journal is kept in a file.
-ghost use Rattle.std.specs.Prelude.{◌≡◌, false, ◌<◌, ◌≤◌, ℕ, List, map, vec_len, IfOk, OnErr};
+ghost use Rattle.std.specs.Prelude.{◌≡◌, false, ◌<◌, ◌≤◌, ℕ, List, length, map, vec_len, IfOk, OnErr};
 ghost use Rattle.std.specs.List.{AllByRecursion};
 ghost use mathlib.Core.List.{IsPrefix};
 ghost use Rattle.hub_core.specs.Journal.{calls_of};
@@ -8,6 +8,7 @@ ghost use Rattle.notes_core.specs.declared.commands.NoteEntry.{NoteEntry};
 ghost use Rattle.notes_desk.specs.Desk.{note_row};
 ghost use Rattle.snapshot_hub.specs.Known.{returner};
 ghost use Rattle.snapshot_hub.specs.Closings.{AreSeated};
+ghost use Rattle.durable_log.specs.Held.{HoldsFrom};
 ghost use Rattle.kept_desk.specs.Kept.{AtKept};
 ghost use Rattle.desk_serve.specs.KeptPorts.{HaveKept};
 ghost use Rattle.kept_serve.specs.Ports.{ServesKeptPorts};
@@ -17,7 +18,7 @@ use crate::makers::NotesKeptDesks;
 use desk_serve::points_are_consistent;
 use durable_log::{Board, Lines, Receipt, Told, receipts_stay};
 use journal_file::{Device, JournalFile};
-use kept_serve::{KeptBack, outcome_of, serve_kept_by, shelve};
+use kept_serve::{KeptBack, leave_shelf, outcome_of, serve_kept_by, shelve};
 use link_workers::Outcome;
 use notes_core::{NoteEntry, NotesMachine};
 use notes_desk::{NotesHub, NotesSession};
@@ -73,7 +74,8 @@ fn serve_by_sessions<
 /// Serves the links of the ports by the first sessions of a hub that goes on from the journal of these
 /// twins, under the names of these seats and receipts, one worker a port, each in a thread of its own, until no port
 /// has a link to come or accepting fails. Then it closes the hub. A reply is sent only once the file
-/// holds what it tells of. The ports come back in their order, and the file's device does.
+/// holds what it tells of. The ports come back in their order, and the file's device does; want of memory
+/// leaves it with the whole journal.
 pub fn serve_kept_ports<
     N: HubName + Send + Sync,
     K: HubName + Send + Sync,
@@ -98,6 +100,8 @@ pub fn serve_kept_ports<
     requires count { vec_len ports.old ≤ seats.sessions }
     requires own { AreSeated note_rules.tag_of N.sessions twins }
     requires text { file.text ≡ T.text twins }
+    requires holds { HoldsFrom T.text V.left_since file.device (V.moment file.device) (length twins) twins }
+    requires fine { V.faults file.device ≡ 0 }
     ensures serves { ServesKeptPorts note_rules note_row T.text V.moment V.left_since V.faults users.now twins result.1
         (map P.told ports.old.items) (map P.told ports.new.items) result.0 }
     ensures count { vec_len ports.new ≡ vec_len ports.old }
@@ -113,7 +117,8 @@ pub fn serve_kept_ports<
     let Ok(spare) = sessions.split_off(ports.len()) else {
         return (Outcome::LacksMemory, file.into_device());
     };
-    let (shelf, had) = match shelve::<N, K, NoteEntry, T, V>(alloc, file, front, receipts) {
+    let shelved = shelve::<N, K, NoteEntry, T, V, R>(rt, alloc, file, front.again(), receipts);
+    let (shelf, had) = match shelved {
         Ok(shelved) => shelved,
         Err(device) => return (Outcome::LacksMemory, device),
     };
@@ -130,7 +135,7 @@ pub fn serve_kept_ports<
     let served = serve_by_sessions(rt, alloc, &maker, sessions, ports);
     let shelf = shelf.into_inner();
     let Ok(back) = served else {
-        return (Outcome::LacksMemory, shelf.into_device());
+        return (Outcome::LacksMemory, leave_shelf(rt, &front, &had, shelf));
     };
     shelf.law();
     let outcome = outcome_of(rt, &back, &shelf);

@@ -52,6 +52,7 @@ fn take_up_fit<R: Threads + Sync, E: Send + Sync + Drop, S: KeptJournal<E> + Sen
         (λ exit. LacksServed J.File.moment J.File.left_since J.File.faults S.Text.text S.Text.is_entry S.is_legal S.fits
         path.now (J.told journals.old) (J.told journals.new) exit) }
     ensures text { IfOk result (λ taken. taken.1.text ≡ S.Text.text (S.entries taken.0)) }
+    ensures fine { IfOk result (λ taken. J.File.faults taken.1.device ≡ 0) }
     ensures holds { IfOk result (λ taken. HoldsFrom S.Text.text J.File.left_since taken.1.device (J.File.moment taken.1.device) (length (S.entries taken.0)) (S.entries taken.0)) }
     ensures fits { IfOk result (λ taken. S.fits (S.entries taken.0)) }
 {
@@ -91,6 +92,7 @@ pub fn begin_kept<
         (λ exit. (link : Told) → BeginsNone J.File.moment J.File.left_since J.File.faults S.Text.text S.Text.is_entry S.is_legal S.fits
         users.now listening.entry.address.now path.now (J.told journals.old) (J.told journals.new) (H.told host.old) (H.told host.new) link link exit) }
     ensures text { IfOk result (λ begun. begun.file.text ≡ S.Text.text (S.entries begun.journal)) }
+    ensures fine { IfOk result (λ begun. J.File.faults begun.file.device ≡ 0) }
     ensures holds { IfOk result (λ begun. HoldsFrom S.Text.text J.File.left_since begun.file.device (J.File.moment begun.file.device) (length (S.entries begun.journal)) (S.entries begun.journal)) }
     ensures fits { IfOk result (λ begun. S.fits (S.entries begun.journal)) }
     ensures count { IfOk result (λ begun. vec_len begun.ports ≡ listening.entry.workers) }

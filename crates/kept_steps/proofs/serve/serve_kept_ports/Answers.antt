@@ -1,9 +1,10 @@
-use Rattle.std.proofs.Common.{◌≡◌, ◌+◌, ◌<◌, List, length, map, sym, ap, ◌∙◌, subst}
+use Rattle.std.proofs.Common.{◌≡◌, ◌+◌, ◌<◌, List, length, map, refl, sym, ap, ◌∙◌, subst}
 use mathlib.Core.List.{IsPrefix}
 use Rattle.std.specs.List.{sum_by}
 use Rattle.durable_log.specs.Receipts.{AreKept}
 use Rattle.durable_log.specs.Receipts.{Receipt}
 use Rattle.kept_steps.specs.KeptPorts.{HaveKept, AreMatched}
+use Rattle.kept_serve.proofs.Leaving.{as_before, unshelved}
 use Rattle.kept_steps.proofs.Working.{ports_kept}
 use Rattle.kept_steps.proofs.serve.serve_kept_ports.Goals as goal
 
@@ -41,3 +42,17 @@ returns-clause-serves g c =
     (λ broken. subst (λ d. 0 < V.faults d) (sym c.into_device-2.ensures) (c.law.ensures.failed broken))
     (subst (λ (l : List Receipt). AreMatched l back.receipts.items back.withheld back.list shelf.entries shelf.receipts shelf.broken) had_is c.outcome_of-outcome.ensures.matched)
     c.outcome_of-outcome.ensures.ends
+
+pub returns-in_default-clause-serves : goal.returns-in_default-clause-serves
+returns-in_default-clause-serves g c =
+    let V = g.V.Device in
+    let left =
+    as_before g.T.Lines.text V.moment V.left_since V.faults c.args.kept.file.device c.into_device.result (g.S.Stepped.list c.args.kept.value)
+    c.into_device.ensures c.requires.holds c.requires.fine in (refl, left.0, left.1)
+
+pub returns-in-Err-clause-serves : goal.returns-in-Err-clause-serves
+returns-in-Err-clause-serves g c =
+    let V = g.V.Device in
+    let left =
+    unshelved g.T.Lines.text V.moment V.left_since V.faults c.args.kept.file.device c.in-Err.device (g.S.Stepped.list c.args.kept.value) c.again.result
+    (c.again.ensures ∙ c.in-Ok.ensures.all) c.in-Err.ensures.err c.requires.holds c.in-Err.ensures.fine in (refl, left.0, left.1)

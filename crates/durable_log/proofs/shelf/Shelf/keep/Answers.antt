@@ -2,6 +2,7 @@ use Rattle.std.proofs.Common.{◌≡◌, ◌++◌, ℕ, length, refl, sym, ◌�
 use Rattle.std.proofs.lemmas.Bool.{both_ways}
 use Rattle.durable_log.specs.Held.{HoldsFrom}
 use Rattle.durable_log.specs.Receipts.{AreKept}
+use Rattle.durable_log.proofs.Holding.{stays_longer}
 use Rattle.durable_log.proofs.ReceiptLemmas.{Given, kept_on, after_give, last_given, more_given}
 use Rattle.durable_log.proofs.shelf.Shelf.keep.Goals.{then-give, else-give}
 use Rattle.durable_log.proofs.shelf.Shelf.keep.Goals as goal
@@ -53,3 +54,17 @@ returns-after-give-clause-receipts g c =
     let d = g.D.Device in
     more_given g.T.Lines.text d.moment d.left_since c.keep.new.file.device c.len-count.result c.args.self.now.receipts c.self.inside.receipts c.give.new.receipts c.give.result
     (sym (ap (λ s. s.receipts) c.self.view_is)) (c.give.ensures.given, c.give.ensures.kept)
+
+pub returns-then-len-ge-MOST-clause-stays : goal.returns-then-len-ge-MOST-clause-stays
+returns-then-len-ge-MOST-clause-stays g c t k enough come =
+    stays_longer g.T.Lines.text g.D.Device.left_since c.args.self.now.device c.args.self.now.device t k c.args.self.now.entries c.args.entries.now c.args.longer refl c.requires
+
+pub returns-in-Err-Memory-clause-stays : goal.returns-in-Err-Memory-clause-stays
+returns-in-Err-Memory-clause-stays g c t k enough come =
+    stays_longer g.T.Lines.text g.D.Device.left_since c.args.self.now.device c.keep.new.file.device t k c.args.self.now.entries c.args.entries.now c.args.longer
+    (ap (λ f. f.device) (c.in-Err-Memory.ensures.memory (rw c.in-Err-Memory.field-0-is refl)) ∙ ap (λ s. s.device) c.self.view_is) c.requires
+
+pub returns-in-Err-Full-clause-stays : goal.returns-in-Err-Full-clause-stays
+returns-in-Err-Full-clause-stays g c t k enough come =
+    stays_longer g.T.Lines.text g.D.Device.left_since c.args.self.now.device c.keep.new.file.device t k c.args.self.now.entries c.args.entries.now c.args.longer
+    (ap (λ f. f.device) (c.in-Err-Full.ensures.full (rw c.in-Err-Full.field-0-is refl)) ∙ ap (λ s. s.device) c.self.view_is) c.requires
