@@ -67,4 +67,4 @@ returns-in-Err-Memory-clause-stays g c t k enough come =
 pub returns-in-Err-Full-clause-stays : goal.returns-in-Err-Full-clause-stays
 returns-in-Err-Full-clause-stays g c t k enough come =
     stays_longer g.T.Lines.text g.D.Device.left_since c.args.self.now.device c.keep.new.file.device t k c.args.self.now.entries c.args.entries.now c.args.longer
-    (ap (λ f. f.device) (c.in-Err-Full.ensures.full (rw c.in-Err-Full.field-0-is refl)) ∙ ap (λ s. s.device) c.self.view_is) c.requires
+    (ap (λ f. f.device) ((c.in-Err-Full.ensures.full (rw c.in-Err-Full.field-0-is refl)).0) ∙ ap (λ s. s.device) c.self.view_is) c.requires
