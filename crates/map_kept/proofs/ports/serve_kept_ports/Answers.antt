@@ -62,14 +62,14 @@ pub returns-in_default-begun-clause-serves : goal.returns-in_default-begun-claus
 returns-in_default-begun-clause-serves g c =
     let V = g.V.Device in
     let left =
-    as_before text_of V.moment V.left_since V.faults c.args.file.device c.into_device.result c.args.twins c.into_device.ensures c.requires.holds c.requires.fine in
+    as_before text_of V.moment V.left_since V.faults c.args.file.device c.into_device-in_default-begun.result c.args.twins c.into_device-in_default-begun.ensures c.requires.holds c.requires.fine in
     (refl, left.0, left.1)
 
 pub returns-in_default-split_off-clause-serves : goal.returns-in_default-split_off-clause-serves
 returns-in_default-split_off-clause-serves g c =
     let V = g.V.Device in
     let left =
-    as_before text_of V.moment V.left_since V.faults c.args.file.device c.into_device.result c.args.twins c.into_device.ensures c.requires.holds c.requires.fine in
+    as_before text_of V.moment V.left_since V.faults c.args.file.device c.into_device-in_default-split_off.result c.args.twins c.into_device-in_default-split_off.ensures c.requires.holds c.requires.fine in
     (refl, left.0, left.1)
 
 pub returns-in-Err-clause-serves : goal.returns-in-Err-clause-serves
