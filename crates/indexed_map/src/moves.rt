@@ -17,7 +17,7 @@ ghost use Rattle.indexed_map.specs.Placed.{lies, enters, share_cell, IsPlaced};
 use crate::usage::held_last;
 use history_store::Store;
 use osm_base::{Coord, Key, Kind};
-use osm_element::{Content, Version};
+use osm_element::Version;
 use tile_grid::{Cell, Grid};
 
 /// A node leaves the cell of a position, if there is one.
@@ -95,8 +95,8 @@ fn current_place(versions: &[Version]) -> Option<Coord>
     ensures { result ≡ option_and_then position_in (option_and_then (λ v. v.content) (version_in versions.now (length versions.now))) }
 {
     match held_last(versions) {
-        Some(Content::Node(at)) => Some(*at),
-        _ => None,
+        Some(held) => held.position(),
+        None => None,
     }
 }
 
@@ -105,8 +105,8 @@ fn new_position(version: &Version) -> Option<Coord>
     ensures { result ≡ new_position version.now.content }
 {
     match version.content() {
-        Some(Content::Node(at)) => Some(*at),
-        _ => None,
+        Some(held) => held.position(),
+        None => None,
     }
 }
 

@@ -23,4 +23,4 @@ pub use elements::{Elements, History};
 pub use faults::LocalFault;
 pub use labels::{TagList, Tags};
 pub use tag_lists::TagLists;
-pub use versions::Version;
+pub use versions::{Version, check_number, check_stamp};
