@@ -114,10 +114,7 @@ impl Store {
         ensures { result ≡ position self.now.elements key }
     {
         match self.current(key) {
-            Some(version) => match version.content() {
-                Some(held) => held.position(),
-                None => None,
-            },
+            Some(version) => version.position(),
             None => None,
         }
     }

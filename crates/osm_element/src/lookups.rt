@@ -80,8 +80,8 @@ impl Elements {
     pub fn position(&self, key: Key) -> Option<Coord>
         ensures { result ≡ position self.now key }
     {
-        match self.content(key) {
-            Some(held) => held.position(),
+        match self.current(key) {
+            Some(version) => version.position(),
             None => None,
         }
     }
