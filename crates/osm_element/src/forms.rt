@@ -12,8 +12,8 @@ use osm_base::{Coord, Memory, TryCopy};
 use std::alloc::Global;
 use std::mem::size_of;
 
-/// What a version holds, with its tags behind the same pointer. A node without tags and a deletion have
-/// none.
+/// What a version holds, with its tags behind the same pointer. Where there is neither a list nor a tag,
+/// there is no pointer.
 #[derive(Drop)]
 pub(crate) enum Form {
     Node(Noted, Coord),
@@ -21,7 +21,7 @@ pub(crate) enum Form {
     Way(Noted, Box<Listed<u64>>),
     Relation(Noted, Box<Listed<Member<u64>>>),
     Deletion(Noted),
-    /// Nobody sees the position.
+    /// Nobody is shown the position beside the tags.
     TaggedDeletion(Noted, Box<PlacedTable>),
 }
 
@@ -86,6 +86,7 @@ impl Form {
         ensures tags { tags_of self.new ≡ tags_of self.old }
         ensures noted { noted_in self.new ≡ record (noted_in self.old) { marked = marked } }
     {
+        // An arm for each: where alternatives join, it isn't known which one was written to.
         match self {
             Form::Node(noted, _) => noted.marked = marked,
             Form::TaggedNode(noted, _) => noted.marked = marked,

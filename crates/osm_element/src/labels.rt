@@ -1,5 +1,5 @@
 //! Tags, in one text and one list of ends behind a pointer.
-ghost use Rattle.std.specs.Prelude.{◌≡◌, ◌↔◌, ◌<◌, ◌∷◌, [], ◌++◌, Some, None, if◌then◌else◌, length, get_or, map, IfOk, IfSome, IsSome, IsTrue};
+ghost use Rattle.std.specs.Prelude.{◌≡◌, ◌↔◌, ◌<◌, ◌∷◌, [], ◌++◌, Some, None, length, get_or, map, IfOk, IfSome, IsSome, IsTrue};
 ghost use Rattle.std.specs.Ordering.{is_lt, nat_cmp};
 ghost use Rattle.std.specs.Cmp.Lexicographic.{slice_cmp};
 ghost use Rattle.osm_element.specs.Tags.{KeysRise, cut, start_at, AreEnds};
