@@ -3,9 +3,10 @@
 //! A history is cut by halving, so a world keeps that the stamps of a history never go back and
 //! that none is past the last one (`IsKept`). Every entry keeps this, taken or not, since no stamp
 //! is before the map's last.
-ghost use Rattle.std.specs.Prelude.{◌≡◌, length, option_copied};
+ghost use Rattle.std.specs.Prelude.{◌≡◌, length, option_copied, option_map};
 ghost use Rattle.std.specs.List.Sorted.{IsNonDecreasingBy};
 ghost use Rattle.osm_element.specs.Elements.{history, version_in, content_of};
+ghost use Rattle.osm_element.specs.Held.{held_content};
 ghost use Rattle.osm_model.specs.Past.{made_by, elements_by};
 ghost use Rattle.osm_model.specs.Stamped.{stamp_of};
 ghost use Rattle.osm_world.specs.World.{state_of};
@@ -13,7 +14,7 @@ ghost use Rattle.attic_reads.specs.Attic.{AreInOrder};
 
 use history_store::Store;
 use osm_base::Key;
-use osm_element::{Content, Version};
+use osm_element::{Held, Version};
 use osm_world::World;
 
 /// The histories of a world, whose stamps never go back.
@@ -50,9 +51,9 @@ pub fn last_of(versions: &[Version]) -> Option<&Version>
 }
 
 /// What an element held at a stamp, where it was visible.
-pub fn content_at(store: &Store, key: Key, at: u64) -> Option<&Content<u64>>
+pub fn content_at(store: &Store, key: Key, at: u64) -> Option<Held<'_>>
     requires { AreInOrder store.now.elements }
-    ensures { option_copied result ≡ content_of (elements_by at store.now.elements) key }
+    ensures { option_map held_content result ≡ content_of (elements_by at store.now.elements) key }
 {
     match last_of(versions_at(store, key, at)) {
         Some(version) => version.content(),

@@ -5,12 +5,13 @@
 //! map does.
 ghost use Rattle.std.specs.Prelude.{◌≡◌, [], ◌∷◌, map, None, option_to_list};
 ghost use Rattle.osm_element.specs.Elements.{key, key_of_member, position_in, refs, refs_of};
+ghost use Rattle.osm_element.specs.Held.{held_content};
 ghost use Rattle.changeset_core.specs.Changeset.{touched_area, widen_all, widen_by};
 
 use crate::areas::widened;
 use crate::places::Places;
 use osm_base::{Box7, Key, Kind};
-use osm_element::{Content, Member};
+use osm_element::{Content, Held, Member};
 
 /// The least box of what a new content of an element touches, `None` where it touches nothing.
 pub fn touched_area<P: Places>(places: &P, key: Key, new: &Option<Content<u64>>) -> Option<Box7>
@@ -18,7 +19,7 @@ pub fn touched_area<P: Places>(places: &P, key: Key, new: &Option<Content<u64>>)
 {
     let area = old_area(places, key);
     match new {
-        Some(new) => with_content(places, area, new),
+        Some(new) => with_content(places, area, &new.held()),
         None => area,
     }
 }
@@ -28,19 +29,19 @@ fn old_area<P: Places>(places: &P, key: Key) -> Option<Box7>
     ensures { result ≡ widen_by (P.elements places.now) (widen_by (P.elements places.now) None (key ∷ [])) (refs_of (P.elements places.now) key) }
 {
     match places.content_of(key) {
-        Some(content) => with_content(places, None, content),
+        Some(content) => with_content(places, None, &content),
         None => None,
     }
 }
 
 /// The box with the place of a content, or with those of what it lists.
-fn with_content<P: Places>(places: &P, area: Option<Box7>, content: &Content<u64>) -> Option<Box7>
-    ensures { result ≡ widen_all (widen_by (P.elements places.now) area (refs content.now)) (option_to_list (position_in content.now)) }
+fn with_content<P: Places>(places: &P, area: Option<Box7>, content: &Held<'_>) -> Option<Box7>
+    ensures { result ≡ widen_all (widen_by (P.elements places.now) area (refs (held_content content.now))) (option_to_list (position_in (held_content content.now))) }
 {
     match content {
-        Content::Node(at) => widened(area, *at),
-        Content::Way(nodes) => with_nodes(places, area, nodes.items()),
-        Content::Relation(members) => with_members(places, area, members.items()),
+        Held::Node(at) => widened(area, *at),
+        Held::Way(nodes) => with_nodes(places, area, nodes),
+        Held::Relation(members) => with_members(places, area, members),
     }
 }
 

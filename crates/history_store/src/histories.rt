@@ -1,5 +1,6 @@
 //! The versions of one element, with promised room.
-ghost use Rattle.std.specs.Prelude.{◌≡◌, ◌∷◌, [], ◌++◌, ◌+◌, ◌-◌, ◌<◌, ◌≤◌, length, is_ok, if◌then◌else◌, IfOk};
+ghost use Rattle.std.specs.Prelude.{◌≡◌, ◌∷◌, [], ◌++◌, ◌+◌, ◌-◌, ◌<◌, ◌≤◌, ◌^◌, length, is_ok, if◌then◌else◌, IfOk};
+ghost use Rattle.std.specs.Option.{ForSome};
 ghost use Rattle.osm_element.specs.Elements.{mark_in};
 ghost use Rattle.history_store.specs.History.{row_of};
 
@@ -119,6 +120,7 @@ impl History {
     pub fn mark(&mut self, alloc: Global, number: usize, redaction: Option<u64>)
         requires counted { 0 < number }
         requires made { number ≤ length self.old.items }
+        requires small { ForSome redaction (λ number. number < 2 ^ 32) }
         ensures { self.new ≡ record self.old { items = mark_in self.old.items number redaction } }
     {
         let place = mem::replace(&mut self.place, Place::Empty);
@@ -200,6 +202,7 @@ fn released(place: Place, less: usize) -> Place
 fn marked(alloc: Global, place: Place, number: usize, redaction: Option<u64>) -> Place
     requires counted { 0 < number }
     requires made { number ≤ length (row_of place).items }
+    requires small { ForSome redaction (λ number. number < 2 ^ 32) }
     ensures { row_of result ≡ record (row_of place) { items = mark_in (row_of place).items number redaction } }
 {
     match place {
@@ -224,6 +227,7 @@ fn vacant(alloc: Global) -> Version {
 fn mark_row(alloc: Global, row: &mut Roomy<Version>, number: usize, redaction: Option<u64>)
     requires counted { 0 < number }
     requires made { number ≤ length row.old.items }
+    requires small { ForSome redaction (λ number. number < 2 ^ 32) }
     ensures { row.new ≡ record row.old { items = mark_in row.old.items number redaction } }
 {
     let mut version = row.replace(number - 1, vacant(alloc));

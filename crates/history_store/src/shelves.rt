@@ -1,5 +1,6 @@
 //! The histories of one kind, with promised room.
 ghost use Rattle.std.specs.Prelude.{◌≡◌, ℕ, ◌==◌, ◌+◌, ◌-◌, ◌<◌, ◌≤◌, [], length, slice_get, slice_set, slice_index, slice_index_or, option_copied, OnOk, OnErr, is_ok, if◌then◌else◌, ◌^◌};
+ghost use Rattle.std.specs.Option.{ForSome};
 ghost use Rattle.osm_element.specs.Elements.{add_version, history_in, mark_in};
 ghost use Rattle.history_store.specs.Shelf.{HasMore};
 
@@ -149,6 +150,7 @@ impl Shelf {
         requires there { place < length self.old.histories }
         requires counted { 0 < number }
         requires made { number ≤ length (slice_index_or self.old.histories place []) }
+        requires small { ForSome redaction (λ number. number < 2 ^ 32) }
         ensures histories { self.new.histories
             ≡ slice_set self.old.histories place (mark_in (slice_index_or self.old.histories place []) number redaction) }
         ensures free { self.new.free ≡ self.old.free }

@@ -1,5 +1,6 @@
 //! The histories of all elements, with promised room.
 ghost use Rattle.std.specs.Prelude.{◌≡◌, ◌≤◌, ◌<◌, ◌+◌, ◌^◌, if◌then◌else◌, All, OnOk, OnErr, option_copied};
+ghost use Rattle.std.specs.Option.{ForSome};
 ghost use Rattle.osm_base.specs.Key.{key_eq};
 ghost use Rattle.osm_base.specs.declared.keys.Key.{Key};
 ghost use Rattle.osm_element.specs.Elements.{key, next_id, history, count, version, current, position, push_version, mark};
@@ -7,7 +8,7 @@ ghost use Rattle.history_store.specs.Store.{empty, free, wanted};
 
 use crate::shelves::Shelf;
 use osm_base::{Coord, Key, Kind, Memory, Steps};
-use osm_element::{Content, Version};
+use osm_element::Version;
 use std::alloc::Global;
 use std::marker::Model;
 use std::sync::ledger::Ledger;
@@ -113,10 +114,7 @@ impl Store {
         ensures { result ≡ position self.now.elements key }
     {
         match self.current(key) {
-            Some(version) => match version.content() {
-                Some(Content::Node(at)) => Some(*at),
-                _ => None,
-            },
+            Some(version) => version.position(),
             None => None,
         }
     }
@@ -214,6 +212,7 @@ impl Store {
     pub fn mark(&mut self, alloc: Global, key: Key, number: u64, redaction: Option<u64>)
         requires counted { 0 < number }
         requires made { number ≤ count self.old.elements key }
+        requires small { ForSome redaction (λ number. number < 2 ^ 32) }
         ensures elements { self.new.elements ≡ mark self.old.elements key number redaction }
         ensures room { self.new.room ≡ self.old.room }
     {

@@ -1,5 +1,6 @@
 //! The elements with their users and their cells, kept in step.
 ghost use Rattle.std.specs.Prelude.{◌≡◌, true, ◌^◌, ◌+◌, ◌<◌, ◌≤◌, ◌&&◌, not, if◌then◌else◌, OnOk};
+ghost use Rattle.std.specs.Option.{ForSome};
 ghost use Rattle.osm_base.specs.Key.{key_eq, lists_key, IsRising};
 ghost use Rattle.osm_base.specs.Place.{Position};
 ghost use Rattle.osm_base.specs.declared.keys.Key.{Key};
@@ -20,7 +21,7 @@ use crate::usage::{begin_uses, current_content, end_uses, held_last};
 use changeset_core::{Places, touched_area};
 use history_store::Store;
 use osm_base::{Box7, Coord, Key, Kind, Memory};
-use osm_element::{Content, Version};
+use osm_element::{Content, Held, Version};
 use reverse_refs::{UserIndex, UserList};
 use std::alloc::Global;
 use std::marker::Model;
@@ -173,6 +174,7 @@ impl IndexedMap {
     pub fn mark(&mut self, alloc: Global, key: Key, number: u64, redaction: Option<u64>)
         requires counted { 0 < number }
         requires made { number ≤ count self.old.elements key }
+        requires small { ForSome redaction (λ number. number < 2 ^ 32) }
         ensures { self.new.elements ≡ mark self.old.elements key number redaction }
     {
         self.store.mark(alloc, key, number, redaction);
@@ -194,7 +196,7 @@ impl IndexedMap {
     {
         let versions = self.store.history(key);
         move_node(&self.store, versions, &mut self.grid, key, &version);
-        end_uses(&mut self.users, key, held_last(versions), listed);
+        end_uses(&mut self.users, key, &held_last(versions), listed);
         begin_uses(&mut self.users, key, listed);
         self.store.push_version(key, version);
     }
@@ -207,7 +209,7 @@ impl Places for IndexedMap {
         self.store.place_of(key)
     }
 
-    fn content_of(&self, key: Key) -> Option<&Content<u64>> {
+    fn content_of(&self, key: Key) -> Option<Held<'_>> {
         current_content(&self.store, key)
     }
 }

@@ -17,7 +17,7 @@ ghost use Rattle.indexed_map.specs.Placed.{lies, enters, share_cell, IsPlaced};
 use crate::usage::held_last;
 use history_store::Store;
 use osm_base::{Coord, Key, Kind};
-use osm_element::{Content, Version};
+use osm_element::Version;
 use tile_grid::{Cell, Grid};
 
 /// A node leaves the cell of a position, if there is one.
@@ -83,7 +83,7 @@ fn last_place(versions: &[Version]) -> Option<Coord>
     let mut place = versions.len();
     while place > 0 {
         place -= 1;
-        if let Some(at) = new_position(&versions[place]) {
+        if let Some(at) = versions[place].position() {
             return Some(at);
         }
     }
@@ -95,18 +95,8 @@ fn current_place(versions: &[Version]) -> Option<Coord>
     ensures { result ≡ option_and_then position_in (option_and_then (λ v. v.content) (version_in versions.now (length versions.now))) }
 {
     match held_last(versions) {
-        Some(Content::Node(at)) => Some(*at),
-        _ => None,
-    }
-}
-
-/// Where a version places its node.
-fn new_position(version: &Version) -> Option<Coord>
-    ensures { result ≡ new_position version.now.content }
-{
-    match version.content() {
-        Some(Content::Node(at)) => Some(*at),
-        _ => None,
+        Some(held) => held.position(),
+        None => None,
     }
 }
 
@@ -145,7 +135,7 @@ pub fn move_node(store: &Store, versions: &[Version], grid: &mut Grid, key: Key,
 {
     if key.kind.is(Kind::Node) {
         let from = current_place(versions);
-        let to = new_position(version);
+        let to = version.position();
         if !share_cell(&from, &to) {
             leave(grid, key.id, from);
             let last = last_place(versions);

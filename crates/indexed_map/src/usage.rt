@@ -1,15 +1,16 @@
 //! Uses of elements that begin and end with a version.
-ghost use Rattle.std.specs.Prelude.{◌≡◌, false, ◌+◌, ◌<◌, ◌≤◌, ◌&&◌, ◌||◌, not, length, if◌then◌else◌, option_copied, option_and_then};
+ghost use Rattle.std.specs.Prelude.{◌≡◌, false, ◌+◌, ◌<◌, ◌≤◌, ◌&&◌, ◌||◌, not, length, if◌then◌else◌, option_map, option_and_then};
 ghost use Rattle.std.specs.List.{list_any};
 ghost use Rattle.osm_base.specs.Key.{key_eq, lists_key, insert_key, without_key, IsRising};
 ghost use Rattle.osm_base.specs.declared.keys.Key.{Key};
 ghost use Rattle.osm_element.specs.Elements.{key, key_of_member, refs, refs_in, content_of, version_in};
+ghost use Rattle.osm_element.specs.Held.{held_content};
 ghost use Rattle.reverse_refs.specs.Users.{users_in, past_in, knows, free_in};
 ghost use Rattle.indexed_map.specs.Indexed.{times_unknown};
 
 use history_store::Store;
 use osm_base::{Key, Kind, is_listed};
-use osm_element::{Content, Member, Version};
+use osm_element::{Held, Member, Version};
 use reverse_refs::{Pair, UserIndex};
 
 /// An element no longer uses another, unless that is still listed. It stays among those that did.
@@ -61,32 +62,32 @@ fn end_member_uses(users: &mut UserIndex, user: Key, members: &[Member<u64>], li
 
 /// An element no longer uses what its content lists, unless that is still listed.
 #[tactic(auto, using(osm_element::proofs::Listed::lists_node_mapped, osm_element::proofs::Listed::lists_member_mapped))]
-fn end_uses_in(users: &mut UserIndex, user: Key, content: &Content<u64>, listed: &[Key])
+fn end_uses_in(users: &mut UserIndex, user: Key, content: &Held<'_>, listed: &[Key])
     requires { IsRising listed.now }
     ensures users { (a b : Key)
         → lists_key (users_in users.new b) a
-        ≡ lists_key (users_in users.old b) a && not (lists_key (refs content.now) b && (key_eq user a && not (lists_key listed.now b))) }
+        ≡ lists_key (users_in users.old b) a && not (lists_key (refs (held_content content.now)) b && (key_eq user a && not (lists_key listed.now b))) }
     ensures past { (a b : Key)
         → lists_key (past_in users.new b) a
-        ≡ lists_key (past_in users.old b) a || (lists_key (users_in users.old b) a && (lists_key (refs content.now) b && (key_eq user a && not (lists_key listed.now b)))) }
+        ≡ lists_key (past_in users.old b) a || (lists_key (users_in users.old b) a && (lists_key (refs (held_content content.now)) b && (key_eq user a && not (lists_key listed.now b)))) }
     ensures room { (b : Key) → free_in users.new b ≡ free_in users.old b }
 {
     match content {
-        Content::Node(_) => {}
-        Content::Way(nodes) => end_node_uses(users, user, nodes.items(), listed),
-        Content::Relation(members) => end_member_uses(users, user, members.items(), listed),
+        Held::Node(_) => {}
+        Held::Way(nodes) => end_node_uses(users, user, nodes, listed),
+        Held::Relation(members) => end_member_uses(users, user, members, listed),
     }
 }
 
 /// An element no longer uses what it held, if it was visible, unless that is still listed.
-pub fn end_uses(users: &mut UserIndex, user: Key, held: Option<&Content<u64>>, listed: &[Key])
+pub fn end_uses(users: &mut UserIndex, user: Key, held: &Option<Held<'_>>, listed: &[Key])
     requires { IsRising listed.now }
     ensures users { (a b : Key)
         → lists_key (users_in users.new b) a
-        ≡ lists_key (users_in users.old b) a && not (lists_key (refs_in (option_copied held.entry)) b && (key_eq user a && not (lists_key listed.now b))) }
+        ≡ lists_key (users_in users.old b) a && not (lists_key (refs_in (option_map held_content held.now)) b && (key_eq user a && not (lists_key listed.now b))) }
     ensures past { (a b : Key)
         → lists_key (past_in users.new b) a
-        ≡ lists_key (past_in users.old b) a || (lists_key (users_in users.old b) a && (lists_key (refs_in (option_copied held.entry)) b && (key_eq user a && not (lists_key listed.now b)))) }
+        ≡ lists_key (past_in users.old b) a || (lists_key (users_in users.old b) a && (lists_key (refs_in (option_map held_content held.now)) b && (key_eq user a && not (lists_key listed.now b)))) }
     ensures room { (b : Key) → free_in users.new b ≡ free_in users.old b }
 {
     if let Some(content) = held {
@@ -95,8 +96,8 @@ pub fn end_uses(users: &mut UserIndex, user: Key, held: Option<&Content<u64>>, l
 }
 
 /// What the last of some versions holds, where it isn't a deletion.
-pub fn held_last(versions: &[Version]) -> Option<&Content<u64>>
-    ensures { option_copied result ≡ option_and_then (λ v. v.content) (version_in versions.now (length versions.now)) }
+pub fn held_last(versions: &[Version]) -> Option<Held<'_>>
+    ensures { option_map held_content result ≡ option_and_then (λ v. v.content) (version_in versions.now (length versions.now)) }
 {
     match versions.last() {
         Some(version) => version.content(),
@@ -105,8 +106,8 @@ pub fn held_last(versions: &[Version]) -> Option<&Content<u64>>
 }
 
 /// What an element holds, where it is visible.
-pub fn current_content(store: &Store, key: Key) -> Option<&Content<u64>>
-    ensures { option_copied result ≡ content_of store.now.elements key }
+pub fn current_content(store: &Store, key: Key) -> Option<Held<'_>>
+    ensures { option_map held_content result ≡ content_of store.now.elements key }
 {
     held_last(store.history(key))
 }

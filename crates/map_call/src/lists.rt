@@ -4,13 +4,14 @@ ghost use Rattle.std.specs.List.{list_any};
 ghost use Rattle.std.specs.List.Sorted.{IsStrictlyIncreasing};
 ghost use Rattle.osm_base.specs.Key.{key_eq, lists_key};
 ghost use Rattle.osm_element.specs.Elements.{key, key_of_member, refs, refs_of, users};
+ghost use Rattle.osm_element.specs.Held.{held_content};
 ghost use Rattle.osm_model.specs.Selection.{lists};
 ghost use Rattle.osm_world.specs.World.{state_of};
 ghost use Rattle.rising_lists.specs.Ids.{lists_id};
 
 use history_store::Store;
 use osm_base::{Key, Kind, Memory};
-use osm_element::{Content, Member};
+use osm_element::{Held, Member};
 use osm_world::World;
 use rising_lists::has;
 
@@ -154,14 +155,14 @@ fn list_members(members: &[Member<u64>], ids: &mut Vec<u64>) -> Result<(), Memor
 
 /// Adds the nodes that a content lists.
 #[tactic(auto, using(osm_element::proofs::Listed::lists_node_mapped, osm_element::proofs::Listed::lists_member_mapped))]
-fn list_content(content: &Content<u64>, ids: &mut Vec<u64>) -> Result<(), Memory>
+fn list_content(content: &Held<'_>, ids: &mut Vec<u64>) -> Result<(), Memory>
     ensures { OnOk result ((id : ℕ)
-        → lists_id ids.new.items id ≡ lists_id ids.old.items id || lists_key (refs content.now) (key Kind.Node id)) }
+        → lists_id ids.new.items id ≡ lists_id ids.old.items id || lists_key (refs (held_content content.now)) (key Kind.Node id)) }
 {
     match content {
-        Content::Node(_) => Ok(()),
-        Content::Way(nodes) => list_ids(nodes.items(), ids),
-        Content::Relation(members) => list_members(members.items(), ids),
+        Held::Node(_) => Ok(()),
+        Held::Way(nodes) => list_ids(nodes, ids),
+        Held::Relation(members) => list_members(members, ids),
     }
 }
 
@@ -171,7 +172,7 @@ fn list_element(store: &Store, of: Key, ids: &mut Vec<u64>) -> Result<(), Memory
 {
     match store.current(of) {
         Some(version) => match version.content() {
-            Some(content) => list_content(content, ids),
+            Some(content) => list_content(&content, ids),
             None => Ok(()),
         },
         None => Ok(()),

@@ -2,9 +2,9 @@
 use Rattle.std.specs.Prelude.{List, [], Option, None, Some}
 use Rattle.std.specs.Global.{Box}
 use Rattle.osm_element.specs.Tags.{Tag}
-use Rattle.osm_element.specs.declared.labels.MarkedTable.{MarkedTable}
+use Rattle.osm_element.specs.declared.labels.PlacedTable.{PlacedTable}
 
 -- what stands behind the pointer, if it leads anywhere
-abbrev pub tags_in : Option (Box MarkedTable) → List Tag
+abbrev pub tags_in : Option (Box PlacedTable) → List Tag
 tags_in None = []
-tags_in (Some marked) = marked.value.table
+tags_in (Some placed) = placed.value.table

@@ -1,6 +1,8 @@
 pub mod Tags
 pub mod TagLists
 pub mod Labels
+pub mod Held
+pub mod Noted
 pub mod Version
 pub mod Elements
 pub mod Later

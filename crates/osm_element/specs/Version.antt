@@ -1,9 +1,11 @@
 -- One version of an element, and how it is held.
-use Rattle.std.specs.Prelude.{ℕ, Bool, if◌then◌else◌, List, [], Option, None, Some}
+use Rattle.std.specs.Prelude.{ℕ, List, [], Option, None, Some}
 use Rattle.osm_element.specs.Tags.{Tag}
 use Rattle.osm_element.specs.declared.contents.Content.{Content}
-use Rattle.osm_element.specs.declared.versions.Labels.{Labels}
-use Rattle.osm_element.specs.declared.versions.Labels.TheVariants.{Bare, Marked, Tagged}
+use Rattle.osm_element.specs.declared.contents.Content.TheVariants as content
+use Rattle.osm_element.specs.declared.forms.Form.{Form}
+use Rattle.osm_element.specs.declared.forms.Form.TheVariants.{Node, TaggedNode, Way, Relation, Deletion, TaggedDeletion}
+use Rattle.osm_element.specs.declared.noted.Noted.{Noted}
 
 -- it is visible where it has a content, and hidden by its redaction where it has one
 pub record Version : Type 0 where
@@ -15,20 +17,26 @@ pub record Version : Type 0 where
 
 -- ---- what is held of it
 
-abbrev pub is_visible : Labels → Bool
-is_visible (Bare visible) = visible
-is_visible (Marked visible redaction) = visible
-is_visible (Tagged visible marked table) = visible
+abbrev pub content_in : Form → Option (Content ℕ)
+content_in (Node noted at) = Some (content.Node at)
+content_in (TaggedNode noted table) = Some (content.Node table.value.at)
+content_in (Way noted nodes) = Some (content.Way nodes.value.items)
+content_in (Relation noted members) = Some (content.Relation members.value.items)
+content_in (Deletion noted) = None
+content_in (TaggedDeletion noted table) = None
 
-abbrev pub tags_of : Labels → List Tag
-tags_of (Bare visible) = []
-tags_of (Marked visible redaction) = []
-tags_of (Tagged visible marked table) = table.value.table
+abbrev pub tags_of : Form → List Tag
+tags_of (Node noted at) = []
+tags_of (TaggedNode noted table) = table.value.table
+tags_of (Way noted nodes) = nodes.value.tags
+tags_of (Relation noted members) = members.value.tags
+tags_of (Deletion noted) = []
+tags_of (TaggedDeletion noted table) = table.value.table
 
-abbrev pub redaction_of : Labels → Option ℕ
-redaction_of (Bare visible) = None
-redaction_of (Marked visible redaction) = Some redaction
-redaction_of (Tagged visible marked table) = if marked then Some table.value.redaction else None
-
-abbrev pub content_in : Labels → Content ℕ → Option (Content ℕ)
-content_in labels content = if is_visible labels then Some content else None
+abbrev pub noted_in : Form → Noted
+noted_in (Node noted at) = noted
+noted_in (TaggedNode noted table) = noted
+noted_in (Way noted nodes) = noted
+noted_in (Relation noted members) = noted
+noted_in (Deletion noted) = noted
+noted_in (TaggedDeletion noted table) = noted

@@ -1,4 +1,8 @@
 //! What elements hold: a position, nodes, members.
+ghost use Rattle.std.specs.Prelude.{◌≡◌};
+ghost use Rattle.osm_element.specs.Elements.{position_in};
+ghost use Rattle.osm_element.specs.Held.{held_content};
+
 use crate::boxed_items::BoxedItems;
 use osm_base::{Coord, Items, Kind, Memory, Text, TryCopy};
 use std::alloc::Global;
@@ -44,6 +48,39 @@ impl<N: TryCopy + Drop> TryCopy for Content<N> {
             Content::Node(at) => Ok(Content::Node(*at)),
             Content::Way(nodes) => Ok(Content::Way(nodes.copy(alloc)?)),
             Content::Relation(members) => Ok(Content::Relation(members.copy(alloc)?)),
+        }
+    }
+}
+
+/// What a version holds, borrowed from it.
+#[derive(Clone, Copy)]
+pub enum Held<'a> {
+    Node(Coord),
+    Way(&'a [u64]),
+    Relation(&'a [Member<u64>]),
+}
+
+impl Held<'_> {
+    /// Where it lies, if it is a node.
+    pub fn position(&self) -> Option<Coord>
+        ensures { result ≡ position_in (held_content self.now) }
+    {
+        match self {
+            Held::Node(at) => Some(*at),
+            Held::Way(_) | Held::Relation(_) => None,
+        }
+    }
+}
+
+impl Content<u64> {
+    /// The same, borrowed.
+    pub fn held(&self) -> Held<'_>
+        ensures { held_content result ≡ self.now }
+    {
+        match self {
+            Content::Node(at) => Held::Node(*at),
+            Content::Way(nodes) => Held::Way(nodes.items()),
+            Content::Relation(members) => Held::Relation(members.items()),
         }
     }
 }

@@ -1,5 +1,6 @@
 //! Versions that are added and marked.
-ghost use Rattle.std.specs.Prelude.{◌≡◌, ◌-◌, ◌<◌, ◌≤◌, length, slice_set, OnOk, OnErr};
+ghost use Rattle.std.specs.Prelude.{◌≡◌, ◌-◌, ◌<◌, ◌≤◌, ◌^◌, length, slice_set, OnOk, OnErr};
+ghost use Rattle.std.specs.Option.{ForSome};
 ghost use Rattle.osm_element.specs.Elements.{history_in, count, add_version, push_version, mark_in, mark};
 
 use crate::elements::{Elements, History};
@@ -27,6 +28,7 @@ impl Elements {
     pub fn mark(&mut self, key: Key, number: u64, redaction: Option<u64>)
         requires first { 0 < number }
         requires made { number ≤ count self.old key }
+        requires small { ForSome redaction (λ number. number < 2 ^ 32) }
         ensures { self.new ≡ mark self.old key number redaction }
     {
         match key.kind {
@@ -65,6 +67,7 @@ fn mark_of(histories: &mut Items<History>, id: u64, number: u64, redaction: Opti
     requires given { id ≤ length histories.old }
     requires first { 0 < number }
     requires made { number ≤ length (history_in histories.old id) }
+    requires small { ForSome redaction (λ number. number < 2 ^ 32) }
     ensures { histories.new ≡ slice_set histories.old (id - 1) (mark_in (history_in histories.old id) number redaction) }
 {
     mark_version(histories.item_mut(id as usize - 1), number, redaction);
@@ -74,6 +77,7 @@ fn mark_of(histories: &mut Items<History>, id: u64, number: u64, redaction: Opti
 fn mark_version(history: &mut History, number: u64, redaction: Option<u64>)
     requires counted { 0 < number }
     requires made { number ≤ length history.old }
+    requires small { ForSome redaction (λ number. number < 2 ^ 32) }
     ensures { history.new ≡ mark_in history.old number redaction }
 {
     history.item_mut(number as usize - 1).mark(redaction);

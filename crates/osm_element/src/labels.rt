@@ -1,11 +1,11 @@
 //! Tags, in one text and one list of ends behind a pointer.
-ghost use Rattle.std.specs.Prelude.{◌≡◌, ◌↔◌, ◌<◌, ◌∷◌, [], ◌++◌, Some, None, if◌then◌else◌, length, get_or, map, IfOk, IfSome, IsSome, IsTrue};
+ghost use Rattle.std.specs.Prelude.{◌≡◌, ◌↔◌, ◌<◌, ◌∷◌, [], ◌++◌, Some, None, length, get_or, map, IfOk, IfSome, IsSome, IsTrue};
 ghost use Rattle.std.specs.Ordering.{is_lt, nat_cmp};
 ghost use Rattle.std.specs.Cmp.Lexicographic.{slice_cmp};
 ghost use Rattle.osm_element.specs.Tags.{KeysRise, cut, start_at, AreEnds};
 ghost use Rattle.osm_element.specs.Labels.{tags_in};
 
-use osm_base::{Memory, Text, TryCopy};
+use osm_base::{Coord, Memory, Text, TryCopy};
 use std::alloc::Global;
 use std::marker::Model;
 
@@ -90,21 +90,21 @@ impl TryCopy for Table {
     }
 }
 
-/// A table, with room beside it for the number of a redaction: a version is marked without memory.
+/// A table, with room beside it for a position: a node with tags takes one block of memory for both.
 #[derive(Drop)]
-pub(crate) struct MarkedTable {
+pub(crate) struct PlacedTable {
     pub(crate) table: Table,
-    pub(crate) redaction: u64,
+    pub(crate) at: Coord,
 }
 
-impl MarkedTable {
-    /// A table that no redaction marks.
-    fn of(table: Table) -> MarkedTable
+impl PlacedTable {
+    /// A table that stands for no node yet.
+    fn of(table: Table) -> PlacedTable
         ensures { result.table ≡ table }
     {
-        MarkedTable {
+        PlacedTable {
             table,
-            redaction: 0,
+            at: nowhere(),
         }
     }
 
@@ -114,24 +114,21 @@ impl MarkedTable {
         self.table.list()
     }
 
-    /// The redaction, where there is one.
-    pub(crate) fn redaction_if(&self, marked: bool) -> Option<u64>
-        ensures { result ≡ (if marked then Some self.now.redaction else None) }
-    {
-        if marked { Some(self.redaction) } else { None }
-    }
-
     /// An equal one in a box of its own.
-    pub(crate) fn copy_boxed(&self, alloc: Global) -> Result<Box<MarkedTable>, Memory>
+    pub(crate) fn copy_boxed(&self, alloc: Global) -> Result<Box<PlacedTable>, Memory>
         ensures { IfOk result (λ copy. copy.value ≡ self.now) }
     {
         let table = self.table.copy(alloc)?;
-        let marked = MarkedTable {
-            table,
-            redaction: self.redaction,
-        };
-        Ok(Box::new(alloc, marked)?)
+        Ok(Box::new(alloc, PlacedTable { table, at: self.at })?)
     }
+}
+
+/// What stands where there is no position.
+fn nowhere() -> Coord {
+    let Some(at) = Coord::new(0, 0) else {
+        unreachable!()
+    };
+    at
 }
 
 /// Tags, borrowed from what has them. The keys rise there.
@@ -201,7 +198,7 @@ pub struct Tags {
     /// It takes no room, and makes the table of the first tag.
     alloc: Global,
     /// Most elements have no tags, and so no table. A version has it as it stands here.
-    table: Option<Box<MarkedTable>>,
+    table: Option<Box<PlacedTable>>,
 }
 
 impl Model for Tags {
@@ -234,7 +231,7 @@ impl Tags {
         if count == 0 {
             return Ok(Tags::none(alloc));
         }
-        let table = MarkedTable::of(Table::with_room(alloc, count, bytes)?);
+        let table = PlacedTable::of(Table::with_room(alloc, count, bytes)?);
         let table = Box::new(alloc, table)?;
         Ok(Tags {
             alloc,
@@ -276,13 +273,13 @@ impl Tags {
         ensures { result ≡ self.now }
     {
         match &self.table {
-            Some(marked) => marked.list(),
+            Some(placed) => placed.list(),
             None => TagList::none(),
         }
     }
 
     /// What stands behind the pointer, without a copy.
-    pub(crate) fn into_table(self) -> Option<Box<MarkedTable>>
+    pub(crate) fn into_table(self) -> Option<Box<PlacedTable>>
         ensures { tags_in result ≡ self }
     {
         self.table
@@ -319,38 +316,38 @@ impl TryCopy for Tags {
 }
 
 /// The table, or a new one where there is none.
-fn table_of(alloc: Global, table: Option<Box<MarkedTable>>) -> Result<Box<MarkedTable>, Memory>
+fn table_of(alloc: Global, table: Option<Box<PlacedTable>>) -> Result<Box<PlacedTable>, Memory>
     ensures { IfOk result (λ made. made.value.table ≡ tags_in table) }
 {
     match table {
         Some(table) => Ok(table),
-        None => Ok(Box::new(alloc, MarkedTable::of(Table::none(alloc)))?),
+        None => Ok(Box::new(alloc, PlacedTable::of(Table::none(alloc)))?),
     }
 }
 
 /// The table with one more pair, in the same box.
 fn with_pair(
     alloc: Global,
-    mut table: Box<MarkedTable>,
+    mut table: Box<PlacedTable>,
     key: &str,
     value: &str,
-) -> Result<Box<MarkedTable>, Memory>
+) -> Result<Box<PlacedTable>, Memory>
     ensures { IfOk result (λ more. more.value.table ≡ table.value.table ++ (key.now, value.now) ∷ []) }
 {
-    let marked = Box::replace(&mut table, MarkedTable::of(Table::none(alloc)));
-    let more = marked.table.with(key, value)?;
-    *table = MarkedTable::of(more);
+    let placed = Box::replace(&mut table, PlacedTable::of(Table::none(alloc)));
+    let more = placed.table.with(key, value)?;
+    *table = PlacedTable::of(more);
     Ok(table)
 }
 
 fn copy_table(
     alloc: Global,
-    table: &Option<Box<MarkedTable>>,
-) -> Result<Option<Box<MarkedTable>>, Memory>
+    table: &Option<Box<PlacedTable>>,
+) -> Result<Option<Box<PlacedTable>>, Memory>
     ensures { IfOk result (λ copy. tags_in copy ≡ tags_in table.now) }
 {
     match table {
-        Some(marked) => Ok(Some(marked.copy_boxed(alloc)?)),
+        Some(placed) => Ok(Some(placed.copy_boxed(alloc)?)),
         None => Ok(None),
     }
 }

@@ -1,8 +1,9 @@
 //! Versions that are looked up.
-ghost use Rattle.std.specs.Prelude.{◌≡◌, ◌<◌, ◌^◌, option_copied};
+ghost use Rattle.std.specs.Prelude.{◌≡◌, ◌<◌, ◌^◌, option_copied, option_map};
 ghost use Rattle.osm_element.specs.Elements.{histories, next_id, history_in, history, count, version, current, content_of, is_visible, position};
+ghost use Rattle.osm_element.specs.Held.{held_content};
 
-use crate::contents::Content;
+use crate::contents::Held;
 use crate::elements::{Elements, History};
 use crate::versions::Version;
 use osm_base::{Coord, Key, Kind};
@@ -59,8 +60,8 @@ impl Elements {
     }
 
     /// What the element holds, where it is visible.
-    pub fn content(&self, key: Key) -> Option<&Content<u64>>
-        ensures { option_copied result ≡ content_of self.now key }
+    pub fn content(&self, key: Key) -> Option<Held<'_>>
+        ensures { option_map held_content result ≡ content_of self.now key }
     {
         match self.current(key) {
             Some(version) => version.content(),
@@ -79,9 +80,9 @@ impl Elements {
     pub fn position(&self, key: Key) -> Option<Coord>
         ensures { result ≡ position self.now key }
     {
-        match self.content(key) {
-            Some(Content::Node(at)) => Some(*at),
-            _ => None,
+        match self.current(key) {
+            Some(version) => version.position(),
+            None => None,
         }
     }
 }

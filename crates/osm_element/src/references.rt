@@ -3,8 +3,9 @@ ghost use Rattle.std.specs.Prelude.{◌≡◌, map, IfOk};
 ghost use Rattle.std.specs.List.{list_any};
 ghost use Rattle.osm_base.specs.Key.{key_eq, lists_key};
 ghost use Rattle.osm_element.specs.Elements.{key, key_of_member, refs, refs_of};
+ghost use Rattle.osm_element.specs.Held.{held_content};
 
-use crate::contents::{Content, Member};
+use crate::contents::{Held, Member};
 use crate::elements::Elements;
 use osm_base::{Key, Kind, Memory};
 use std::alloc::{AllocError, Global};
@@ -21,27 +22,27 @@ impl Member<u64> {
     }
 }
 
-impl Content<u64> {
+impl Held<'_> {
     /// The elements that a content lists, in list order, as often as it lists them.
     pub fn refs(&self, alloc: Global) -> Result<Vec<Key>, Memory>
-        ensures { IfOk result (λ made. made.items ≡ refs self.now) }
+        ensures { IfOk result (λ made. made.items ≡ refs (held_content self.now)) }
     {
         match self {
-            Content::Node(_) => Ok(Vec::new(alloc)),
-            Content::Way(nodes) => Ok(node_keys(alloc, nodes.items())?),
-            Content::Relation(members) => Ok(member_keys(alloc, members.items())?),
+            Held::Node(_) => Ok(Vec::new(alloc)),
+            Held::Way(nodes) => Ok(node_keys(alloc, nodes)?),
+            Held::Relation(members) => Ok(member_keys(alloc, members)?),
         }
     }
 
     /// Whether a content lists the element.
     #[tactic(auto, using(crate::proofs::Listed::lists_node_mapped, crate::proofs::Listed::lists_member_mapped))]
     pub fn lists(&self, used: Key) -> bool
-        ensures { result ≡ lists_key (refs self.now) used }
+        ensures { result ≡ lists_key (refs (held_content self.now)) used }
     {
         match self {
-            Content::Node(_) => false,
-            Content::Way(nodes) => lists_node(nodes.items(), used),
-            Content::Relation(members) => lists_member(members.items(), used),
+            Held::Node(_) => false,
+            Held::Way(nodes) => lists_node(nodes, used),
+            Held::Relation(members) => lists_member(members, used),
         }
     }
 }

@@ -1,6 +1,7 @@
 //! The parts of an element's row, as bytes.
 ghost use Rattle.std.specs.Prelude.{◌<◌, [], ◌∷◌, length, drop, map, flat_map, codes};
 ghost use Rattle.serde_json.specs.Written.{compact_text};
+ghost use Rattle.osm_element.specs.Held.{held_content};
 ghost use Rattle.osm_element.specs.declared.contents.Content.{Content};
 ghost use Rattle.osm_element.specs.declared.contents.Content.TheVariants as contents;
 ghost use Rattle.osm_json.specs.Shown.{field, natural};
@@ -10,7 +11,7 @@ ghost use Rattle.osm_json.specs.Rows.{reference as reference_data, content_field
 use crate::body::Body;
 use crate::send::kind_name;
 use osm_base::Coord;
-use osm_element::{Content, Member, TagList, Version};
+use osm_element::{Held, Member, TagList, Version};
 use std::alloc::AllocError;
 
 fn position(out: &mut Body, at: Coord) -> Result<(), AllocError>
@@ -83,13 +84,13 @@ fn references(out: &mut Body, list: &[Member<u64>]) -> Result<(), AllocError>
     Ok(())
 }
 
-fn content(out: &mut Body, content: &Content<u64>) -> Result<(), AllocError>
-    ensures { AddsFields result out.old out.new (content_fields content.now) }
+fn content(out: &mut Body, content: &Held<'_>) -> Result<(), AllocError>
+    ensures { AddsFields result out.old out.new (content_fields (held_content content.now)) }
 {
     match content {
-        Content::Node(at) => position(out, *at),
-        Content::Way(ids) => nodes(out, ids.items()),
-        Content::Relation(list) => references(out, list.items()),
+        Held::Node(at) => position(out, *at),
+        Held::Way(ids) => nodes(out, ids),
+        Held::Relation(list) => references(out, list),
     }
 }
 
@@ -99,7 +100,7 @@ pub(crate) fn visible(out: &mut Body, version: &Version) -> Result<(), AllocErro
 {
     match version.content() {
         None => Ok(()),
-        Some(shown) => content(out, shown),
+        Some(shown) => content(out, &shown),
     }
 }
 

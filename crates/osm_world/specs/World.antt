@@ -1,5 +1,5 @@
 -- What a world stands for, and the room that it has.
-use Rattle.std.specs.Prelude.{◌≡◌, ⊤, ℕ, false, ◌+◌, ◌-◌, ◌≤◌, ◌<◌, ◌==◌, List, [], ◌++◌, length, slice_index, Option, Ok}
+use Rattle.std.specs.Prelude.{◌≡◌, ⊤, ℕ, false, ◌+◌, ◌-◌, ◌≤◌, ◌<◌, ◌==◌, ◌^◌, List, [], ◌++◌, length, slice_index, Option, Ok}
 use Rattle.osm_base.specs.Place.{Area, Position}
 use Rattle.osm_base.specs.declared.keys.Key.{Key}
 use Rattle.osm_change.specs.declared.operations.Op.{Op}
@@ -68,6 +68,8 @@ pub record HasUploadRoom (s : Stores) (laid : Laid) (c : ℕ) (ops : List Op) : 
   pub users : (b : Key) → begun s.map.elements laid.beds b ≤ free_in s.map.users b
   pub cells : (p : Position) → entered ops p ≤ free_at s.map.cells p
   pub work : length ops ≤ slice_index (rooms s.changesets.items) (c - 1)
+  -- a version has room for its number
+  pub short : c < 2 ^ 32
 
 -- a command needs no memory
 abbrev pub HasRoomFor : Stores → Laid → Command → Type 0
@@ -77,7 +79,7 @@ HasRoomFor s laid (command.CloseChangeset c) = ⊤
 HasRoomFor s laid (command.Upload c ops) = HasUploadRoom s laid c ops
 HasRoomFor s laid (command.Single c ops) = HasUploadRoom s laid c ops
 HasRoomFor s laid (command.MakeRedaction title) = 0 < s.redactions.free
-HasRoomFor s laid (command.Redact k n redaction) = ⊤
+HasRoomFor s laid (command.Redact k n redaction) = redaction < 2 ^ 32
 HasRoomFor s laid (command.Unredact k n) = ⊤
 
 abbrev pub HasRoom : Parts → Command → Type 0

@@ -17,6 +17,7 @@ use changeset_core::{Changeset, Redactions};
 use indexed_map::IndexedMap;
 use osm_base::{Box7, Items, Memory, Roomy, Stamp, User};
 use osm_change::Op;
+use osm_element::check_number;
 use osm_model::Command;
 use std::alloc::Global;
 
@@ -99,6 +100,7 @@ impl Stores {
         ensures others { (i : ℕ) → (i + 1 == changeset) ≡ false → slice_index (rooms self.new.changesets.items) i
             ≤ slice_index (rooms self.old.changesets.items) i }
     {
+        check_number(changeset)?;
         promise_work(alloc, &mut self.changesets, changeset, operations.len())?;
         *laid = lay_all(alloc, &mut self.map, operations)?;
         Ok(())

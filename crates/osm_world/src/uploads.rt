@@ -2,7 +2,7 @@
 //!
 //! An entry is applied operation by operation over the present world, which tells then which uses
 //! end and begin and whether a delete is skipped. So what is laid by can be read off the entry.
-ghost use Rattle.std.specs.Prelude.{◌≡◌, ℕ, true, ◌+◌, ◌-◌, ◌≤◌, ◌<◌, ◌∷◌, ◌++◌, [], length, map, drop, Some, None, if◌then◌else◌};
+ghost use Rattle.std.specs.Prelude.{◌≡◌, ℕ, true, ◌+◌, ◌-◌, ◌≤◌, ◌<◌, ◌^◌, ◌∷◌, ◌++◌, [], length, map, drop, Some, None, if◌then◌else◌};
 ghost use Rattle.osm_base.specs.Key.{key_eq};
 ghost use Rattle.osm_base.specs.Place.{Position};
 ghost use Rattle.osm_base.specs.declared.keys.Key.{Key};
@@ -106,6 +106,8 @@ fn make_version(
     requires listed { IsListOf fresh.content listed.now }
     requires room { HasRoom map.old key listed.now (new_position fresh.content) }
     requires work { 0 < changeset.old.free }
+    requires short { changeset.old.id < 2 ^ 32 }
+    requires timely { at < 2 ^ 40 }
     ensures touched { result ≡ touched_area map.old.elements key fresh.content }
     ensures elements { map.new.elements ≡ push_version map.old.elements key (version_of changeset.old.id at fresh.content fresh.tags) }
     ensures entered { changeset.new
@@ -176,6 +178,8 @@ fn apply_one(
     requires places { HasPlacesFor operation bed.places }
     requires room { HasRoom map.old bed.key bed.listed (place_of_op operation) }
     requires work { 0 < changeset.old.free }
+    requires short { changeset.old.id < 2 ^ 32 }
+    requires timely { at < 2 ^ 40 }
     ensures touched { result ≡ (if makes map.old.elements bed.key operation then touched_area map.old.elements bed.key (content_of_op keys.now operation) else None) }
     ensures elements { map.new.elements
         ≡ (if makes map.old.elements bed.key operation then push_version map.old.elements bed.key (version_of_op changeset.old.id at keys.now operation) else map.old.elements) }
@@ -234,6 +238,8 @@ pub fn apply_all(
     requires users { (b : Key) → begun map.old.elements laid.old.beds b ≤ free_in map.old.users b }
     requires cells { (p : Position) → entered operations p ≤ free_at map.old.cells p }
     requires work { length operations ≤ changeset.old.free }
+    requires short { changeset.old.id < 2 ^ 32 }
+    requires timely { at < 2 ^ 40 }
     ensures done { (final : Progress) → Runs map.old.elements changeset.old.id at operations final
         → IsDone map.new.elements changeset.old.kept changeset.new.kept result final }
     ensures id { changeset.new.id ≡ changeset.old.id }

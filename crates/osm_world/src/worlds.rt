@@ -24,6 +24,7 @@ use history_store::Store;
 use indexed_map::IndexedMap;
 use osm_base::{Key, Memory, Roomy, Stamp, User};
 use osm_change::{Op, Refusal};
+use osm_element::check_number;
 use osm_model::{
     Command, Entry, entries_keep_maps, moments_are_bounded, points_are_consistent,
     versions_are_attributed, versions_are_stamped_in_order,
@@ -198,8 +199,9 @@ impl World {
     }
 
     /// Makes room for an entry. After Ok it can be done without memory where the rules accept it;
-    /// an entry that they never accept may be refused here. `Memory` leaves the map as it was, and
-    /// the call may be made again. What an earlier call laid by is dropped.
+    /// an entry that they never accept may be refused here, and one of a changeset or a redaction
+    /// with a number from 2^32 on is, since a version has no room for that. `Memory` leaves the map
+    /// as it was, and the call may be made again. What an earlier call laid by is dropped.
     pub fn make_room(&mut self, alloc: Global, entry: &Entry) -> Result<(), Memory>
         ensures same { state_of self.new ≡ state_of self.old }
         ensures ok { OnOk result (HasRoom self.new entry.now.command) }
@@ -214,10 +216,10 @@ impl World {
                 self.lay_by(alloc, *changeset, change.change().operations())
             }
             Command::MakeRedaction { .. } => self.stores.redactions.room(),
-            Command::Retag { .. }
-            | Command::CloseChangeset { .. }
-            | Command::Redact { .. }
-            | Command::Unredact { .. } => Ok(()),
+            Command::Redact { redaction, .. } => check_number(*redaction),
+            Command::Retag { .. } | Command::CloseChangeset { .. } | Command::Unredact { .. } => {
+                Ok(())
+            }
         }
     }
 

@@ -3,12 +3,13 @@
 //! What an accepted command changes is an `Alteration` in the plain program, the last stamp aside:
 //! it is judged on a state that stays as it is, and taken only once its answer has its last form.
 //! An edit is what a request asks for (`Edit` of api_desk).
-ghost use Rattle.std.specs.Prelude.{◌≡◌, ◌-◌, OnOk, OnErr, slice_get, Some};
+ghost use Rattle.std.specs.Prelude.{◌≡◌, ◌-◌, ◌^◌, ◌<◌, OnOk, OnErr, slice_get, Some};
+ghost use Rattle.std.specs.Option.{ForSome};
 ghost use Rattle.plain_model.specs.Alteration.{state_after, CanTake};
 
 use changeset_core::{ChangesetRecord, Work};
 use osm_base::{Box7, Items, Key, Memory, Stamp, Text};
-use osm_element::{Elements, Tags};
+use osm_element::{Elements, Tags, check_number};
 use osm_model::State;
 
 /// What an accepted command changes, the last stamp aside.
@@ -82,8 +83,19 @@ pub fn take_alteration(state: &mut State, alteration: Alteration) -> Result<(), 
             version,
             redaction,
         } => {
+            check_mark(redaction)?;
             state.elements.mark(key, version, redaction);
             Ok(())
         }
+    }
+}
+
+/// A version has no room for the number of every redaction.
+fn check_mark(redaction: Option<u64>) -> Result<(), Memory>
+    ensures { OnOk result (ForSome redaction (λ number. number < 2 ^ 32)) }
+{
+    match redaction {
+        Some(number) => check_number(number),
+        None => Ok(()),
     }
 }

@@ -8,7 +8,7 @@ use crate::uploads::UploadTask;
 use changeset_core::{join_boxes, touched_area};
 use osm_base::{Key, Kind, Memory, TryCopy};
 use osm_change::{Name, OpDone, Refusal, kind_of};
-use osm_element::{Content, Elements, Tags, Version};
+use osm_element::{Content, Elements, Tags, Version, check_number, check_stamp};
 use osm_model::{Fault, Progress};
 use std::alloc::Global;
 
@@ -23,6 +23,8 @@ pub fn apply(
 ) -> Result<(), Memory>
     ensures { IfOk result (λ _. progress.new ≡ applied upload.now progress.old key content tags) }
 {
+    check_number(upload.changeset)?;
+    check_stamp(upload.stamp)?;
     let version = progress.elements.count(key) + 1;
     let touched = touched_area(&progress.elements, key, &content);
     let made = Version::new(content, tags, upload.changeset, upload.stamp);

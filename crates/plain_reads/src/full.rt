@@ -3,6 +3,7 @@ ghost use Rattle.std.specs.Prelude.{◌≡◌, ◌++◌, Bool, map, filter, if�
 ghost use Rattle.osm_base.specs.Key.{lists_key};
 ghost use Rattle.osm_base.specs.declared.keys.Key.{Key};
 ghost use Rattle.osm_element.specs.Elements.{key, key_of_member, keys, refs, refs_of};
+ghost use Rattle.osm_element.specs.Held.{held_content};
 ghost use Rattle.osm_model.specs.Reads.{current_shown, full, in_full, is_way};
 ghost use Rattle.plain_reads.specs.Read.{IsRead, way_refs};
 
@@ -10,7 +11,7 @@ use crate::elements::one;
 use crate::lists::{given_keys_once, shown_keys};
 use osm_base::{Items, Key, Kind, Memory};
 use osm_change::{ReadFault, VersionId};
-use osm_element::{Content, Elements, Member};
+use osm_element::{Elements, Held, Member};
 use std::alloc::Global;
 
 /// An element with what it lists, and with the nodes of the ways that it lists, in the order of
@@ -53,18 +54,18 @@ pub fn add_way_refs(elements: &Elements, key: Key, found: &mut Vec<Key>) -> Resu
         return Ok(());
     }
     match elements.content(key) {
-        Some(content) => add_refs(content, found),
+        Some(content) => add_refs(&content, found),
         None => Ok(()),
     }
 }
 
-fn add_refs(content: &Content<u64>, found: &mut Vec<Key>) -> Result<(), Memory>
-    ensures { IfOk result (λ _. found.new.items ≡ found.old.items ++ refs content.now) }
+fn add_refs(content: &Held<'_>, found: &mut Vec<Key>) -> Result<(), Memory>
+    ensures { IfOk result (λ _. found.new.items ≡ found.old.items ++ refs (held_content content.now)) }
 {
     match content {
-        Content::Node(_) => Ok(()),
-        Content::Way(nodes) => add_nodes(nodes.items(), found),
-        Content::Relation(members) => add_members(members.items(), found),
+        Held::Node(_) => Ok(()),
+        Held::Way(nodes) => add_nodes(nodes, found),
+        Held::Relation(members) => add_members(members, found),
     }
 }
 

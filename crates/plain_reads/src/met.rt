@@ -4,13 +4,14 @@ ghost use Rattle.std.specs.List.{list_any};
 ghost use Rattle.std.specs.List.Sorted.{IsStrictlyIncreasing};
 ghost use Rattle.osm_base.specs.Key.{kind_eq, key_eq, lists_key};
 ghost use Rattle.osm_element.specs.Elements.{key, key_of_member, refs};
+ghost use Rattle.osm_element.specs.Held.{held_content};
 ghost use Rattle.osm_model.specs.Selection.{lists, is_inside, nodes_within};
 ghost use Rattle.rising_lists.specs.Ids.{lists_id};
 ghost use Rattle.plain_reads.specs.Met.{ways_listing, nodes_with_listed, relations_listing, relations_with_listing};
 
 use crate::lists::{add_id, given_once};
 use osm_base::{Box7, Key, Kind, Memory};
-use osm_element::{Content, Elements, Member};
+use osm_element::{Elements, Held, Member};
 use rising_lists::has;
 use std::alloc::Global;
 
@@ -74,14 +75,14 @@ fn relation_lists(members: &[Member<u64>], kind: Kind, ids: &[u64]) -> bool
 
 /// Whether a content lists one of some elements of a kind.
 #[tactic(auto, using(crate::proofs::Meets::way_meets, crate::proofs::Meets::relation_meets, crate::proofs::Meets::none_meets))]
-fn content_lists(content: &Content<u64>, kind: Kind, ids: &[u64]) -> bool
+fn content_lists(content: &Held<'_>, kind: Kind, ids: &[u64]) -> bool
     requires { IsStrictlyIncreasing ids.now }
-    ensures { result ≡ list_any (λ n. lists_key (refs content.now) (key kind n)) ids.now }
+    ensures { result ≡ list_any (λ n. lists_key (refs (held_content content.now)) (key kind n)) ids.now }
 {
     match content {
-        Content::Node(_) => false,
-        Content::Way(nodes) => Kind::Node.is(kind) && way_lists(nodes.items(), ids),
-        Content::Relation(members) => relation_lists(members.items(), kind, ids),
+        Held::Node(_) => false,
+        Held::Way(nodes) => Kind::Node.is(kind) && way_lists(nodes, ids),
+        Held::Relation(members) => relation_lists(members, kind, ids),
     }
 }
 
@@ -92,7 +93,7 @@ fn lists_one(elements: &Elements, user: Key, kind: Kind, ids: &[u64]) -> bool
     ensures { result ≡ list_any (λ n. lists elements.now user (key kind n)) ids.now }
 {
     match elements.content(user) {
-        Some(content) => content_lists(content, kind, ids),
+        Some(content) => content_lists(&content, kind, ids),
         None => false,
     }
 }
@@ -204,14 +205,14 @@ fn list_nodes(nodes: &[u64], ids: &mut Vec<u64>) -> Result<(), Memory>
 
 /// Adds the nodes that a content lists.
 #[tactic(auto, using(crate::proofs::Meets::lists_nodes, crate::proofs::Meets::lists_members))]
-fn list_content(content: &Content<u64>, ids: &mut Vec<u64>) -> Result<(), Memory>
+fn list_content(content: &Held<'_>, ids: &mut Vec<u64>) -> Result<(), Memory>
     ensures { OnOk result ((id : ℕ)
-        → lists_id ids.new.items id ≡ lists_id ids.old.items id || lists_key (refs content.now) (key Kind.Node id)) }
+        → lists_id ids.new.items id ≡ lists_id ids.old.items id || lists_key (refs (held_content content.now)) (key Kind.Node id)) }
 {
     match content {
-        Content::Node(_) => Ok(()),
-        Content::Way(nodes) => list_nodes(nodes.items(), ids),
-        Content::Relation(members) => list_members(members.items(), ids),
+        Held::Node(_) => Ok(()),
+        Held::Way(nodes) => list_nodes(nodes, ids),
+        Held::Relation(members) => list_members(members, ids),
     }
 }
 
@@ -219,7 +220,7 @@ fn list_way(elements: &Elements, way: Key, ids: &mut Vec<u64>) -> Result<(), Mem
     ensures { OnOk result ((id : ℕ) → lists_id ids.new.items id ≡ lists_id ids.old.items id || lists elements.now way (key Kind.Node id)) }
 {
     match elements.content(way) {
-        Some(content) => list_content(content, ids),
+        Some(content) => list_content(&content, ids),
         None => Ok(()),
     }
 }

@@ -1,6 +1,7 @@
 //! One element: as it is, at a version, its history.
-ghost use Rattle.std.specs.Prelude.{◌≡◌, ◌++◌, ◌∷◌, [], filter, map, option_copied, IfOk};
+ghost use Rattle.std.specs.Prelude.{◌≡◌, ◌++◌, ◌∷◌, [], filter, map, option_map, IfOk};
 ghost use Rattle.osm_element.specs.Elements.{content_of};
+ghost use Rattle.osm_element.specs.Held.{held_content};
 ghost use Rattle.osm_model.specs.Reads.{one, numbered, hidden, is_shown, history_of, shown, current_shown};
 ghost use Rattle.rising_lists.specs.Ids.{ids_to};
 ghost use Rattle.osm_world.specs.World.{state_of};
@@ -9,7 +10,7 @@ ghost use Rattle.read_calls.specs.Read.{IsRead};
 use history_store::Store;
 use osm_base::{Items, Key, Memory};
 use osm_change::{ReadFault, VersionId};
-use osm_element::{Content, Version};
+use osm_element::{Held, Version};
 use osm_world::World;
 use std::alloc::Global;
 
@@ -24,8 +25,8 @@ pub fn current(store: &Store, key: Key) -> VersionId
 }
 
 /// What an element holds, where it is visible.
-pub fn content(store: &Store, key: Key) -> Option<&Content<u64>>
-    ensures { option_copied result ≡ content_of store.now.elements key }
+pub fn content(store: &Store, key: Key) -> Option<Held<'_>>
+    ensures { option_map held_content result ≡ content_of store.now.elements key }
 {
     match store.current(key) {
         Some(version) => version.content(),

@@ -5,6 +5,7 @@ ghost use Rattle.std.specs.Prelude.{◌≡◌, ◌++◌, if◌then◌else◌, []
 ghost use Rattle.osm_base.specs.Key.{lists_key};
 ghost use Rattle.osm_base.specs.declared.keys.Key.{Key};
 ghost use Rattle.osm_element.specs.Elements.{key, key_of_member, keys, is_visible, refs, refs_of, IsConsistent};
+ghost use Rattle.osm_element.specs.Held.{held_content};
 ghost use Rattle.osm_model.specs.Reads.{current_shown, full, in_full, is_way, way_refs};
 ghost use Rattle.osm_world.specs.World.{state_of};
 ghost use Rattle.read_calls.specs.Read.{IsRead};
@@ -13,7 +14,7 @@ use crate::elements::{content, current, one};
 use history_store::Store;
 use osm_base::{Items, Key, Kind, Memory};
 use osm_change::{ReadFault, VersionId};
-use osm_element::{Content, Member};
+use osm_element::{Held, Member};
 use osm_world::World;
 use rising_lists::keys_sorted_once;
 use std::alloc::Global;
@@ -91,18 +92,18 @@ fn add_refs_of(store: &Store, key: Key, found: &mut Vec<Key>) -> Result<(), Memo
     ensures { IfOk result (λ _. found.new.items ≡ found.old.items ++ refs_of store.now.elements key) }
 {
     match content(store, key) {
-        Some(content) => add_refs(content, found),
+        Some(content) => add_refs(&content, found),
         None => Ok(()),
     }
 }
 
-fn add_refs(content: &Content<u64>, found: &mut Vec<Key>) -> Result<(), Memory>
-    ensures { IfOk result (λ _. found.new.items ≡ found.old.items ++ refs content.now) }
+fn add_refs(content: &Held<'_>, found: &mut Vec<Key>) -> Result<(), Memory>
+    ensures { IfOk result (λ _. found.new.items ≡ found.old.items ++ refs (held_content content.now)) }
 {
     match content {
-        Content::Node(_) => Ok(()),
-        Content::Way(nodes) => add_nodes(nodes.items(), found),
-        Content::Relation(members) => add_members(members.items(), found),
+        Held::Node(_) => Ok(()),
+        Held::Way(nodes) => add_nodes(nodes, found),
+        Held::Relation(members) => add_members(members, found),
     }
 }
 

@@ -1,7 +1,7 @@
 //! Whether the nodes of each cell are those that lie there on the plain map, and those that ever lay
 //! there.
 use osm_base::{Box7, Coord, Key, Kind, Memory};
-use osm_element::{Content, Elements, Version};
+use osm_element::{Elements, Version};
 use osm_world::World;
 use std::alloc::Global;
 use tile_grid::Cell;
@@ -82,9 +82,9 @@ impl Cells {
             self.seen.push(id)?;
         }
         for version in history {
-            if let Some(Content::Node(at)) = version.content() {
-                self.lain.push(place_of(*at, id))?;
-                self.ever.push(place_of(*at, 0))?;
+            if let Some(at) = version.position() {
+                self.lain.push(place_of(at, id))?;
+                self.ever.push(place_of(at, 0))?;
             }
         }
         Ok(())

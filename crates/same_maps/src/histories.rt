@@ -1,7 +1,7 @@
 //! Whether the histories of both maps are the same.
 use crate::same::{Same, are_same};
 use osm_base::{Key, Kind};
-use osm_element::{Content, Elements, Member, TagList, Version};
+use osm_element::{Elements, Held, Member, TagList, Version};
 use osm_world::World;
 
 const KINDS: [Kind; 3] = [Kind::Node, Kind::Way, Kind::Relation];
@@ -37,18 +37,16 @@ impl Same<Version> for Version {
             && self.stamp() == other.stamp()
             && self.redaction() == other.redaction()
             && are_tags_same(&self.tags(), &other.tags())
-            && is_content_same(self.content(), other.content())
+            && is_content_same(&self.content(), &other.content())
     }
 }
 
-fn is_content_same(plain: Option<&Content<u64>>, came: Option<&Content<u64>>) -> bool {
+fn is_content_same(plain: &Option<Held<'_>>, came: &Option<Held<'_>>) -> bool {
     match (plain, came) {
         (None, None) => true,
-        (Some(Content::Node(at)), Some(Content::Node(other))) => *at == *other,
-        (Some(Content::Way(nodes)), Some(Content::Way(others))) => nodes.items() == others.items(),
-        (Some(Content::Relation(members)), Some(Content::Relation(others))) => {
-            are_same(members.items(), others.items())
-        }
+        (Some(Held::Node(at)), Some(Held::Node(other))) => *at == *other,
+        (Some(Held::Way(nodes)), Some(Held::Way(others))) => *nodes == *others,
+        (Some(Held::Relation(members)), Some(Held::Relation(others))) => are_same(members, others),
         _ => false,
     }
 }

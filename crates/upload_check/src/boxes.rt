@@ -1,9 +1,10 @@
 //! The box of what an operation touches, on the map as those before it left it.
-ghost use Rattle.std.specs.Prelude.{◌≡◌, List, [], ◌∷◌, ◌++◌, None, Some, IfSome, false, if◌then◌else◌, filter_map, option_copied, option_to_list, slice_get};
+ghost use Rattle.std.specs.Prelude.{◌≡◌, List, [], ◌∷◌, ◌++◌, None, Some, IfSome, false, if◌then◌else◌, filter_map, option_map, option_to_list, slice_get};
 ghost use Rattle.std.specs.Option.{option_map_or};
 ghost use Rattle.osm_base.specs.Key.{key_eq};
 ghost use Rattle.osm_base.specs.declared.keys.Key.{Key};
 ghost use Rattle.osm_element.specs.Elements.{refs_in};
+ghost use Rattle.osm_element.specs.Held.{held_content};
 ghost use Rattle.osm_element.specs.declared.contents.Content.TheVariants as content;
 ghost use Rattle.changeset_core.specs.Changeset.{new_position, widen_all};
 ghost use Rattle.osm_world.specs.Beds.{content_of_op};
@@ -14,7 +15,7 @@ use crate::sights::{View, stored};
 use crate::standings::Holds;
 use osm_base::{Box7, Coord, Key};
 use osm_change::Op;
-use osm_element::Content;
+use osm_element::{Content, Held};
 
 /// The place that an operation gives its element, if that is a node.
 fn place_given(operation: &Op) -> Option<Coord>
@@ -58,13 +59,13 @@ impl Moved {
 }
 
 /// What a content that an operation replaces is moved from, if it is a node's.
-fn moved_from(content: Option<&Content<u64>>, to: Coord) -> Option<Moved>
-    ensures listed { IfSome result (λ moved. refs_in (option_copied content.entry) ≡ []) }
-    ensures from { IfSome result (λ moved. moved.from ≡ new_position (option_copied content.entry)) }
+fn moved_from(content: &Option<Held<'_>>, to: Coord) -> Option<Moved>
+    ensures listed { IfSome result (λ moved. refs_in (option_map held_content content.now) ≡ []) }
+    ensures from { IfSome result (λ moved. moved.from ≡ new_position (option_map held_content content.now)) }
     ensures to { IfSome result (λ moved. moved.to ≡ to) }
 {
     match content {
-        Some(Content::Node(from)) => Some(Moved {
+        Some(Held::Node(from)) => Some(Moved {
             from: Some(*from),
             to,
         }),
@@ -106,7 +107,7 @@ impl<'a> View<'a> {
         ensures to { IfSome result (λ moved. moved.to ≡ to) }
     {
         match holds {
-            Holds::AsBefore => moved_from(stored(self.world, key), to),
+            Holds::AsBefore => moved_from(&stored(self.world, key), to),
             _ => None,
         }
     }

@@ -69,7 +69,7 @@ fn add_stored(world: &World, kind: Kind, name: Name, listed: &mut Vec<Key>) -> R
 {
     match name.referent() {
         Referent::Old(id) => match stored(world, Key { kind, id }) {
-            Some(content) => add_refs(content, listed),
+            Some(content) => add_refs(&content, listed),
             None => Ok(()),
         },
         Referent::New(_) => Ok(()),

@@ -6,13 +6,14 @@ ghost use Rattle.std.specs.Prelude.{◌≡◌, ◌++◌, map, OnOk};
 ghost use Rattle.std.specs.List.{list_any};
 ghost use Rattle.osm_base.specs.Key.{key_eq, lists_key};
 ghost use Rattle.osm_element.specs.Elements.{key, key_of_member, refs, refs_in};
+ghost use Rattle.osm_element.specs.Held.{held_content};
 ghost use Rattle.osm_change.specs.Keys.{id_of};
 ghost use Rattle.osm_model.specs.Names.{with_ids};
 ghost use Rattle.osm_world.specs.Beds.{content_of_op};
 
 use osm_base::{Key, Kind, Memory};
 use osm_change::{Name, Op};
-use osm_element::{Content, Member};
+use osm_element::{Content, Held, Member};
 
 fn is_node(keys: &[Key], name: Name, used: Key) -> bool
     ensures { result ≡ key_eq (key Kind.Node (id_of keys.now name)) used }
@@ -130,12 +131,12 @@ fn add_member_ids(members: &[Member<u64>], listed: &mut Vec<Key>) -> Result<(), 
 }
 
 /// Adds what a stored content lists, in list order.
-pub fn add_refs(content: &Content<u64>, listed: &mut Vec<Key>) -> Result<(), Memory>
-    ensures { OnOk result (listed.new.items ≡ listed.old.items ++ refs content.now) }
+pub fn add_refs(content: &Held<'_>, listed: &mut Vec<Key>) -> Result<(), Memory>
+    ensures { OnOk result (listed.new.items ≡ listed.old.items ++ refs (held_content content.now)) }
 {
     match content {
-        Content::Node(_) => Ok(()),
-        Content::Way(nodes) => add_node_ids(nodes.items(), listed),
-        Content::Relation(members) => add_member_ids(members.items(), listed),
+        Held::Node(_) => Ok(()),
+        Held::Way(nodes) => add_node_ids(nodes, listed),
+        Held::Relation(members) => add_member_ids(members, listed),
     }
 }

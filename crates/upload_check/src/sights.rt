@@ -1,8 +1,9 @@
 //! The map as some operations left it.
-ghost use Rattle.std.specs.Prelude.{◌≡◌, ◌++◌, List, take, filter, slice_get, option_copied, option_map, OnOk};
+ghost use Rattle.std.specs.Prelude.{◌≡◌, ◌++◌, List, take, filter, slice_get, option_map, OnOk};
 ghost use Rattle.osm_base.specs.Key.{lists_key};
 ghost use Rattle.osm_base.specs.declared.keys.Key.{Key};
 ghost use Rattle.osm_element.specs.Elements.{content_of, position_in, refs_in};
+ghost use Rattle.osm_element.specs.Held.{held_content};
 ghost use Rattle.osm_world.specs.Beds.{content_of_op};
 ghost use Rattle.osm_world.specs.World.{state_of};
 ghost use Rattle.upload_check.specs.Checks.{least_where, least_user};
@@ -16,7 +17,7 @@ use crate::references::{add_given, add_refs, op_lists};
 use crate::standings::{Holds, Standing, standing_in};
 use osm_base::{Coord, Key, Kind, Memory};
 use osm_change::{Name, Op};
-use osm_element::Content;
+use osm_element::{Content, Held};
 use osm_world::World;
 use std::marker::Model;
 
@@ -39,8 +40,8 @@ impl<'a> Model for View<'a> {
 }
 
 /// What an element held before the upload.
-pub fn stored(world: &World, key: Key) -> Option<&Content<u64>>
-    ensures { option_copied result ≡ content_of (state_of world.now).elements key }
+pub fn stored(world: &World, key: Key) -> Option<Held<'_>>
+    ensures { option_map held_content result ≡ content_of (state_of world.now).elements key }
 {
     match world.store().current(key) {
         Some(version) => version.content(),
@@ -49,8 +50,8 @@ pub fn stored(world: &World, key: Key) -> Option<&Content<u64>>
 }
 
 /// Whether a content lists an element.
-fn stored_lists(content: Option<&Content<u64>>, used: Key) -> bool
-    ensures { result ≡ lists_key (refs_in (option_copied content.entry)) used }
+fn stored_lists(content: &Option<Held<'_>>, used: Key) -> bool
+    ensures { result ≡ lists_key (refs_in (option_map held_content content.now)) used }
 {
     match content {
         Some(content) => content.lists(used),
@@ -59,12 +60,11 @@ fn stored_lists(content: Option<&Content<u64>>, used: Key) -> bool
 }
 
 /// Where what a content is of lies, if it is visible: nowhere, if it is no node.
-fn seen_stored(content: Option<&Content<u64>>) -> Option<Option<Coord>>
-    ensures { result ≡ option_map position_in (option_copied content.entry) }
+fn seen_stored(content: &Option<Held<'_>>) -> Option<Option<Coord>>
+    ensures { result ≡ option_map position_in (option_map held_content content.now) }
 {
     match content {
-        Some(Content::Node(at)) => Some(Some(*at)),
-        Some(Content::Way(_) | Content::Relation(_)) => Some(None),
+        Some(held) => Some(held.position()),
         None => None,
     }
 }
@@ -127,7 +127,7 @@ impl<'a> View<'a> {
         ensures { result ≡ place_seen self.now key }
     {
         match holds {
-            Holds::AsBefore => seen_stored(stored(self.world, key)),
+            Holds::AsBefore => seen_stored(&stored(self.world, key)),
             Holds::Nothing => None,
             Holds::FromOperation(place) => match self.operations.get(place as usize) {
                 Some(operation) => seen_given(operation),
@@ -158,7 +158,7 @@ impl<'a> View<'a> {
         ensures { result ≡ lists_key (refs_in (content_now self.now user)) used }
     {
         match self.holds(user) {
-            Holds::AsBefore => stored_lists(stored(self.world, user), used),
+            Holds::AsBefore => stored_lists(&stored(self.world, user), used),
             Holds::Nothing => false,
             Holds::FromOperation(place) => match self.operations.get(place as usize) {
                 Some(operation) => op_lists(self.keys_before(place), operation, used),
@@ -174,7 +174,7 @@ impl<'a> View<'a> {
     {
         match holds {
             Holds::AsBefore => match stored(self.world, user) {
-                Some(content) => add_refs(content, listed),
+                Some(content) => add_refs(&content, listed),
                 None => Ok(()),
             },
             Holds::Nothing => Ok(()),

@@ -6,7 +6,7 @@ use super::{alice, tells};
 use crate::labels::labels;
 use osm_base::{Box7, Coord, Items, Key, Kind, Memory, Owner, Stamp, Text};
 use osm_change::{Answer, ElementRow, ElementRows};
-use osm_element::{BoxedItems, Content, Member, Tags, Version};
+use osm_element::{BoxedItems, Content, Member, Tags, Version, check_number};
 use row_lines::Tally;
 use std::alloc::Global;
 
@@ -206,7 +206,10 @@ fn version(alloc: Global, shown: &Shown) -> Result<Version, Memory> {
     };
     let content = content(alloc, &shown.shape)?;
     let mut version = Version::new(content, tags, 1, Stamp(1_700_000_000));
-    version.mark(shown.redaction);
+    if let Some(number) = shown.redaction {
+        check_number(number)?;
+        version.mark(Some(number));
+    }
     Ok(version)
 }
 

@@ -35,6 +35,6 @@ returns-in-Some c =
 pub loop-place-preserved : goal.loop-place-preserved
 loop-place-preserved c = record {
   within = omega arith;
-  none_later = sym (place-before c.args.versions.now c.loop-place.place c.index-versions-place.result None c.loop-place-test.true c.loop-place.invariant.within (sym c.in_default.is ∙ c.new_position.ensures ∙ at c.index-versions-place.is))
+  none_later = sym (place-before c.args.versions.now c.loop-place.place c.index-versions-place.result None c.loop-place-test.true c.loop-place.invariant.within (sym c.in_default.is ∙ c.position.ensures ∙ at c.index-versions-place.is))
       ∙ c.loop-place.invariant.none_later;
 }

@@ -13,7 +13,7 @@ leave-requires c =
 
 pub arrive-requires-clause-left : goal.arrive-requires-clause-left
 arrive-requires-clause-left c =
-    may_come_back c.args.store.now.elements c.args.grid.now c.leave.new.grid c.args.key c.current_place-from.result c.last_place-last.result c.new_position-to.result
+    may_come_back c.args.store.now.elements c.args.grid.now c.leave.new.grid c.args.key c.current_place-from.result c.last_place-last.result c.position-to.result
     (sym c.if-is.ensures)
     c.requires.ever
     (c.last_place-last.ensures ∙ ap (λ (vs : List Version). last_place None (map (λ (v : Version). v.content) vs)) c.requires.versions)
@@ -23,47 +23,47 @@ arrive-requires-clause-left c =
 
 pub returns-then-not-share_cell-clause-placed : goal.returns-then-not-share_cell-clause-placed
 returns-then-not-share_cell-clause-placed c =
-    moved c.args.store.now.elements c.args.grid.now c.leave.new.grid c.arrive.new.grid c.args.key c.args.version.now c.current_place-from.result c.new_position-to.result
+    moved c.args.store.now.elements c.args.grid.now c.leave.new.grid c.arrive.new.grid c.args.key c.args.version.now c.current_place-from.result c.position-to.result
     (sym c.if-is.ensures)
     c.requires.counted
     c.requires.follows
     c.requires.placed
     (c.current_place-from.ensures ∙ ap (λ (vs : List Version). option_and_then position_in (option_and_then (λ (v : Version). v.content) (version_in vs (length vs)))) c.requires.versions)
-    c.new_position-to.ensures
+    c.position-to.ensures
     c.leave.ensures.nodes
     c.arrive.ensures.nodes
 
 pub returns-then-not-share_cell-clause-ever : goal.returns-then-not-share_cell-clause-ever
 returns-then-not-share_cell-clause-ever c =
-    moved_ever c.args.store.now.elements c.args.grid.now c.leave.new.grid c.arrive.new.grid c.args.key c.args.version.now c.last_place-last.result c.new_position-to.result
+    moved_ever c.args.store.now.elements c.args.grid.now c.leave.new.grid c.arrive.new.grid c.args.key c.args.version.now c.last_place-last.result c.position-to.result
     (sym c.if-is.ensures)
     c.requires.counted
     c.requires.follows
     c.requires.ever
     (c.last_place-last.ensures ∙ ap (λ (vs : List Version). last_place None (map (λ (v : Version). v.content) vs)) c.requires.versions)
-    c.new_position-to.ensures
+    c.position-to.ensures
     c.leave.ensures.ever
     c.arrive.ensures.ever
 
 pub returns-else-not-share_cell-clause-placed : goal.returns-else-not-share_cell-clause-placed
 returns-else-not-share_cell-clause-placed c =
-    stayed c.args.store.now.elements c.args.grid.now c.args.key c.args.version.now c.current_place-from.result c.new_position-to.result
+    stayed c.args.store.now.elements c.args.grid.now c.args.key c.args.version.now c.current_place-from.result c.position-to.result
     c.requires.counted
     c.requires.follows
     c.requires.placed
     (c.current_place-from.ensures ∙ ap (λ (vs : List Version). option_and_then position_in (option_and_then (λ (v : Version). v.content) (version_in vs (length vs)))) c.requires.versions)
-    c.new_position-to.ensures
+    c.position-to.ensures
     (sym c.if-not-share_cell.ensures)
 
 pub returns-else-not-share_cell-clause-ever : goal.returns-else-not-share_cell-clause-ever
 returns-else-not-share_cell-clause-ever c =
-    stayed_ever c.args.store.now.elements c.args.grid.now c.args.key c.args.version.now c.current_place-from.result c.new_position-to.result
+    stayed_ever c.args.store.now.elements c.args.grid.now c.args.key c.args.version.now c.current_place-from.result c.position-to.result
     (sym c.if-is.ensures)
     c.requires.counted
     c.requires.follows
     c.requires.ever
     (c.current_place-from.ensures ∙ ap (λ (vs : List Version). option_and_then position_in (option_and_then (λ (v : Version). v.content) (version_in vs (length vs)))) c.requires.versions)
-    c.new_position-to.ensures
+    c.position-to.ensures
     (sym c.if-not-share_cell.ensures)
 
 pub returns-else-is-clause-placed : goal.returns-else-is-clause-placed

@@ -1,8 +1,9 @@
 use Rattle.std.proofs.Common.{◌≡◌, ◌+◌, ◌≤◌, ◌&&◌, ◌||◌, ℕ, true, List, length, sym, ap, ◌∙◌, subst, arith}
-use Rattle.std.specs.Prelude.{not, Option, option_copied, option_and_then}
+use Rattle.std.specs.Prelude.{not, Option, option_map, option_and_then}
 use Rattle.osm_base.specs.Key.{key_eq, lists_key}
 use Rattle.osm_base.specs.declared.keys.Key.{Key}
 use Rattle.osm_element.specs.Elements.{content_of, next_id, refs_in, version_in}
+use Rattle.osm_element.specs.Held.{held_content}
 use Rattle.osm_element.specs.Version.{Version}
 use Rattle.osm_element.specs.declared.contents.Content.{Content}
 use Rattle.osm_element.specs.declared.elements.Elements.{Elements}
@@ -50,7 +51,7 @@ invariant_of-self c =
     let left : UserRows = c.end_uses.new.users in
     let U : Option (Content ℕ) → Type 0 = λ held. (a b : Key) → lists_key (users_in left b) a ≡ lists_key (users_in old b) a && not (lists_key (refs_in held) b && (key_eq c.args.key a && not (lists_key c.args.listed.now b))) in
     let L : Option (Content ℕ) → Type 0 = λ held. (a b : Key) → lists_key (past_in left b) a ≡ lists_key (past_in old b) a || (lists_key (users_in old b) a && (lists_key (refs_in held) b && (key_eq c.args.key a && not (lists_key c.args.listed.now b)))) in
-    let held : option_copied c.held_last.result ≡ content_of c.self.inside.store.elements c.args.key
+    let held : option_map held_content c.held_last.result ≡ content_of c.self.inside.store.elements c.args.key
     = c.held_last.ensures ∙ ap (λ (vs : List Version). option_and_then (λ (v : Version). v.content) (version_in vs (length vs))) c.history-versions.ensures in
     let I : Elements → Type 0 = λ E. IsIndexed E c.begin_uses.new.users in
     let P : Elements → Type 0 = λ E. IsPlaced E c.move_node.new.grid in

@@ -21,6 +21,12 @@ apply_all-touched-requires-clause-work c =
     (index-told (λ (k : Kept). k.free) c.args.self.now.changesets.items (c.args.id - 1) c.replace-kept.result c.replace-kept.ensures.was)
     c.requires.room.work
 
+pub apply_all-touched-requires-clause-short : goal.apply_all-touched-requires-clause-short
+apply_all-touched-requires-clause-short c =
+    let id : c.replace-kept.result.id ≡ c.args.id
+    = id_is c.args.self.now.changesets.items c.args.id c.replace-kept.result c.requires.numbered c.requires.known.0 (there_in c.args.self.now.changesets.items c.args.id c.requires.known.1) c.replace-kept.ensures.was in
+    omega (arith, id, c.requires.room.short)
+
 pub set-requires : goal.set-requires
 set-requires c =
     let within : c.args.id ≤ length c.args.self.now.changesets.items = there_in c.args.self.now.changesets.items c.args.id c.requires.known.1 in
