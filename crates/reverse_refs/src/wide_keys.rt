@@ -52,13 +52,10 @@ impl WideKeys {
         ensures ok { OnOk result (self.new.awaited ≡ self.old.awaited + 1) }
         ensures err { OnErr result (self.new.awaited ≡ self.old.awaited) }
     {
-        let used = self.keys.len() + self.awaited;
-        if used == MOST {
+        if self.keys.len() + self.awaited == MOST {
             return Err(Memory);
         }
-        if used == self.keys.capacity() {
-            self.keys.reserve(self.awaited + 1)?;
-        }
+        self.keys.reserve(self.awaited + 1)?;
         self.awaited += 1;
         Ok(())
     }
