@@ -23,7 +23,7 @@ row_held slots keys (WideOne place) = record no_row { present = key_at keys plac
 row_held slots keys (WideLeft place) = record no_row { past = key_at keys place ∷ [] }
 row_held slots keys (Listed place) = (slot_at slots place).list
 
--- for how many users a row awaits that the index has to have room for wide keys
+-- for how many more wide keys a row wants room: for one where it waits for its first user
 abbrev pub promises : Held → ℕ
 promises Promised = 1
 promises Nothing = 0
@@ -33,7 +33,7 @@ promises (WideOne place) = 0
 promises (WideLeft place) = 0
 promises (Listed place) = 0
 
--- the place behind that of the wide key that a row needs
+-- the place behind that of a row's wide key
 abbrev pub wide_end : Held → ℕ
 wide_end (WideOne place) = place + 1
 wide_end (WideLeft place) = place + 1
@@ -54,7 +54,7 @@ pub record IsAdded (old new : List Key) : Type 0 where
   pub longer : length old ≤ length new
   pub same : (p : ℕ) → p < length old → key_at new p ≡ key_at old p
 
--- each list that a row names is in use, by that row alone; each wide key is there; and as many are awaited as there are promises
+-- each list that a row names is in use, by that row alone; its wide key is there; and there is room for one more for each row that waits
 pub record IsSound (rows : List Held) (slots : List Slot) (wide : WideList) : Type 0 where
   pub used : (i p : ℕ) → held_at rows i ≡ Listed p → (slot_at slots p).is_used ≡ true
   pub apart : (i j p : ℕ) → held_at rows i ≡ Listed p → held_at rows j ≡ Listed p → i ≡ j

@@ -299,6 +299,7 @@ fn list_of(alloc: Global, wide: &WideKeys, held: Held) -> Result<KeyList, Memory
     ensures { IfOk result (λ list. list ≡ with_room (row_held [] wide.now.keys held)) }
 {
     match held {
+        // A row that has a list never comes here: it keeps that.
         Held::Nothing | Held::Listed { .. } => roomy_list(alloc, 1),
         Held::Promised => roomy_list(alloc, 2),
         Held::One { kind, id } => list_of_one(alloc, key_of(kind, id)),
