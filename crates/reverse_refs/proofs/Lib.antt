@@ -1,3 +1,5 @@
+mod OneUser
+mod RowSteps
 mod Rows
 mod Counts
 mod Parts

@@ -4,10 +4,9 @@ ghost use Rattle.reverse_refs.specs.Users.{no_row, IsParted};
 ghost use Rattle.osm_base.specs.Key.{key_eq, lists_key, insert_key, without_key, IsRising};
 ghost use Rattle.osm_base.specs.declared.keys.Key.{Key};
 
-use crate::key_sets::KeySet;
 use crate::user_lists::UserList;
+use crate::user_rows::Rows;
 use osm_base::{Key, Kind, Memory, is_listed};
-use segment_list::Segments;
 use std::alloc::Global;
 use std::marker::Model;
 
@@ -22,9 +21,9 @@ pub struct Pair {
 /// no memory. It has what is added to it: nothing here looks at elements.
 #[derive(Drop)]
 pub struct UserIndex {
-    nodes: Segments<KeySet>,
-    ways: Segments<KeySet>,
-    relations: Segments<KeySet>,
+    nodes: Rows,
+    ways: Rows,
+    relations: Rows,
 }
 
 impl Model for UserIndex {
@@ -45,9 +44,9 @@ impl UserIndex {
         ensures room { (k : Key) → free_in result k ≡ 0 }
     {
         UserIndex {
-            nodes: Segments::new(alloc),
-            ways: Segments::new(alloc),
-            relations: Segments::new(alloc),
+            nodes: Rows::new(alloc),
+            ways: Rows::new(alloc),
+            relations: Rows::new(alloc),
         }
     }
 
@@ -58,9 +57,9 @@ impl UserIndex {
         ensures apart { (k : Key) → lists_key result k ≡ true → lists_key (past_in self.now key) k ≡ false }
     {
         match key.kind {
-            Kind::Node => users_at(&self.nodes, key.id),
-            Kind::Way => users_at(&self.ways, key.id),
-            Kind::Relation => users_at(&self.relations, key.id),
+            Kind::Node => self.nodes.present(key.id as usize),
+            Kind::Way => self.ways.present(key.id as usize),
+            Kind::Relation => self.relations.present(key.id as usize),
         }
     }
 
@@ -70,9 +69,9 @@ impl UserIndex {
         ensures rising { IsRising result }
     {
         match key.kind {
-            Kind::Node => past_at(&self.nodes, key.id),
-            Kind::Way => past_at(&self.ways, key.id),
-            Kind::Relation => past_at(&self.relations, key.id),
+            Kind::Node => self.nodes.past(key.id as usize),
+            Kind::Way => self.ways.past(key.id as usize),
+            Kind::Relation => self.relations.past(key.id as usize),
         }
     }
 
@@ -98,9 +97,9 @@ impl UserIndex {
         ensures { result ≡ knows self.now pair.used pair.user }
     {
         match pair.used.kind {
-            Kind::Node => is_known_at(&self.nodes, pair.used.id, pair.user),
-            Kind::Way => is_known_at(&self.ways, pair.used.id, pair.user),
-            Kind::Relation => is_known_at(&self.relations, pair.used.id, pair.user),
+            Kind::Node => self.nodes.knows(pair.used.id as usize, pair.user),
+            Kind::Way => self.ways.knows(pair.used.id as usize, pair.user),
+            Kind::Relation => self.relations.knows(pair.used.id as usize, pair.user),
         }
     }
 
@@ -155,9 +154,9 @@ impl UserIndex {
     {
         let place = used.id as usize;
         match used.kind {
-            Kind::Node => self.nodes.item_mut(place).release(1),
-            Kind::Way => self.ways.item_mut(place).release(1),
-            Kind::Relation => self.relations.item_mut(place).release(1),
+            Kind::Node => self.nodes.release(place),
+            Kind::Way => self.ways.release(place),
+            Kind::Relation => self.relations.release(place),
         }
     }
 
@@ -186,9 +185,9 @@ impl UserIndex {
     {
         let place = pair.used.id as usize;
         match pair.used.kind {
-            Kind::Node => self.nodes.item_mut(place).add(pair.user),
-            Kind::Way => self.ways.item_mut(place).add(pair.user),
-            Kind::Relation => self.relations.item_mut(place).add(pair.user),
+            Kind::Node => self.nodes.add(place, pair.user),
+            Kind::Way => self.ways.add(place, pair.user),
+            Kind::Relation => self.relations.add(place, pair.user),
         }
     }
 
@@ -203,9 +202,9 @@ impl UserIndex {
     {
         let place = pair.used.id as usize;
         match pair.used.kind {
-            Kind::Node => self.nodes.item_mut(place).come_back(pair.user),
-            Kind::Way => self.ways.item_mut(place).come_back(pair.user),
-            Kind::Relation => self.relations.item_mut(place).come_back(pair.user),
+            Kind::Node => self.nodes.come_back(place, pair.user),
+            Kind::Way => self.ways.come_back(place, pair.user),
+            Kind::Relation => self.relations.come_back(place, pair.user),
         }
     }
 
@@ -220,44 +219,14 @@ impl UserIndex {
     {
         let place = pair.used.id as usize;
         match pair.used.kind {
-            Kind::Node => self.nodes.item_mut(place).leave(pair.user),
-            Kind::Way => self.ways.item_mut(place).leave(pair.user),
-            Kind::Relation => self.relations.item_mut(place).leave(pair.user),
+            Kind::Node => self.nodes.leave(place, pair.user),
+            Kind::Way => self.ways.leave(place, pair.user),
+            Kind::Relation => self.relations.leave(place, pair.user),
         }
     }
 }
 
-fn users_at(rows: &Segments<KeySet>, id: u64) -> UserList<'_>
-    ensures users { result ≡ (slice_index_or rows.now id no_row).present }
-    ensures parted { IsParted result (slice_index_or rows.now id no_row).past }
-{
-    match rows.get(id as usize) {
-        Some(row) => row.present(),
-        None => UserList::none(),
-    }
-}
-
-fn past_at(rows: &Segments<KeySet>, id: u64) -> UserList<'_>
-    ensures past { result ≡ (slice_index_or rows.now id no_row).past }
-    ensures rising { IsRising result }
-{
-    match rows.get(id as usize) {
-        Some(row) => row.past(),
-        None => UserList::none(),
-    }
-}
-
-/// Whether a user stands in either part of a row, which is looked up once.
-fn is_known_at(rows: &Segments<KeySet>, id: u64, user: Key) -> bool
-    ensures { result ≡ lists_key (slice_index_or rows.now id no_row).present user || lists_key (slice_index_or rows.now id no_row).past user }
-{
-    match rows.get(id as usize) {
-        Some(row) => row.knows(user),
-        None => false,
-    }
-}
-
-fn promise_at(alloc: Global, rows: &mut Segments<KeySet>, id: u64) -> Result<(), Memory>
+fn promise_at(alloc: Global, rows: &mut Rows, id: u64) -> Result<(), Memory>
     ensures users { (i : ℕ) → (slice_index_or rows.new i no_row).present ≡ (slice_index_or rows.old i no_row).present }
     ensures past { (i : ℕ) → (slice_index_or rows.new i no_row).past ≡ (slice_index_or rows.old i no_row).past }
     ensures ok { OnOk result ((i : ℕ) → (slice_index_or rows.new i no_row).free
@@ -266,10 +235,10 @@ fn promise_at(alloc: Global, rows: &mut Segments<KeySet>, id: u64) -> Result<(),
 {
     let place = id as usize;
     extend(rows, place)?;
-    rows.item_mut(place).promise(alloc, 1)
+    rows.promise(alloc, place)
 }
 
-fn forget_at(rows: &mut Segments<KeySet>, id: u64)
+fn forget_at(rows: &mut Rows, id: u64)
     ensures users { (i : ℕ) → (slice_index_or rows.new i no_row).present ≡ (slice_index_or rows.old i no_row).present }
     ensures past { (i : ℕ) → (slice_index_or rows.new i no_row).past ≡ (slice_index_or rows.old i no_row).past }
     ensures room { (i : ℕ) → (slice_index_or rows.new i no_row).free
@@ -277,17 +246,17 @@ fn forget_at(rows: &mut Segments<KeySet>, id: u64)
 {
     let place = id as usize;
     if place < rows.len() {
-        rows.item_mut(place).forget();
+        rows.forget(place);
     }
 }
 
 /// Makes empty rows up to a place.
-fn extend(rows: &mut Segments<KeySet>, place: usize) -> Result<(), Memory>
+fn extend(rows: &mut Rows, place: usize) -> Result<(), Memory>
     ensures same { (i : ℕ) → slice_index_or rows.new i no_row ≡ slice_index_or rows.old i no_row }
     ensures ok { OnOk result (place < length rows.new) }
 {
     while rows.len() <= place {
-        rows.push(KeySet::none())?;
+        rows.push_empty()?;
     }
     Ok(())
 }
