@@ -19,6 +19,6 @@ pub use checks::check_local;
 pub use contents::{Content, Member, Members, RawContent, Refs};
 pub use elements::{Elements, History};
 pub use faults::LocalFault;
-pub use labels::{TagList, Tags};
+pub use labels::{Table, TagList, Tags};
 pub use tag_lists::TagLists;
 pub use versions::Version;

@@ -1,0 +1,222 @@
+//! What elements hold. The kind of a content stands elsewhere.
+ghost use Rattle.std.specs.Prelude.{◌≡◌, ◌++◌, OnOk, All};
+ghost use Rattle.std.specs.List.{flat_map};
+ghost use Rattle.osm_base.specs.Place.{IsPosition};
+ghost use Rattle.osm_change.specs.Referents.{Fits};
+ghost use Rattle.packed_entry.specs.Packed.{packed_name, packed_position, packed_member, packed_list, packed_content};
+ghost use Rattle.packed_entry.specs.Read.{Gives, name_at, position_at, member_at, each_at, list_at, content_at};
+ghost use Rattle.packed_entry.specs.Typed.{IsMember, AreAll, IsContent};
+
+use crate::faults::Fault;
+use crate::names::{kind, kind_code, name, name_len, put_name};
+use crate::numbers::{four_bytes, number, number_len, put_number};
+use crate::texts::{put_text, text, text_len};
+use osm_base::{Box7, Coord, Kind, Memory};
+use osm_change::Name;
+use osm_element::{BoxedItems, Content, Member};
+use std::alloc::Global;
+
+// Positions.
+
+/// How many bytes a position takes.
+const POSITION_LEN: usize = 8;
+
+/// That a position lies on the globe is told by the box that holds it alone.
+#[tactic(auto, unfolding(crate::specs::Packed::packed_position))]
+fn put_position(out: &mut Vec<u8>, at: Coord) -> Result<(), Memory>
+    ensures bytes { OnOk result (out.new.items ≡ out.old.items ++ packed_position at) }
+    ensures typed { IsPosition at.lat7 at.lon7 }
+{
+    let _area = Box7::at(at).area();
+    out.extend_from_slice(&at.lat7().to_be_bytes())?;
+    out.extend_from_slice(&at.lon7().to_be_bytes())?;
+    Ok(())
+}
+
+#[tactic(auto, unfolding(crate::specs::Read::position_at))]
+fn position(bytes: &[u8]) -> Result<(Coord, &[u8]), Fault>
+    ensures { Gives (λ x. (x.0, x.1.now)) result (position_at bytes.now) }
+{
+    let (lat7, rest) = four_bytes(bytes)?;
+    let (lon7, rest) = four_bytes(rest)?;
+    match Coord::new(lat7.cast_signed(), lon7.cast_signed()) {
+        Some(at) => Ok((at, rest)),
+        None => Err(Fault::Malformed),
+    }
+}
+
+// Nodes of ways.
+
+fn names_len(names: &[Name]) -> usize {
+    let mut len = number_len(names.len() as u64);
+    for name in names {
+        len = len.wrapping_add(name_len(*name));
+    }
+    len
+}
+
+fn put_each_name(out: &mut Vec<u8>, names: &[Name]) -> Result<(), Memory>
+    ensures bytes { OnOk result (out.new.items ≡ out.old.items ++ flat_map packed_name names.now) }
+    ensures typed { OnOk result (All Fits names.now) }
+{
+    for name in names {
+        put_name(out, *name)?;
+    }
+    Ok(())
+}
+
+#[tactic(auto, unfolding(crate::specs::Packed::packed_list))]
+fn put_names(out: &mut Vec<u8>, names: &[Name]) -> Result<(), Memory>
+    ensures bytes { OnOk result (out.new.items ≡ out.old.items ++ packed_list packed_name names.now) }
+    ensures typed { OnOk result (AreAll Fits names.now) }
+{
+    put_number(out, names.len() as u64)?;
+    put_each_name(out, names)
+}
+
+fn each_name(alloc: Global, count: u64, bytes: &[u8]) -> Result<(Vec<Name>, &[u8]), Fault>
+    ensures { Gives (λ x. (x.0.items, x.1.now)) result (each_at name_at count bytes.now) }
+{
+    let mut names = Vec::with_capacity(alloc, count as usize)?;
+    let mut rest = bytes;
+    for _ in 0..count {
+        let (name, behind) = name(rest)?;
+        names.push(name)?;
+        rest = behind;
+    }
+    Ok((names, rest))
+}
+
+#[tactic(auto, unfolding(crate::specs::Read::list_at))]
+fn names(alloc: Global, bytes: &[u8]) -> Result<(BoxedItems<Name>, &[u8]), Fault>
+    ensures { Gives (λ x. (x.0, x.1.now)) result (list_at name_at bytes.now) }
+{
+    let (count, rest) = number(bytes)?;
+    let (names, rest) = each_name(alloc, count, rest)?;
+    Ok((BoxedItems::of(alloc, names)?, rest))
+}
+
+// Members of relations.
+
+fn members_len(members: &[Member<Name>]) -> usize {
+    let mut len = number_len(members.len() as u64);
+    for member in members {
+        len = len
+            .wrapping_add(name_len(member.name))
+            .wrapping_add(text_len(member.role.as_str()))
+            .wrapping_add(1);
+    }
+    len
+}
+
+#[tactic(auto, unfolding(crate::specs::Packed::packed_member))]
+fn put_member(out: &mut Vec<u8>, member: &Member<Name>) -> Result<(), Memory>
+    ensures bytes { OnOk result (out.new.items ≡ out.old.items ++ packed_member member.now) }
+    ensures typed { OnOk result (IsMember member.now) }
+{
+    out.push(kind_code(member.kind))?;
+    put_name(out, member.name)?;
+    put_text(out, member.role.as_str())
+}
+
+fn put_each_member(out: &mut Vec<u8>, members: &[Member<Name>]) -> Result<(), Memory>
+    ensures bytes { OnOk result (out.new.items ≡ out.old.items ++ flat_map packed_member members.now) }
+    ensures typed { OnOk result (All IsMember members.now) }
+{
+    for member in members {
+        put_member(out, member)?;
+    }
+    Ok(())
+}
+
+#[tactic(auto, unfolding(crate::specs::Packed::packed_list))]
+fn put_members(out: &mut Vec<u8>, members: &[Member<Name>]) -> Result<(), Memory>
+    ensures bytes { OnOk result (out.new.items ≡ out.old.items ++ packed_list packed_member members.now) }
+    ensures typed { OnOk result (AreAll IsMember members.now) }
+{
+    put_number(out, members.len() as u64)?;
+    put_each_member(out, members)
+}
+
+#[tactic(auto, unfolding(crate::specs::Read::member_at))]
+fn member(alloc: Global, bytes: &[u8]) -> Result<(Member<Name>, &[u8]), Fault>
+    ensures { Gives (λ x. (x.0, x.1.now)) result (member_at bytes.now) }
+{
+    let (kind, rest) = kind(bytes)?;
+    let (name, rest) = name(rest)?;
+    let (role, rest) = text(alloc, rest)?;
+    Ok((Member { kind, name, role }, rest))
+}
+
+fn each_member(
+    alloc: Global,
+    count: u64,
+    bytes: &[u8],
+) -> Result<(Vec<Member<Name>>, &[u8]), Fault>
+    ensures { Gives (λ x. (x.0.items, x.1.now)) result (each_at member_at count bytes.now) }
+{
+    let mut members = Vec::with_capacity(alloc, count as usize)?;
+    let mut rest = bytes;
+    for _ in 0..count {
+        let (member, behind) = member(alloc, rest)?;
+        members.push(member)?;
+        rest = behind;
+    }
+    Ok((members, rest))
+}
+
+#[tactic(auto, unfolding(crate::specs::Read::list_at))]
+fn members(alloc: Global, bytes: &[u8]) -> Result<(BoxedItems<Member<Name>>, &[u8]), Fault>
+    ensures { Gives (λ x. (x.0, x.1.now)) result (list_at member_at bytes.now) }
+{
+    let (count, rest) = number(bytes)?;
+    let (members, rest) = each_member(alloc, count, rest)?;
+    Ok((BoxedItems::of(alloc, members)?, rest))
+}
+
+// Contents.
+
+pub(crate) fn content_len(content: &Content<Name>) -> usize {
+    match content {
+        Content::Node(_) => POSITION_LEN,
+        Content::Way(nodes) => names_len(nodes.items()),
+        Content::Relation(members) => members_len(members.items()),
+    }
+}
+
+#[tactic(auto, unfolding(crate::specs::Packed::packed_content))]
+pub(crate) fn put_content(out: &mut Vec<u8>, content: &Content<Name>) -> Result<(), Memory>
+    ensures bytes { OnOk result (out.new.items ≡ out.old.items ++ packed_content content.now) }
+    ensures typed { OnOk result (IsContent content.now) }
+{
+    match content {
+        Content::Node(at) => put_position(out, *at),
+        Content::Way(nodes) => put_names(out, nodes.items()),
+        Content::Relation(members) => put_members(out, members.items()),
+    }
+}
+
+/// A content of a kind.
+#[tactic(auto, unfolding(crate::specs::Read::content_at))]
+pub(crate) fn content(
+    alloc: Global,
+    kind: Kind,
+    bytes: &[u8],
+) -> Result<(Content<Name>, &[u8]), Fault>
+    ensures { Gives (λ x. (x.0, x.1.now)) result (content_at kind bytes.now) }
+{
+    match kind {
+        Kind::Node => {
+            let (at, rest) = position(bytes)?;
+            Ok((Content::Node(at), rest))
+        }
+        Kind::Way => {
+            let (nodes, rest) = names(alloc, bytes)?;
+            Ok((Content::Way(nodes), rest))
+        }
+        Kind::Relation => {
+            let (members, rest) = members(alloc, bytes)?;
+            Ok((Content::Relation(members), rest))
+        }
+    }
+}

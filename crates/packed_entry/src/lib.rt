@@ -1,0 +1,12 @@
+//! Entries of the journal in few bytes.
+//!
+//! An entry is one block of bytes, made in one allocation without spare room. A number takes one
+//! byte, three, five or nine, and a position eight. Nobody but this crate reads the bytes.
+#![tactic(auto)]
+
+mod contents;
+mod faults;
+mod names;
+mod numbers;
+mod tags;
+mod texts;

@@ -1,0 +1,83 @@
+//! Names of elements, and kinds.
+ghost use Rattle.std.specs.Prelude.{◌≡◌, ◌++◌, OnOk, MatchOption, None, Some};
+ghost use Rattle.osm_base.specs.Key.{kind_rank};
+ghost use Rattle.osm_change.specs.Referents.{Fits};
+ghost use Rattle.packed_entry.specs.Packed.{packed_name, number_of_name};
+ghost use Rattle.packed_entry.specs.Read.{Gives, name_of, name_at, kind_of_rank, kind_at};
+
+use crate::faults::Fault;
+use crate::numbers::{byte, number, number_len, put_number};
+use osm_base::{Kind, Memory};
+use osm_change::{Name, Referent};
+
+/// A name as one number.
+fn number_of_name(name: Name) -> u64
+    ensures number { result ≡ number_of_name name }
+    ensures typed { Fits name }
+{
+    name.fits();
+    match name.referent() {
+        Referent::Old(id) => 2 * id,
+        Referent::New(place) => 2 * u64::from(place) + 1,
+    }
+}
+
+pub(crate) fn name_len(name: Name) -> usize {
+    number_len(number_of_name(name))
+}
+
+#[tactic(auto, unfolding(crate::specs::Packed::packed_name))]
+pub(crate) fn put_name(out: &mut Vec<u8>, name: Name) -> Result<(), Memory>
+    ensures bytes { OnOk result (out.new.items ≡ out.old.items ++ packed_name name) }
+    ensures typed { Fits name }
+{
+    put_number(out, number_of_name(name))
+}
+
+#[tactic(auto, unfolding(crate::specs::Read::name_at))]
+pub(crate) fn name(bytes: &[u8]) -> Result<(Name, &[u8]), Fault>
+    ensures { Gives (λ x. (x.0, x.1.now)) result (name_at bytes.now) }
+{
+    let (number, rest) = number(bytes)?;
+    let half = number / 2;
+    if number % 2 == 0 {
+        Ok((Name::old(half), rest))
+    } else if half < 0x1_0000_0000 {
+        Ok((Name::new(half as u32), rest))
+    } else {
+        Err(Fault::Malformed)
+    }
+}
+
+/// A kind as a byte below 3.
+pub(crate) fn kind_code(kind: Kind) -> u8
+    ensures { result ≡ kind_rank kind }
+{
+    match kind {
+        Kind::Node => 0,
+        Kind::Way => 1,
+        Kind::Relation => 2,
+    }
+}
+
+pub(crate) fn kind_of(code: u8) -> Option<Kind>
+    ensures { result ≡ kind_of_rank code }
+{
+    match code {
+        0 => Some(Kind::Node),
+        1 => Some(Kind::Way),
+        2 => Some(Kind::Relation),
+        _ => None,
+    }
+}
+
+#[tactic(auto, unfolding(crate::specs::Read::kind_at))]
+pub(crate) fn kind(bytes: &[u8]) -> Result<(Kind, &[u8]), Fault>
+    ensures { Gives (λ x. (x.0, x.1.now)) result (kind_at bytes.now) }
+{
+    let (code, rest) = byte(bytes)?;
+    match kind_of(code) {
+        Some(kind) => Ok((kind, rest)),
+        None => Err(Fault::Malformed),
+    }
+}

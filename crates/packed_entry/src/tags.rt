@@ -1,0 +1,119 @@
+//! Tags: how many, the room of their texts, and each key with its value.
+ghost use Rattle.std.specs.Prelude.{◌≡◌, ◌++◌, OnOk, All};
+ghost use Rattle.std.specs.List.{flat_map};
+ghost use Rattle.packed_entry.specs.Packed.{packed_room, packed_tag, packed_tags};
+ghost use Rattle.packed_entry.specs.Read.{Gives, tag_at, each_at, some_tags_at, tags_at};
+ghost use Rattle.packed_entry.specs.Typed.{IsTag, AreTags};
+
+use crate::faults::Fault;
+use crate::numbers::{number, number_len, put_number};
+use crate::texts::{lent_text, put_text, text_len};
+use osm_base::Memory;
+use osm_element::{Table, TagList, Tags};
+use std::alloc::Global;
+
+pub(crate) fn tags_len(tags: &Tags) -> usize {
+    let tags = tags.list();
+    let count = tags.len();
+    if count == 0 {
+        return 1;
+    }
+    let mut len = number_len(count as u64).wrapping_add(number_len(tags.byte_count() as u64));
+    for index in 0..count {
+        let (key, value) = tags.pair(index);
+        len = len
+            .wrapping_add(text_len(key))
+            .wrapping_add(text_len(value));
+    }
+    len
+}
+
+fn put_room(out: &mut Vec<u8>, tags: &TagList<'_>) -> Result<(), Memory>
+    ensures bytes { OnOk result (out.new.items ≡ out.old.items ++ packed_room tags.now) }
+{
+    if tags.len() == 0 {
+        return Ok(());
+    }
+    put_number(out, tags.byte_count() as u64)
+}
+
+#[tactic(auto, unfolding(crate::specs::Packed::packed_tag))]
+fn put_tag(out: &mut Vec<u8>, key: &str, value: &str) -> Result<(), Memory>
+    ensures bytes { OnOk result (out.new.items ≡ out.old.items ++ packed_tag (key.now, value.now)) }
+    ensures typed { OnOk result (IsTag (key.now, value.now)) }
+{
+    put_text(out, key)?;
+    put_text(out, value)
+}
+
+fn put_each_tag(out: &mut Vec<u8>, tags: &TagList<'_>) -> Result<(), Memory>
+    ensures bytes { OnOk result (out.new.items ≡ out.old.items ++ flat_map packed_tag tags.now) }
+    ensures typed { OnOk result (All IsTag tags.now) }
+{
+    for index in 0..tags.len() {
+        let (key, value) = tags.pair(index);
+        put_tag(out, key, value)?;
+    }
+    Ok(())
+}
+
+#[tactic(auto, unfolding(crate::specs::Packed::packed_tags))]
+pub(crate) fn put_tags(out: &mut Vec<u8>, tags: &Tags) -> Result<(), Memory>
+    ensures bytes { OnOk result (out.new.items ≡ out.old.items ++ packed_tags tags.now) }
+    ensures typed { OnOk result (AreTags tags.now) }
+{
+    tags.keys_rise();
+    let list = tags.list();
+    let _room = list.byte_count();
+    put_number(out, list.len() as u64)?;
+    put_room(out, &list)?;
+    put_each_tag(out, &list)
+}
+
+/// A tag where it stands.
+#[tactic(auto, unfolding(crate::specs::Read::tag_at))]
+fn tag(bytes: &[u8]) -> Result<((&str, &str), &[u8]), Fault>
+    ensures { Gives (λ x. ((x.0.0.now, x.0.1.now), x.1.now)) result (tag_at bytes.now) }
+{
+    let (key, rest) = lent_text(bytes)?;
+    let (value, rest) = lent_text(rest)?;
+    Ok(((key, value), rest))
+}
+
+/// So many tags, whose texts have about so many bytes.
+fn each_tag(alloc: Global, count: u64, room: u64, bytes: &[u8]) -> Result<(Table, &[u8]), Fault>
+    ensures { Gives (λ x. (x.0, x.1.now)) result (each_at tag_at count bytes.now) }
+{
+    let mut tags = Table::with_room(alloc, count as usize, room as usize)?;
+    let mut rest = bytes;
+    for _ in 0..count {
+        let ((key, value), behind) = tag(rest)?;
+        tags = tags.with(key, value)?;
+        rest = behind;
+    }
+    Ok((tags, rest))
+}
+
+#[tactic(auto, unfolding(crate::specs::Read::some_tags_at))]
+fn some_tags(alloc: Global, count: u64, bytes: &[u8]) -> Result<(Tags, &[u8]), Fault>
+    ensures { Gives (λ x. (x.0, x.1.now)) result (some_tags_at count bytes.now) }
+{
+    let (room, rest) = number(bytes)?;
+    let (table, rest) = each_tag(alloc, count, room, rest)?;
+    match Tags::of_table(alloc, table)? {
+        Some(tags) => Ok((tags, rest)),
+        None => Err(Fault::Malformed),
+    }
+}
+
+#[tactic(auto, unfolding(crate::specs::Read::tags_at))]
+pub(crate) fn tags(alloc: Global, bytes: &[u8]) -> Result<(Tags, &[u8]), Fault>
+    ensures { Gives (λ x. (x.0, x.1.now)) result (tags_at bytes.now) }
+{
+    let (count, rest) = number(bytes)?;
+    if count == 0 {
+        Ok((Tags::none(alloc), rest))
+    } else {
+        some_tags(alloc, count, rest)
+    }
+}
