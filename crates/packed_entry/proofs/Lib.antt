@@ -1,1 +1,4 @@
+mod Loops
+mod Puts
+mod Rising
 mod Tests

@@ -32,11 +32,20 @@ abbrev pub ◌>>=◌ : {A B : Type 0} → Parsed A → (A → List ℕ → Parse
 None >>= f = None
 (Some p) >>= f = f p.0 p.1
 
--- what a function gave is what is read, unless memory ran out
-abbrev pub Gives : {X Y : Type 0} → (X → Y) → Result X Fault → Option Y → Type 0
-Gives view (Ok x) read = read ≡ Some (view x)
-Gives view (Err Memory) read = ⊤
-Gives view (Err Malformed) read = read ≡ None
+-- nothing is read, or memory ran out
+abbrev pub Fails : {A : Type 0} → Fault → Parsed A → Type 0
+Fails Memory read = ⊤
+Fails Malformed read = read ≡ None
+
+-- what a function gave is what is read, and the new bytes are those behind it, unless memory ran out
+abbrev pub Gives : {X A : Type 0} → (X → A) → Result X Fault → Parsed A → List ℕ → Type 0
+Gives view (Ok x) read new = read ≡ Some (view x, new)
+Gives view (Err fault) read new = Fails fault read
+
+-- the same of a function that gives the bytes behind it too
+abbrev pub Splits : {X A : Type 0} → (X → A × List ℕ) → Result X Fault → Parsed A → Type 0
+Splits view (Ok x) read = read ≡ Some (view x)
+Splits view (Err fault) read = Fails fault read
 
 -- ---- numbers and texts
 

@@ -9,7 +9,8 @@ ghost use Rattle.packed_entry.specs.Typed.{IsMember, AreAll, IsContent};
 
 use crate::faults::Fault;
 use crate::names::{kind, kind_code, name, name_len, put_name};
-use crate::numbers::{four_bytes, number, number_len, put_number};
+use crate::numbers::{number_len, put_number};
+use crate::reader::Reader;
 use crate::texts::{put_text, text, text_len};
 use osm_base::{Box7, Coord, Kind, Memory};
 use osm_change::Name;
@@ -34,13 +35,13 @@ fn put_position(out: &mut Vec<u8>, at: Coord) -> Result<(), Memory>
 }
 
 #[tactic(auto, unfolding(crate::specs::Read::position_at))]
-fn position(bytes: &[u8]) -> Result<(Coord, &[u8]), Fault>
-    ensures { Gives (λ x. (x.0, x.1.now)) result (position_at bytes.now) }
+fn position(reader: &mut Reader<'_>) -> Result<Coord, Fault>
+    ensures { Gives (λ x. x) result (position_at reader.old) reader.new }
 {
-    let (lat7, rest) = four_bytes(bytes)?;
-    let (lon7, rest) = four_bytes(rest)?;
+    let lat7 = reader.four_bytes()?;
+    let lon7 = reader.four_bytes()?;
     match Coord::new(lat7.cast_signed(), lon7.cast_signed()) {
-        Some(at) => Ok((at, rest)),
+        Some(at) => Ok(at),
         None => Err(Fault::Malformed),
     }
 }
@@ -74,26 +75,24 @@ fn put_names(out: &mut Vec<u8>, names: &[Name]) -> Result<(), Memory>
     put_each_name(out, names)
 }
 
-fn each_name(alloc: Global, count: u64, bytes: &[u8]) -> Result<(Vec<Name>, &[u8]), Fault>
-    ensures { Gives (λ x. (x.0.items, x.1.now)) result (each_at name_at count bytes.now) }
+fn each_name(alloc: Global, count: u64, reader: &mut Reader<'_>) -> Result<Vec<Name>, Fault>
+    ensures { Gives (λ x. x.items) result (each_at name_at count reader.old) reader.new }
 {
     let mut names = Vec::with_capacity(alloc, count as usize)?;
-    let mut rest = bytes;
     for _ in 0..count {
-        let (name, behind) = name(rest)?;
+        let name = name(reader)?;
         names.push(name)?;
-        rest = behind;
     }
-    Ok((names, rest))
+    Ok(names)
 }
 
 #[tactic(auto, unfolding(crate::specs::Read::list_at))]
-fn names(alloc: Global, bytes: &[u8]) -> Result<(BoxedItems<Name>, &[u8]), Fault>
-    ensures { Gives (λ x. (x.0, x.1.now)) result (list_at name_at bytes.now) }
+fn names(alloc: Global, reader: &mut Reader<'_>) -> Result<BoxedItems<Name>, Fault>
+    ensures { Gives (λ x. x) result (list_at name_at reader.old) reader.new }
 {
-    let (count, rest) = number(bytes)?;
-    let (names, rest) = each_name(alloc, count, rest)?;
-    Ok((BoxedItems::of(alloc, names)?, rest))
+    let count = reader.number()?;
+    let names = each_name(alloc, count, reader)?;
+    Ok(BoxedItems::of(alloc, names)?)
 }
 
 // Members of relations.
@@ -139,39 +138,37 @@ fn put_members(out: &mut Vec<u8>, members: &[Member<Name>]) -> Result<(), Memory
 }
 
 #[tactic(auto, unfolding(crate::specs::Read::member_at))]
-fn member(alloc: Global, bytes: &[u8]) -> Result<(Member<Name>, &[u8]), Fault>
-    ensures { Gives (λ x. (x.0, x.1.now)) result (member_at bytes.now) }
+fn member(alloc: Global, reader: &mut Reader<'_>) -> Result<Member<Name>, Fault>
+    ensures { Gives (λ x. x) result (member_at reader.old) reader.new }
 {
-    let (kind, rest) = kind(bytes)?;
-    let (name, rest) = name(rest)?;
-    let (role, rest) = text(alloc, rest)?;
-    Ok((Member { kind, name, role }, rest))
+    let kind = kind(reader)?;
+    let name = name(reader)?;
+    let role = text(alloc, reader)?;
+    Ok(Member { kind, name, role })
 }
 
 fn each_member(
     alloc: Global,
     count: u64,
-    bytes: &[u8],
-) -> Result<(Vec<Member<Name>>, &[u8]), Fault>
-    ensures { Gives (λ x. (x.0.items, x.1.now)) result (each_at member_at count bytes.now) }
+    reader: &mut Reader<'_>,
+) -> Result<Vec<Member<Name>>, Fault>
+    ensures { Gives (λ x. x.items) result (each_at member_at count reader.old) reader.new }
 {
     let mut members = Vec::with_capacity(alloc, count as usize)?;
-    let mut rest = bytes;
     for _ in 0..count {
-        let (member, behind) = member(alloc, rest)?;
+        let member = member(alloc, reader)?;
         members.push(member)?;
-        rest = behind;
     }
-    Ok((members, rest))
+    Ok(members)
 }
 
 #[tactic(auto, unfolding(crate::specs::Read::list_at))]
-fn members(alloc: Global, bytes: &[u8]) -> Result<(BoxedItems<Member<Name>>, &[u8]), Fault>
-    ensures { Gives (λ x. (x.0, x.1.now)) result (list_at member_at bytes.now) }
+fn members(alloc: Global, reader: &mut Reader<'_>) -> Result<BoxedItems<Member<Name>>, Fault>
+    ensures { Gives (λ x. x) result (list_at member_at reader.old) reader.new }
 {
-    let (count, rest) = number(bytes)?;
-    let (members, rest) = each_member(alloc, count, rest)?;
-    Ok((BoxedItems::of(alloc, members)?, rest))
+    let count = reader.number()?;
+    let members = each_member(alloc, count, reader)?;
+    Ok(BoxedItems::of(alloc, members)?)
 }
 
 // Contents.
@@ -201,22 +198,22 @@ pub(crate) fn put_content(out: &mut Vec<u8>, content: &Content<Name>) -> Result<
 pub(crate) fn content(
     alloc: Global,
     kind: Kind,
-    bytes: &[u8],
-) -> Result<(Content<Name>, &[u8]), Fault>
-    ensures { Gives (λ x. (x.0, x.1.now)) result (content_at kind bytes.now) }
+    reader: &mut Reader<'_>,
+) -> Result<Content<Name>, Fault>
+    ensures { Gives (λ x. x) result (content_at kind reader.old) reader.new }
 {
     match kind {
         Kind::Node => {
-            let (at, rest) = position(bytes)?;
-            Ok((Content::Node(at), rest))
+            let at = position(reader)?;
+            Ok(Content::Node(at))
         }
         Kind::Way => {
-            let (nodes, rest) = names(alloc, bytes)?;
-            Ok((Content::Way(nodes), rest))
+            let nodes = names(alloc, reader)?;
+            Ok(Content::Way(nodes))
         }
         Kind::Relation => {
-            let (members, rest) = members(alloc, bytes)?;
-            Ok((Content::Relation(members), rest))
+            let members = members(alloc, reader)?;
+            Ok(Content::Relation(members))
         }
     }
 }

@@ -6,7 +6,9 @@
 
 mod contents;
 mod faults;
+mod fronts;
 mod names;
 mod numbers;
+mod reader;
 mod tags;
 mod texts;

@@ -6,7 +6,8 @@ ghost use Rattle.packed_entry.specs.Packed.{packed_name, number_of_name};
 ghost use Rattle.packed_entry.specs.Read.{Gives, name_of, name_at, kind_of_rank, kind_at};
 
 use crate::faults::Fault;
-use crate::numbers::{byte, number, number_len, put_number};
+use crate::numbers::{number_len, put_number};
+use crate::reader::Reader;
 use osm_base::{Kind, Memory};
 use osm_change::{Name, Referent};
 
@@ -35,15 +36,15 @@ pub(crate) fn put_name(out: &mut Vec<u8>, name: Name) -> Result<(), Memory>
 }
 
 #[tactic(auto, unfolding(crate::specs::Read::name_at))]
-pub(crate) fn name(bytes: &[u8]) -> Result<(Name, &[u8]), Fault>
-    ensures { Gives (λ x. (x.0, x.1.now)) result (name_at bytes.now) }
+pub(crate) fn name(reader: &mut Reader<'_>) -> Result<Name, Fault>
+    ensures { Gives (λ x. x) result (name_at reader.old) reader.new }
 {
-    let (number, rest) = number(bytes)?;
+    let number = reader.number()?;
     let half = number / 2;
     if number % 2 == 0 {
-        Ok((Name::old(half), rest))
+        Ok(Name::old(half))
     } else if half < 0x1_0000_0000 {
-        Ok((Name::new(half as u32), rest))
+        Ok(Name::new(half as u32))
     } else {
         Err(Fault::Malformed)
     }
@@ -72,12 +73,12 @@ pub(crate) fn kind_of(code: u8) -> Option<Kind>
 }
 
 #[tactic(auto, unfolding(crate::specs::Read::kind_at))]
-pub(crate) fn kind(bytes: &[u8]) -> Result<(Kind, &[u8]), Fault>
-    ensures { Gives (λ x. (x.0, x.1.now)) result (kind_at bytes.now) }
+pub(crate) fn kind(reader: &mut Reader<'_>) -> Result<Kind, Fault>
+    ensures { Gives (λ x. x) result (kind_at reader.old) reader.new }
 {
-    let (code, rest) = byte(bytes)?;
+    let code = reader.byte()?;
     match kind_of(code) {
-        Some(kind) => Ok((kind, rest)),
+        Some(kind) => Ok(kind),
         None => Err(Fault::Malformed),
     }
 }

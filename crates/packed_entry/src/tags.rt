@@ -6,8 +6,9 @@ ghost use Rattle.packed_entry.specs.Read.{Gives, tag_at, each_at, some_tags_at, 
 ghost use Rattle.packed_entry.specs.Typed.{IsTag, AreTags};
 
 use crate::faults::Fault;
-use crate::numbers::{number, number_len, put_number};
-use crate::texts::{lent_text, put_text, text_len};
+use crate::numbers::{number_len, put_number};
+use crate::reader::Reader;
+use crate::texts::{put_text, text_len};
 use osm_base::Memory;
 use osm_element::{Table, TagList, Tags};
 use std::alloc::Global;
@@ -72,48 +73,46 @@ pub(crate) fn put_tags(out: &mut Vec<u8>, tags: &Tags) -> Result<(), Memory>
 
 /// A tag where it stands.
 #[tactic(auto, unfolding(crate::specs::Read::tag_at))]
-fn tag(bytes: &[u8]) -> Result<((&str, &str), &[u8]), Fault>
-    ensures { Gives (λ x. ((x.0.0.now, x.0.1.now), x.1.now)) result (tag_at bytes.now) }
+fn tag<'a>(reader: &mut Reader<'a>) -> Result<(&'a str, &'a str), Fault>
+    ensures { Gives (λ x. (x.0.now, x.1.now)) result (tag_at reader.old) reader.new }
 {
-    let (key, rest) = lent_text(bytes)?;
-    let (value, rest) = lent_text(rest)?;
-    Ok(((key, value), rest))
+    let key = reader.text()?;
+    let value = reader.text()?;
+    Ok((key, value))
 }
 
 /// So many tags, whose texts have about so many bytes.
-fn each_tag(alloc: Global, count: u64, room: u64, bytes: &[u8]) -> Result<(Table, &[u8]), Fault>
-    ensures { Gives (λ x. (x.0, x.1.now)) result (each_at tag_at count bytes.now) }
+fn each_tag(alloc: Global, count: u64, room: u64, reader: &mut Reader<'_>) -> Result<Table, Fault>
+    ensures { Gives (λ x. x) result (each_at tag_at count reader.old) reader.new }
 {
     let mut tags = Table::with_room(alloc, count as usize, room as usize)?;
-    let mut rest = bytes;
     for _ in 0..count {
-        let ((key, value), behind) = tag(rest)?;
+        let (key, value) = tag(reader)?;
         tags = tags.with(key, value)?;
-        rest = behind;
     }
-    Ok((tags, rest))
+    Ok(tags)
 }
 
 #[tactic(auto, unfolding(crate::specs::Read::some_tags_at))]
-fn some_tags(alloc: Global, count: u64, bytes: &[u8]) -> Result<(Tags, &[u8]), Fault>
-    ensures { Gives (λ x. (x.0, x.1.now)) result (some_tags_at count bytes.now) }
+fn some_tags(alloc: Global, count: u64, reader: &mut Reader<'_>) -> Result<Tags, Fault>
+    ensures { Gives (λ x. x) result (some_tags_at count reader.old) reader.new }
 {
-    let (room, rest) = number(bytes)?;
-    let (table, rest) = each_tag(alloc, count, room, rest)?;
+    let room = reader.number()?;
+    let table = each_tag(alloc, count, room, reader)?;
     match Tags::of_table(alloc, table)? {
-        Some(tags) => Ok((tags, rest)),
+        Some(tags) => Ok(tags),
         None => Err(Fault::Malformed),
     }
 }
 
 #[tactic(auto, unfolding(crate::specs::Read::tags_at))]
-pub(crate) fn tags(alloc: Global, bytes: &[u8]) -> Result<(Tags, &[u8]), Fault>
-    ensures { Gives (λ x. (x.0, x.1.now)) result (tags_at bytes.now) }
+pub(crate) fn tags(alloc: Global, reader: &mut Reader<'_>) -> Result<Tags, Fault>
+    ensures { Gives (λ x. x) result (tags_at reader.old) reader.new }
 {
-    let (count, rest) = number(bytes)?;
+    let count = reader.number()?;
     if count == 0 {
-        Ok((Tags::none(alloc), rest))
+        Ok(Tags::none(alloc))
     } else {
-        some_tags(alloc, count, rest)
+        some_tags(alloc, count, reader)
     }
 }

@@ -1,5 +1,5 @@
 use Rattle.packed_entry.proofs.Tests.{text_there, no_text}
-use Rattle.packed_entry.proofs.texts.text_of.Goals as goal
+use Rattle.packed_entry.proofs.fronts.text_of.Goals as goal
 
 pub returns-in-Ok : goal.returns-in-Ok
 returns-in-Ok c =
