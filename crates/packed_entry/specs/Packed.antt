@@ -4,6 +4,7 @@ use Rattle.std.specs.List.{flat_map}
 use Rattle.std.specs.Int.{w16, w32, w64, to_be_bytes, cast_unsigned}
 use Rattle.osm_base.specs.Key.{kind_rank}
 use Rattle.osm_base.specs.Place.{Position}
+use Rattle.osm_base.specs.declared.keys.Key.{Key}
 use Rattle.osm_base.specs.declared.people.User.{User}
 use Rattle.osm_element.specs.Tags.{Tag, byte_count}
 use Rattle.osm_element.specs.declared.contents.Content.{Content}
@@ -94,16 +95,35 @@ packed_parts (Delete kind name version if_unused) = packed_name name ++ packed_n
 unfoldable pub packed_op : Op → List ℕ
 packed_op o = op_code o ∷ [] ++ packed_parts o
 
--- a byte for the command, and its fields
+-- ---- commands
+
+unfoldable pub packed_key : Key → List ℕ
+packed_key key = kind_rank key.kind ∷ [] ++ packed_number key.id
+
+abbrev pub command_code : Command → ℕ
+command_code (CreateChangeset tags large_from) = 0
+command_code (Retag id tags) = 1
+command_code (CloseChangeset id) = 2
+command_code (Upload id ops) = 3
+command_code (Single id ops) = 4
+command_code (MakeRedaction title) = 5
+command_code (Redact key version redaction) = 6
+command_code (Unredact key version) = 7
+
+abbrev pub packed_fields : Command → List ℕ
+packed_fields (CreateChangeset tags large_from) = packed_optional large_from ++ packed_tags tags
+packed_fields (Retag id tags) = packed_number id ++ packed_tags tags
+packed_fields (CloseChangeset id) = packed_number id
+packed_fields (Upload id ops) = packed_number id ++ packed_list packed_op ops
+packed_fields (Single id ops) = packed_number id ++ packed_list packed_op ops
+packed_fields (MakeRedaction title) = packed_text title
+packed_fields (Redact key version redaction) = packed_key key ++ packed_number version ++ packed_number redaction
+packed_fields (Unredact key version) = packed_key key ++ packed_number version
+
 unfoldable pub packed_command : Command → List ℕ
-packed_command (CreateChangeset tags large_from) = 0 ∷ [] ++ packed_optional large_from ++ packed_tags tags
-packed_command (Retag id tags) = 1 ∷ [] ++ packed_number id ++ packed_tags tags
-packed_command (CloseChangeset id) = 2 ∷ [] ++ packed_number id
-packed_command (Upload id ops) = 3 ∷ [] ++ packed_number id ++ packed_list packed_op ops
-packed_command (Single id ops) = 4 ∷ [] ++ packed_number id ++ packed_list packed_op ops
-packed_command (MakeRedaction title) = 5 ∷ [] ++ packed_text title
-packed_command (Redact key version redaction) = 6 ∷ [] ++ kind_rank key.kind ∷ [] ++ packed_number key.id ++ packed_number version ++ packed_number redaction
-packed_command (Unredact key version) = 7 ∷ [] ++ kind_rank key.kind ∷ [] ++ packed_number key.id ++ packed_number version
+packed_command c = command_code c ∷ [] ++ packed_fields c
+
+-- ---- an entry
 
 unfoldable pub packed_user : User → List ℕ
 packed_user u = packed_number u.id ++ packed_text u.name ++ packed_flag u.moderator ++ packed_optional u.limit

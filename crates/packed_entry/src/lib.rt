@@ -4,11 +4,17 @@
 //! byte, three, five or nine, and a position eight. Nobody but this crate reads the bytes.
 #![tactic(auto)]
 
+mod commands;
 mod contents;
+mod entries;
 mod faults;
 mod fronts;
 mod names;
 mod numbers;
+mod operations;
+mod packed;
 mod reader;
 mod tags;
 mod texts;
+
+pub use packed::PackedEntry;
