@@ -1,3 +1,5 @@
+mod Again
+mod AgainParts
 mod Loops
 mod Puts
 mod Rising

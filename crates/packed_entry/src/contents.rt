@@ -3,7 +3,7 @@ ghost use Rattle.std.specs.Prelude.{◌≡◌, ◌++◌, OnOk, All};
 ghost use Rattle.std.specs.List.{flat_map};
 ghost use Rattle.osm_base.specs.Place.{IsPosition};
 ghost use Rattle.osm_change.specs.Referents.{Fits};
-ghost use Rattle.packed_entry.specs.Packed.{packed_name, packed_position, packed_member, packed_list, packed_content};
+ghost use Rattle.packed_entry.specs.Packed.{packed_name, packed_integer, packed_position, packed_member, packed_list, packed_content};
 ghost use Rattle.packed_entry.specs.Read.{Gives, name_at, position_at, member_at, each_at, list_at, content_at};
 ghost use Rattle.packed_entry.specs.Typed.{IsMember, AreAll, IsContent};
 
@@ -22,6 +22,14 @@ use std::alloc::Global;
 /// How many bytes a position takes.
 const POSITION_LEN: usize = 8;
 
+#[tactic(auto, unfolding(crate::specs::Packed::packed_integer))]
+fn put_integer(out: &mut Vec<u8>, number: i32) -> Result<(), Memory>
+    ensures { OnOk result (out.new.items ≡ out.old.items ++ packed_integer number) }
+{
+    out.extend_from_slice(&number.to_be_bytes())?;
+    Ok(())
+}
+
 /// That a position lies on the globe is told by the box that holds it alone.
 #[tactic(auto, unfolding(crate::specs::Packed::packed_position))]
 fn put_position(out: &mut Vec<u8>, at: Coord) -> Result<(), Memory>
@@ -29,18 +37,17 @@ fn put_position(out: &mut Vec<u8>, at: Coord) -> Result<(), Memory>
     ensures typed { IsPosition at.lat7 at.lon7 }
 {
     let _area = Box7::at(at).area();
-    out.extend_from_slice(&at.lat7().to_be_bytes())?;
-    out.extend_from_slice(&at.lon7().to_be_bytes())?;
-    Ok(())
+    put_integer(out, at.lat7())?;
+    put_integer(out, at.lon7())
 }
 
 #[tactic(auto, unfolding(crate::specs::Read::position_at))]
 fn position(reader: &mut Reader<'_>) -> Result<Coord, Fault>
     ensures { Gives (λ x. x) result (position_at reader.old) reader.new }
 {
-    let lat7 = reader.four_bytes()?;
-    let lon7 = reader.four_bytes()?;
-    match Coord::new(lat7.cast_signed(), lon7.cast_signed()) {
+    let lat7 = reader.integer()?;
+    let lon7 = reader.integer()?;
+    match Coord::new(lat7, lon7) {
         Some(at) => Ok(at),
         None => Err(Fault::Malformed),
     }

@@ -2,6 +2,7 @@
 ghost use Rattle.std.specs.Prelude.{◌≡◌, ◌++◌, OnOk};
 ghost use Rattle.packed_entry.specs.Packed.{packed_number, packed_optional, packed_flag};
 ghost use Rattle.packed_entry.specs.Read.{Gives, optional_at, flag_at};
+ghost use Rattle.packed_entry.specs.Typed.{FitsIfSome};
 
 use crate::faults::Fault;
 use crate::reader::Reader;
@@ -50,7 +51,8 @@ pub(crate) fn optional_len(number: Option<u64>) -> usize {
 
 #[tactic(auto, unfolding(crate::specs::Packed::packed_optional))]
 pub(crate) fn put_optional(out: &mut Vec<u8>, number: Option<u64>) -> Result<(), Memory>
-    ensures { OnOk result (out.new.items ≡ out.old.items ++ packed_optional number) }
+    ensures bytes { OnOk result (out.new.items ≡ out.old.items ++ packed_optional number) }
+    ensures typed { FitsIfSome number }
 {
     match number {
         None => out.push(0)?,

@@ -1,7 +1,6 @@
 //! Bytes that are read from the front.
 ghost use Rattle.std.specs.Prelude.{◌≡◌};
-ghost use Rattle.std.specs.Int.{w32};
-ghost use Rattle.packed_entry.specs.Read.{Gives, byte_at, wide_at, number_at, text_at};
+ghost use Rattle.packed_entry.specs.Read.{Gives, byte_at, integer_at, number_at, text_at};
 
 use crate::faults::Fault;
 use crate::fronts::{first_byte, first_number, first_text, four_bytes};
@@ -36,12 +35,14 @@ impl<'a> Reader<'a> {
         Ok(byte)
     }
 
-    pub(crate) fn four_bytes(&mut self) -> Result<u32, Fault>
-        ensures { Gives (λ n. n) result (wide_at w32 self.old) self.new }
+    /// A signed number of four bytes.
+    #[tactic(auto, unfolding(crate::specs::Read::integer_at))]
+    pub(crate) fn integer(&mut self) -> Result<i32, Fault>
+        ensures { Gives (λ z. z) result (integer_at self.old) self.new }
     {
         let (number, rest) = four_bytes(self.rest)?;
         self.rest = rest;
-        Ok(number)
+        Ok(number.cast_signed())
     }
 
     pub(crate) fn number(&mut self) -> Result<u64, Fault>
