@@ -47,14 +47,14 @@ number_again n rest fits =
     elim (cases_lt n 248) [
       | inl one ↦ let test = lt-ltb n 248 one in rw (test, test) refl
       | inr le ↦ let test = le-ltb n 248 le in
-        elim (cases_lt n (2 ^ 16)) [
-          | inl two ↦ let small = lt-ltb n (2 ^ 16) two in rw (test, small) (wide_again w16 (2 ^ 16) wide16 n rest two)
-          | inr le ↦ let large = le-ltb n (2 ^ 16) le in
-            elim (cases_lt n (2 ^ 32)) [
-              | inl four ↦ let small = lt-ltb n (2 ^ 32) four in rw (test, large, small) (wide_again w32 (2 ^ 32) wide32 n rest four)
-              | inr le ↦ let huge = le-ltb n (2 ^ 32) le in rw (test, large, huge) (wide_again w64 (2 ^ 64) wide64 n rest fits)
-            ]
-        ]
+          elim (cases_lt n (2 ^ 16)) [
+            | inl two ↦ let small = lt-ltb n (2 ^ 16) two in rw (test, small) (wide_again w16 (2 ^ 16) wide16 n rest two)
+            | inr le ↦ let large = le-ltb n (2 ^ 16) le in
+                elim (cases_lt n (2 ^ 32)) [
+                  | inl four ↦ let small = lt-ltb n (2 ^ 32) four in rw (test, large, small) (wide_again w32 (2 ^ 32) wide32 n rest four)
+                  | inr le ↦ let huge = le-ltb n (2 ^ 32) le in rw (test, large, huge) (wide_again w64 (2 ^ 64) wide64 n rest fits)
+                ]
+          ]
     ]
 
 pub optional_again : (o : Option ℕ) (rest : List ℕ) → FitsIfSome o → optional_at (packed_optional o ++ rest) ≡ Some (o, rest)

@@ -45,9 +45,15 @@ tags_again [] rest are = rw (append_assoc, append_assoc, number_again 0 _ (omega
 tags_again (tag ∷ tags) rest are =
     let some : eqb (suc (length tags)) 0 ≡ false = ne_eqb (suc (length tags)) 0 (λ e. omega (arith, e)) in
     let each = flat_map packed_tag (tag ∷ tags) in
-    rw (append_assoc (packed_number (length (tag ∷ tags)) ++ packed_number (byte_count (tag ∷ tags))) each rest, append_assoc (packed_number (length (tag ∷ tags))) (packed_number (byte_count (tag ∷ tags))) (each ++ rest),
-      number_again (length (tag ∷ tags)) (packed_number (byte_count (tag ∷ tags)) ++ (each ++ rest)) are.fit, some, number_again (byte_count (tag ∷ tags)) (each ++ rest) are.room,
-      each_again packed_tag tag_at IsTag tag_again (tag ∷ tags) rest are.each, rise_told (tag ∷ tags) are.rise) refl
+    rw (
+      append_assoc (packed_number (length (tag ∷ tags)) ++ packed_number (byte_count (tag ∷ tags))) each rest,
+      append_assoc (packed_number (length (tag ∷ tags))) (packed_number (byte_count (tag ∷ tags))) (each ++ rest),
+      number_again (length (tag ∷ tags)) (packed_number (byte_count (tag ∷ tags)) ++ (each ++ rest)) are.fit,
+      some,
+      number_again (byte_count (tag ∷ tags)) (each ++ rest) are.room,
+      each_again packed_tag tag_at IsTag tag_again (tag ∷ tags) rest are.each,
+      rise_told (tag ∷ tags) are.rise,
+    ) refl
 
 -- ---- what operations hold
 
@@ -82,6 +88,7 @@ integer_again z rest low high =
     bits : (z : ℤ) → negsuc 1799999999 ≤ℤ z → z ≤ℤ pos 1800000000 → cast_unsigned w32 z < 2 ^ 32
     bits (pos n) low high = omega (arith, ints)
     bits (negsuc n) low high = omega (arith, ints)
+
     fits : (z : ℤ) → negsuc 1799999999 ≤ℤ z → z ≤ℤ pos 1800000000 → SFits w32 z
     fits (pos n) low high = record { sfits = omega (arith, ints) }
     fits (negsuc n) low high = record { sfits = omega (arith, ints) }
@@ -91,8 +98,12 @@ unfolding packed_position position_at
 position_again at rest is =
     let south = is.south in
     let north = is.north in
-    rw (append_assoc (packed_integer at.lat7) (packed_integer at.lon7) rest, integer_again at.lat7 (packed_integer at.lon7 ++ rest) (omega (arith, ints)) (omega (arith, ints)),
-      integer_again at.lon7 rest is.west is.east, on_globe at.lat7 at.lon7 is) refl
+    rw (
+      append_assoc (packed_integer at.lat7) (packed_integer at.lon7) rest,
+      integer_again at.lat7 (packed_integer at.lon7 ++ rest) (omega (arith, ints)) (omega (arith, ints)),
+      integer_again at.lon7 rest is.west is.east,
+      on_globe at.lat7 at.lon7 is,
+    ) refl
 
 kind_again : (kind : Kind) (rest : List ℕ) → kind_at (kind_rank kind ∷ rest) ≡ Some (kind, rest)
 unfolding kind_at
@@ -103,8 +114,13 @@ kind_again kinds.Relation rest = refl
 member_again : (m : Member Name) (rest : List ℕ) → IsMember m → member_at (packed_member m ++ rest) ≡ Some (m, rest)
 unfolding packed_member member_at
 member_again m rest is =
-    rw (append_assoc (kind_rank m.kind ∷ packed_name m.name) (packed_text m.role) rest, append_assoc (kind_rank m.kind ∷ []) (packed_name m.name) (packed_text m.role ++ rest),
-      kind_again m.kind (packed_name m.name ++ (packed_text m.role ++ rest)), name_again m.name (packed_text m.role ++ rest) is.name, text_again m.role rest is.role) refl
+    rw (
+      append_assoc (kind_rank m.kind ∷ packed_name m.name) (packed_text m.role) rest,
+      append_assoc (kind_rank m.kind ∷ []) (packed_name m.name) (packed_text m.role ++ rest),
+      kind_again m.kind (packed_name m.name ++ (packed_text m.role ++ rest)),
+      name_again m.name (packed_text m.role ++ rest) is.name,
+      text_again m.role rest is.role,
+    ) refl
 
 pub content_again : (content : Content Name) (rest : List ℕ) → IsContent content → content_at (kind_of content) (packed_content content ++ rest) ≡ Some (content, rest)
 unfolding packed_content content_at
@@ -153,14 +169,25 @@ op_again (Create (pos n) content tags) rest is = absurd (no_pos n is.0.negative)
 op_again (Create (negsuc n) content tags) rest is =
     let small : n < 2 ^ 63 = let low = is.0.low in omega (arith, ints) in
     by_code (kind_rank (kind_of content)) 0 (kind_of content) ((packed_number n ++ packed_content content ++ packed_tags tags) ++ rest) (code_0 (kind_of content))
-    ∙ rw (append_assoc (packed_number n ++ packed_content content) (packed_tags tags) rest, append_assoc (packed_number n) (packed_content content) (packed_tags tags ++ rest),
-      number_again n (packed_content content ++ (packed_tags tags ++ rest)) (omega arith), lt-ltb n (2 ^ 63) small, content_again content (packed_tags tags ++ rest) is.1, tags_again tags rest is.2) refl
+    ∙ rw (
+      append_assoc (packed_number n ++ packed_content content) (packed_tags tags) rest,
+      append_assoc (packed_number n) (packed_content content) (packed_tags tags ++ rest),
+      number_again n (packed_content content ++ (packed_tags tags ++ rest)) (omega arith),
+      lt-ltb n (2 ^ 63) small,
+      content_again content (packed_tags tags ++ rest) is.1,
+      tags_again tags rest is.2,
+    ) refl
 op_again (Modify name version content tags) rest is =
     by_code (3 + kind_rank (kind_of content)) 1 (kind_of content) ((packed_name name ++ packed_number version ++ packed_content content ++ packed_tags tags) ++ rest) (code_1 (kind_of content))
-    ∙ rw (append_assoc (packed_name name ++ packed_number version ++ packed_content content) (packed_tags tags) rest, append_assoc (packed_name name ++ packed_number version) (packed_content content) (packed_tags tags ++ rest),
+    ∙ rw (
+      append_assoc (packed_name name ++ packed_number version ++ packed_content content) (packed_tags tags) rest,
+      append_assoc (packed_name name ++ packed_number version) (packed_content content) (packed_tags tags ++ rest),
       append_assoc (packed_name name) (packed_number version) (packed_content content ++ (packed_tags tags ++ rest)),
-      name_again name (packed_number version ++ (packed_content content ++ (packed_tags tags ++ rest))) is.0, number_again version (packed_content content ++ (packed_tags tags ++ rest)) is.1,
-      content_again content (packed_tags tags ++ rest) is.2, tags_again tags rest is.3) refl
+      name_again name (packed_number version ++ (packed_content content ++ (packed_tags tags ++ rest))) is.0,
+      number_again version (packed_content content ++ (packed_tags tags ++ rest)) is.1,
+      content_again content (packed_tags tags ++ rest) is.2,
+      tags_again tags rest is.3,
+    ) refl
 op_again (Delete kind name version false) rest is =
     by_code (6 + kind_rank kind) 2 kind ((packed_name name ++ packed_number version) ++ rest) (code_2 kind)
     ∙ rw (append_assoc (packed_name name) (packed_number version) rest, name_again name (packed_number version ++ rest) is.0, number_again version rest is.1) refl
@@ -189,8 +216,13 @@ command_again (Single id ops) rest is =
     rw (append_assoc (packed_number id) (packed_list packed_op ops) rest, number_again id (packed_list packed_op ops ++ rest) is.0, change_again ops rest is.1, eq-eqb (length ops) 1 is.2) refl
 command_again (MakeRedaction title) rest is = rw (text_again title rest is) refl
 command_again (Redact key version redaction) rest is =
-    rw (append_assoc (packed_key key ++ packed_number version) (packed_number redaction) rest, append_assoc (packed_key key) (packed_number version) (packed_number redaction ++ rest),
-      key_again key (packed_number version ++ (packed_number redaction ++ rest)) is.0, number_again version (packed_number redaction ++ rest) is.1, number_again redaction rest is.2) refl
+    rw (
+      append_assoc (packed_key key ++ packed_number version) (packed_number redaction) rest,
+      append_assoc (packed_key key) (packed_number version) (packed_number redaction ++ rest),
+      key_again key (packed_number version ++ (packed_number redaction ++ rest)) is.0,
+      number_again version (packed_number redaction ++ rest) is.1,
+      number_again redaction rest is.2,
+    ) refl
 command_again (Unredact key version) rest is = rw (append_assoc (packed_key key) (packed_number version) rest, key_again key (packed_number version ++ rest) is.0, number_again version rest is.1) refl
 
 -- ---- an entry
@@ -198,10 +230,15 @@ command_again (Unredact key version) rest is = rw (append_assoc (packed_key key)
 user_again : (u : User) (rest : List ℕ) → IsUser u → user_at (packed_user u ++ rest) ≡ Some (u, rest)
 unfolding packed_user user_at
 user_again u rest is =
-    rw (append_assoc (packed_number u.id ++ packed_text u.name ++ packed_flag u.moderator) (packed_optional u.limit) rest, append_assoc (packed_number u.id ++ packed_text u.name) (packed_flag u.moderator) (packed_optional u.limit ++ rest),
+    rw (
+      append_assoc (packed_number u.id ++ packed_text u.name ++ packed_flag u.moderator) (packed_optional u.limit) rest,
+      append_assoc (packed_number u.id ++ packed_text u.name) (packed_flag u.moderator) (packed_optional u.limit ++ rest),
       append_assoc (packed_number u.id) (packed_text u.name) (packed_flag u.moderator ++ (packed_optional u.limit ++ rest)),
-      number_again u.id (packed_text u.name ++ (packed_flag u.moderator ++ (packed_optional u.limit ++ rest))) is.id, text_again u.name (packed_flag u.moderator ++ (packed_optional u.limit ++ rest)) is.name,
-      flag_again u.moderator (packed_optional u.limit ++ rest), optional_again u.limit rest is.limit) refl
+      number_again u.id (packed_text u.name ++ (packed_flag u.moderator ++ (packed_optional u.limit ++ rest))) is.id,
+      text_again u.name (packed_flag u.moderator ++ (packed_optional u.limit ++ rest)) is.name,
+      flag_again u.moderator (packed_optional u.limit ++ rest),
+      optional_again u.limit rest is.limit,
+    ) refl
 
 session_again : (n : ℕ) (rest : List ℕ) → n < 2 ^ 32 → session_at (packed_number n ++ rest) ≡ Some (n, rest)
 unfolding session_at
@@ -214,11 +251,17 @@ entry_again e rest is =
     let behind_stamp = packed_user e.user ++ behind_user in
     let behind_call = packed_number e.stamp ++ behind_stamp in
     let behind_session = packed_number e.call ++ behind_call in
-    rw (append_assoc (packed_number e.session ++ packed_number e.call ++ packed_number e.stamp ++ packed_user e.user) (packed_command e.command) rest,
+    rw (
+      append_assoc (packed_number e.session ++ packed_number e.call ++ packed_number e.stamp ++ packed_user e.user) (packed_command e.command) rest,
       append_assoc (packed_number e.session ++ packed_number e.call ++ packed_number e.stamp) (packed_user e.user) behind_user,
       append_assoc (packed_number e.session ++ packed_number e.call) (packed_number e.stamp) behind_stamp,
       append_assoc (packed_number e.session) (packed_number e.call) behind_call,
-      session_again e.session behind_session is.session, number_again e.call behind_call is.call, number_again e.stamp behind_stamp is.stamp, user_again e.user behind_user is.user, command_again e.command rest is.command) refl
+      session_again e.session behind_session is.session,
+      number_again e.call behind_call is.call,
+      number_again e.stamp behind_stamp is.stamp,
+      user_again e.user behind_user is.user,
+      command_again e.command rest is.command,
+    ) refl
 
 -- ---- what is kept
 

@@ -31,7 +31,7 @@ fn op_len(operation: &Op) -> usize {
             placeholder,
             content,
             tags,
-        } => number_len(placeholder.unsigned_abs())
+        } => number_len(placeholder.unsigned_abs().wrapping_sub(1))
             .wrapping_add(content_len(content))
             .wrapping_add(tags_len(tags)),
         Op::Modify {
@@ -64,7 +64,9 @@ fn code_of(operation: &Op) -> u8
         Op::Create { content, .. } => kind_code(kind_of_content(content)),
         Op::Modify { content, .. } => 3 + kind_code(kind_of_content(content)),
         Op::Delete {
-            kind, if_unused, ..
+            kind,
+            if_unused,
+            ..
         } => {
             if *if_unused {
                 9 + kind_code(*kind)
