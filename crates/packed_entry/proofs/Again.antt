@@ -29,10 +29,10 @@ pub record IsWide (w : Width) (limit : ℕ) : Type 0 where
 wide16 : IsWide w16 (2 ^ 16)
 wide16 = record { len = λ n. refl; again = from_be_bytes-to_be_bytes_2 }
 
-pub wide32 : IsWide w32 (2 ^ 32)
+wide32 : IsWide w32 (2 ^ 32)
 wide32 = record { len = λ n. refl; again = from_be_bytes-to_be_bytes_4 }
 
-wide64 : IsWide w64 (2 ^ 64)
+pub wide64 : IsWide w64 (2 ^ 64)
 wide64 = record { len = λ n. refl; again = from_be_bytes-to_be_bytes_8 }
 
 pub wide_again : (w : Width) (limit : ℕ) → IsWide w limit → (n : ℕ) (rest : List ℕ) → n < limit → wide_at w (to_be_bytes w n ++ rest) ≡ Some (n, rest)

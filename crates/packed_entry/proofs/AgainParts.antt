@@ -2,7 +2,7 @@
 use Rattle.std.proofs.Common.{◌≡◌, ◌≤ℤ◌, ℕ, suc, eqb, ◌+◌, ◌*◌, ◌/◌, ◌%◌, ◌^◌, ◌<◌, ◌≤◌, Bool, true, false, List, [], ◌∷◌, ◌++◌, length, Some, None, ℤ, pos, negsuc, refl, sym, ap, ◌∙◌, append-nil, append_assoc, arith}
 use Rattle.std.specs.Prelude.{if◌then◌else◌, int_le}
 use Rattle.std.specs.List.{flat_map}
-use Rattle.std.specs.Int.{w32, to_be_bytes, cast_unsigned, cast_signed}
+use Rattle.std.specs.Int.{w32, w64, to_be_bytes, cast_unsigned, cast_signed}
 use mir.Val.{SFits, of_z}
 use Rattle.std.proofs.lemmas.Bool.{lt-ltb, eq-eqb, ne_eqb, and_from}
 use Rattle.std.proofs.lemmas.Int.{ints, to_z-of_z}
@@ -26,10 +26,10 @@ use Rattle.osm_model.specs.declared.commands.Command.{Command}
 use Rattle.osm_model.specs.declared.commands.Command.TheVariants.{CreateChangeset, Retag, CloseChangeset, Upload, Single, MakeRedaction, Redact, Unredact}
 use Rattle.osm_model.specs.declared.commands.Entry.{Entry}
 use Rattle.packed_entry.specs.Kept.{HasChange, ArePacked, entry_in}
-use Rattle.packed_entry.specs.Packed.{packed_number, packed_optional, packed_flag, packed_text, packed_list, packed_room, packed_tag, packed_tags, number_of_name, packed_name, packed_integer, packed_position, packed_member, packed_content, depth_of, op_code, packed_parts, packed_op, packed_key, packed_fields, packed_command, packed_user, packed_entry}
-use Rattle.packed_entry.specs.Read.{Parsed, ◌>>=◌, number_at, text_at, each_at, list_at, tag_at, some_tags_at, tags_at, name_of, name_at, kind_of_rank, kind_at, integer_at, position_at, member_at, content_at, create_at, modify_at, delete_at, op_by, op_at, create_changeset_at, retag_at, close_at, upload_at, single_at, title_at, key_at, redact_at, unredact_at, command_by, command_at, user_at, session_at, entry_at}
+use Rattle.packed_entry.specs.Packed.{packed_number, packed_optional, packed_flag, packed_text, packed_list, packed_room, packed_tag, packed_tags, number_of_name, packed_name, position_bits, packed_position, packed_member, packed_content, depth_of, op_code, packed_parts, packed_op, packed_key, packed_fields, packed_command, packed_user, packed_entry}
+use Rattle.packed_entry.specs.Read.{Parsed, ◌>>=◌, number_at, text_at, each_at, list_at, tag_at, some_tags_at, tags_at, name_of, name_at, kind_of_rank, kind_at, position_of, position_at, member_at, content_at, create_at, modify_at, delete_at, op_by, op_at, create_changeset_at, retag_at, close_at, upload_at, single_at, title_at, key_at, redact_at, unredact_at, command_by, command_at, user_at, session_at, entry_at}
 use Rattle.packed_entry.specs.Typed.{Fits64, FitsIfSome, IsText, IsTag, AreTags, IsMember, AreAll, IsContent, IsOp, IsChange, IsCommand, IsUser, IsEntry}
-use Rattle.packed_entry.proofs.Again.{wide32, wide_again, number_again, optional_again, flag_again, text_again, each_again, list_again}
+use Rattle.packed_entry.proofs.Again.{wide64, wide_again, number_again, optional_again, flag_again, text_again, each_again, list_again}
 use Rattle.packed_entry.proofs.Rising.{rise_told}
 
 -- ---- tags
@@ -79,31 +79,33 @@ on_globe lat7 lon7 is =
     (and_from (int_le (negsuc 899999999) lat7) (int_le lat7 (pos 900000000)) (tested (negsuc 899999999) lat7 is.south) (tested lat7 (pos 900000000) is.north))
     (and_from (int_le (negsuc 1799999999) lon7) (int_le lon7 (pos 1800000000)) (tested (negsuc 1799999999) lon7 is.west) (tested lon7 (pos 1800000000) is.east))
 
-integer_again : (z : ℤ) (rest : List ℕ) → negsuc 1799999999 ≤ℤ z → z ≤ℤ pos 1800000000 → integer_at (packed_integer z ++ rest) ≡ Some (z, rest)
-unfolding packed_integer integer_at
-integer_again z rest low high =
-    ap (λ (o : Parsed ℕ). o >>= λ n rest. Some (cast_signed w32 n, rest)) (wide_again w32 (2 ^ 32) wide32 (cast_unsigned w32 z) rest (bits z low high))
-    ∙ ap (λ (y : ℤ). Some (y, rest)) (to_z-of_z w32 z (fits z low high))
-  where
-    bits : (z : ℤ) → negsuc 1799999999 ≤ℤ z → z ≤ℤ pos 1800000000 → cast_unsigned w32 z < 2 ^ 32
-    bits (pos n) low high = omega (arith, ints)
-    bits (negsuc n) low high = omega (arith, ints)
+-- a number of 32 bits is told by its bits
+record Is32 (z : ℤ) : Type 0 where
+  bits : cast_unsigned w32 z < 2 ^ 32
+  again : cast_signed w32 (cast_unsigned w32 z) ≡ z
 
-    fits : (z : ℤ) → negsuc 1799999999 ≤ℤ z → z ≤ℤ pos 1800000000 → SFits w32 z
-    fits (pos n) low high = record { sfits = omega (arith, ints) }
-    fits (negsuc n) low high = record { sfits = omega (arith, ints) }
+is32 : (z : ℤ) → negsuc 1799999999 ≤ℤ z → z ≤ℤ pos 1800000000 → Is32 z
+is32 (pos n) low high = record { bits = omega (arith, ints); again = to_z-of_z w32 (pos n) (record { sfits = omega (arith, ints) }) }
+is32 (negsuc n) low high = record { bits = omega (arith, ints); again = to_z-of_z w32 (negsuc n) (record { sfits = omega (arith, ints) }) }
+
+high_half : (a b : ℕ) → b < 2 ^ 32 → (a * 2 ^ 32 + b) / 2 ^ 32 ≡ a
+high_half a b small = omega arith
+
+low_half : (a b : ℕ) → b < 2 ^ 32 → (a * 2 ^ 32 + b) % 2 ^ 32 ≡ b
+low_half a b small = omega arith
 
 position_again : (at : Position) (rest : List ℕ) → IsPosition at.lat7 at.lon7 → position_at (packed_position at ++ rest) ≡ Some (at, rest)
 unfolding packed_position position_at
 position_again at rest is =
     let south = is.south in
     let north = is.north in
-    rw (
-      append_assoc (packed_integer at.lat7) (packed_integer at.lon7) rest,
-      integer_again at.lat7 (packed_integer at.lon7 ++ rest) (omega (arith, ints)) (omega (arith, ints)),
-      integer_again at.lon7 rest is.west is.east,
-      on_globe at.lat7 at.lon7 is,
-    ) refl
+    let lat = is32 at.lat7 (omega (arith, ints)) (omega (arith, ints)) in
+    let lon = is32 at.lon7 is.west is.east in
+    let a = cast_unsigned w32 at.lat7 in
+    let b = cast_unsigned w32 at.lon7 in
+    let small : position_bits at < 2 ^ 64 = omega (arith, lat.bits, lon.bits) in
+    ap (λ (o : Parsed ℕ). o >>= λ bits rest. position_of (cast_signed w32 (bits / 2 ^ 32)) (cast_signed w32 (bits % 2 ^ 32)) rest) (wide_again w64 (2 ^ 64) wide64 (position_bits at) rest small)
+    ∙ rw (high_half a b lon.bits, low_half a b lon.bits, lat.again, lon.again, on_globe at.lat7 at.lon7 is) refl
 
 kind_again : (kind : Kind) (rest : List ℕ) → kind_at (kind_rank kind ∷ rest) ≡ Some (kind, rest)
 unfolding kind_at

@@ -63,12 +63,12 @@ number_of_name (New place) = 2 * place + 1
 unfoldable pub packed_name : Name → List ℕ
 packed_name name = packed_number (number_of_name name)
 
--- four bytes, in two's complement
-unfoldable pub packed_integer : ℤ → List ℕ
-packed_integer z = to_be_bytes w32 (cast_unsigned w32 z)
+-- both numbers in 64 bits, in two's complement
+abbrev pub position_bits : Position → ℕ
+position_bits at = cast_unsigned w32 at.lat7 * 2 ^ 32 + cast_unsigned w32 at.lon7
 
 unfoldable pub packed_position : Position → List ℕ
-packed_position at = packed_integer at.lat7 ++ packed_integer at.lon7
+packed_position at = to_be_bytes w64 (position_bits at)
 
 unfoldable pub packed_member : Member Name → List ℕ
 packed_member m = kind_rank m.kind ∷ [] ++ packed_name m.name ++ packed_text m.role

@@ -149,14 +149,11 @@ kind_and (Some kind) rest = Some (kind, rest)
 unfoldable pub kind_at : List ℕ → Parsed Kind
 kind_at bytes = byte_at bytes >>= λ b rest. kind_and (kind_of_rank b) rest
 
-unfoldable pub integer_at : List ℕ → Parsed ℤ
-integer_at bytes = wide_at w32 bytes >>= λ n rest. Some (cast_signed w32 n, rest)
-
 abbrev pub position_of : ℤ → ℤ → List ℕ → Parsed Position
 position_of lat7 lon7 rest = if is_position lat7 lon7 then Some (record { lat7 = lat7; lon7 = lon7 }, rest) else None
 
 unfoldable pub position_at : List ℕ → Parsed Position
-position_at bytes = integer_at bytes >>= λ lat7 rest. integer_at rest >>= λ lon7 rest. position_of lat7 lon7 rest
+position_at bytes = wide_at w64 bytes >>= λ bits rest. position_of (cast_signed w32 (bits / 2 ^ 32)) (cast_signed w32 (bits % 2 ^ 32)) rest
 
 unfoldable pub member_at : List ℕ → Parsed (Member Name)
 member_at bytes = kind_at bytes >>= λ kind rest. name_at rest >>= λ name rest. text_at rest >>= λ role rest. Some (record { kind = kind; name = name; role = role }, rest)

@@ -8,45 +8,15 @@ ghost use Rattle.packed_entry.specs.Typed.{Fits64, FitsIfSome, IsCommand};
 
 use crate::faults::Fault;
 use crate::names::{kind, kind_code};
-use crate::numbers::{number_len, optional, optional_len, put_number, put_optional};
-use crate::operations::{change_len, operations, put_change};
+use crate::numbers::{optional, put_number, put_optional};
+use crate::operations::{operations, put_change};
 use crate::reader::Reader;
-use crate::tags::{put_tags, tags, tags_len};
-use crate::texts::{put_text, text, text_len};
+use crate::tags::{put_tags, tags};
+use crate::texts::{put_text, text};
 use osm_base::{Key, Memory};
 use osm_change::{Change, OneOp};
 use osm_model::Command;
 use std::alloc::Global;
-
-fn key_len(key: Key) -> usize {
-    number_len(key.id).wrapping_add(1)
-}
-
-pub(crate) fn command_len(command: &Command) -> usize {
-    let fields = match command {
-        Command::CreateChangeset { tags, large_from } => {
-            optional_len(*large_from).wrapping_add(tags_len(tags))
-        }
-        Command::Retag { changeset, tags } => number_len(*changeset).wrapping_add(tags_len(tags)),
-        Command::CloseChangeset { changeset } => number_len(*changeset),
-        Command::Upload { changeset, change } => {
-            number_len(*changeset).wrapping_add(change_len(change))
-        }
-        Command::Single { changeset, change } => {
-            number_len(*changeset).wrapping_add(change_len(change.change()))
-        }
-        Command::MakeRedaction { title } => text_len(title.as_str()),
-        Command::Redact {
-            key,
-            version,
-            redaction,
-        } => key_len(*key)
-            .wrapping_add(number_len(*version))
-            .wrapping_add(number_len(*redaction)),
-        Command::Unredact { key, version } => key_len(*key).wrapping_add(number_len(*version)),
-    };
-    fields.wrapping_add(1)
-}
 
 #[tactic(auto, unfolding(crate::specs::Packed::packed_key))]
 fn put_key(out: &mut Vec<u8>, key: Key) -> Result<(), Memory>

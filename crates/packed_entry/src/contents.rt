@@ -3,15 +3,15 @@ ghost use Rattle.std.specs.Prelude.{◌≡◌, ◌++◌, OnOk, All};
 ghost use Rattle.std.specs.List.{flat_map};
 ghost use Rattle.osm_base.specs.Place.{IsPosition};
 ghost use Rattle.osm_change.specs.Referents.{Fits};
-ghost use Rattle.packed_entry.specs.Packed.{packed_name, packed_integer, packed_position, packed_member, packed_list, packed_content};
+ghost use Rattle.packed_entry.specs.Packed.{packed_name, position_bits, packed_position, packed_member, packed_list, packed_content};
 ghost use Rattle.packed_entry.specs.Read.{Gives, name_at, position_at, member_at, each_at, list_at, content_at};
 ghost use Rattle.packed_entry.specs.Typed.{IsMember, AreAll, IsContent};
 
 use crate::faults::Fault;
-use crate::names::{kind, kind_code, name, name_len, put_name};
-use crate::numbers::{number_len, put_number};
+use crate::names::{kind, kind_code, name, put_name};
+use crate::numbers::put_number;
 use crate::reader::Reader;
-use crate::texts::{put_text, text, text_len};
+use crate::texts::{put_text, text};
 use osm_base::{Box7, Coord, Kind, Memory};
 use osm_change::Name;
 use osm_element::{BoxedItems, Content, Member};
@@ -19,15 +19,13 @@ use std::alloc::Global;
 
 // Positions.
 
-/// How many bytes a position takes.
-const POSITION_LEN: usize = 8;
-
-#[tactic(auto, unfolding(crate::specs::Packed::packed_integer))]
-fn put_integer(out: &mut Vec<u8>, number: i32) -> Result<(), Memory>
-    ensures { OnOk result (out.new.items ≡ out.old.items ++ packed_integer number) }
+/// Two numbers of 32 bits in one, in two's complement.
+fn position_bits(at: Coord) -> u64
+    ensures { result ≡ position_bits at }
 {
-    out.extend_from_slice(&number.to_be_bytes())?;
-    Ok(())
+    let lat7 = u64::from(at.lat7().cast_unsigned());
+    let lon7 = u64::from(at.lon7().cast_unsigned());
+    lat7 * 0x1_0000_0000 + lon7
 }
 
 /// That a position lies on the globe is told by the box that holds it alone.
@@ -37,31 +35,24 @@ fn put_position(out: &mut Vec<u8>, at: Coord) -> Result<(), Memory>
     ensures typed { IsPosition at.lat7 at.lon7 }
 {
     let _area = Box7::at(at).area();
-    put_integer(out, at.lat7())?;
-    put_integer(out, at.lon7())
+    out.extend_from_slice(&position_bits(at).to_be_bytes())?;
+    Ok(())
 }
 
 #[tactic(auto, unfolding(crate::specs::Read::position_at))]
 fn position(reader: &mut Reader<'_>) -> Result<Coord, Fault>
     ensures { Gives (λ x. x) result (position_at reader.old) reader.new }
 {
-    let lat7 = reader.integer()?;
-    let lon7 = reader.integer()?;
-    match Coord::new(lat7, lon7) {
+    let bits = reader.eight_bytes()?;
+    let lat7 = (bits / 0x1_0000_0000) as u32;
+    let lon7 = (bits % 0x1_0000_0000) as u32;
+    match Coord::new(lat7.cast_signed(), lon7.cast_signed()) {
         Some(at) => Ok(at),
         None => Err(Fault::Malformed),
     }
 }
 
 // Nodes of ways.
-
-fn names_len(names: &[Name]) -> usize {
-    let mut len = number_len(names.len() as u64);
-    for name in names {
-        len = len.wrapping_add(name_len(*name));
-    }
-    len
-}
 
 fn put_each_name(out: &mut Vec<u8>, names: &[Name]) -> Result<(), Memory>
     ensures bytes { OnOk result (out.new.items ≡ out.old.items ++ flat_map packed_name names.now) }
@@ -73,6 +64,7 @@ fn put_each_name(out: &mut Vec<u8>, names: &[Name]) -> Result<(), Memory>
     Ok(())
 }
 
+#[inline(never)]
 #[tactic(auto, unfolding(crate::specs::Packed::packed_list))]
 fn put_names(out: &mut Vec<u8>, names: &[Name]) -> Result<(), Memory>
     ensures bytes { OnOk result (out.new.items ≡ out.old.items ++ packed_list packed_name names.now) }
@@ -93,6 +85,7 @@ fn each_name(alloc: Global, count: u64, reader: &mut Reader<'_>) -> Result<Vec<N
     Ok(names)
 }
 
+#[inline(never)]
 #[tactic(auto, unfolding(crate::specs::Read::list_at))]
 fn names(alloc: Global, reader: &mut Reader<'_>) -> Result<BoxedItems<Name>, Fault>
     ensures { Gives (λ x. x) result (list_at name_at reader.old) reader.new }
@@ -103,17 +96,6 @@ fn names(alloc: Global, reader: &mut Reader<'_>) -> Result<BoxedItems<Name>, Fau
 }
 
 // Members of relations.
-
-fn members_len(members: &[Member<Name>]) -> usize {
-    let mut len = number_len(members.len() as u64);
-    for member in members {
-        len = len
-            .wrapping_add(name_len(member.name))
-            .wrapping_add(text_len(member.role.as_str()))
-            .wrapping_add(1);
-    }
-    len
-}
 
 #[tactic(auto, unfolding(crate::specs::Packed::packed_member))]
 fn put_member(out: &mut Vec<u8>, member: &Member<Name>) -> Result<(), Memory>
@@ -135,6 +117,7 @@ fn put_each_member(out: &mut Vec<u8>, members: &[Member<Name>]) -> Result<(), Me
     Ok(())
 }
 
+#[inline(never)]
 #[tactic(auto, unfolding(crate::specs::Packed::packed_list))]
 fn put_members(out: &mut Vec<u8>, members: &[Member<Name>]) -> Result<(), Memory>
     ensures bytes { OnOk result (out.new.items ≡ out.old.items ++ packed_list packed_member members.now) }
@@ -169,6 +152,7 @@ fn each_member(
     Ok(members)
 }
 
+#[inline(never)]
 #[tactic(auto, unfolding(crate::specs::Read::list_at))]
 fn members(alloc: Global, reader: &mut Reader<'_>) -> Result<BoxedItems<Member<Name>>, Fault>
     ensures { Gives (λ x. x) result (list_at member_at reader.old) reader.new }
@@ -180,14 +164,7 @@ fn members(alloc: Global, reader: &mut Reader<'_>) -> Result<BoxedItems<Member<N
 
 // Contents.
 
-pub(crate) fn content_len(content: &Content<Name>) -> usize {
-    match content {
-        Content::Node(_) => POSITION_LEN,
-        Content::Way(nodes) => names_len(nodes.items()),
-        Content::Relation(members) => members_len(members.items()),
-    }
-}
-
+#[inline(always)]
 #[tactic(auto, unfolding(crate::specs::Packed::packed_content))]
 pub(crate) fn put_content(out: &mut Vec<u8>, content: &Content<Name>) -> Result<(), Memory>
     ensures bytes { OnOk result (out.new.items ≡ out.old.items ++ packed_content content.now) }
@@ -201,6 +178,7 @@ pub(crate) fn put_content(out: &mut Vec<u8>, content: &Content<Name>) -> Result<
 }
 
 /// A content of a kind.
+#[inline(always)]
 #[tactic(auto, unfolding(crate::specs::Read::content_at))]
 pub(crate) fn content(
     alloc: Global,

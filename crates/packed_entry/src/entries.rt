@@ -5,23 +5,14 @@ ghost use Rattle.packed_entry.specs.Packed.{packed_user, packed_entry};
 ghost use Rattle.packed_entry.specs.Read.{Gives, user_at, session_at, entry_at};
 ghost use Rattle.packed_entry.specs.Typed.{IsUser, IsEntry};
 
-use crate::commands::{command, command_len, put_command};
+use crate::commands::{command, put_command};
 use crate::faults::Fault;
-use crate::numbers::{
-    flag, number_len, optional, optional_len, put_flag, put_number, put_optional,
-};
+use crate::numbers::{flag, optional, put_flag, put_number, put_optional};
 use crate::reader::Reader;
-use crate::texts::{put_text, text, text_len};
+use crate::texts::{put_text, text};
 use osm_base::{Memory, Stamp, User};
 use osm_model::Entry;
 use std::alloc::Global;
-
-fn user_len(user: &User) -> usize {
-    number_len(user.id)
-        .wrapping_add(text_len(user.name.as_str()))
-        .wrapping_add(optional_len(user.limit))
-        .wrapping_add(1)
-}
 
 #[tactic(auto, unfolding(crate::specs::Packed::packed_user))]
 fn put_user(out: &mut Vec<u8>, user: &User) -> Result<(), Memory>
@@ -48,15 +39,6 @@ fn user(alloc: Global, reader: &mut Reader<'_>) -> Result<User, Fault>
         moderator,
         limit,
     })
-}
-
-/// How many bytes an entry takes.
-pub(crate) fn entry_len(entry: &Entry) -> usize {
-    number_len(u64::from(entry.session))
-        .wrapping_add(number_len(entry.call))
-        .wrapping_add(number_len(entry.stamp.seconds()))
-        .wrapping_add(user_len(&entry.user))
-        .wrapping_add(command_len(&entry.command))
 }
 
 #[tactic(auto, unfolding(crate::specs::Packed::packed_entry))]

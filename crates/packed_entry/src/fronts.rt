@@ -25,7 +25,7 @@ fn two_bytes(bytes: &[u8]) -> Result<(u64, &[u8]), Fault>
     Ok((u64::from(number), rest))
 }
 
-pub(crate) fn four_bytes(bytes: &[u8]) -> Result<(u32, &[u8]), Fault>
+fn four_bytes(bytes: &[u8]) -> Result<(u32, &[u8]), Fault>
     ensures { Splits (λ x. (x.0, x.1.now)) result (wide_at w32 bytes.now) }
 {
     if bytes.len() < 4 {
@@ -36,7 +36,7 @@ pub(crate) fn four_bytes(bytes: &[u8]) -> Result<(u32, &[u8]), Fault>
     Ok((number, rest))
 }
 
-fn eight_bytes(bytes: &[u8]) -> Result<(u64, &[u8]), Fault>
+pub(crate) fn eight_bytes(bytes: &[u8]) -> Result<(u64, &[u8]), Fault>
     ensures { Splits (λ x. (x.0, x.1.now)) result (wide_at w64 bytes.now) }
 {
     if bytes.len() < 8 {

@@ -1,7 +1,7 @@
 //! Entries of the journal in few bytes.
 //!
-//! An entry is one block of bytes, made in one allocation without spare room. A number takes one
-//! byte, three, five or nine, and a position eight. Nobody but this crate reads the bytes.
+//! An entry is one block of bytes without spare room. A number takes one byte, three, five or nine,
+//! and a position eight. Nobody but this crate reads the bytes.
 #![tactic(auto)]
 
 mod commands;

@@ -6,7 +6,7 @@ ghost use Rattle.packed_entry.specs.Packed.{packed_name, number_of_name};
 ghost use Rattle.packed_entry.specs.Read.{Gives, name_of, name_at, kind_of_rank, kind_at};
 
 use crate::faults::Fault;
-use crate::numbers::{number_len, put_number};
+use crate::numbers::put_number;
 use crate::reader::Reader;
 use osm_base::{Kind, Memory};
 use osm_change::{Name, Referent};
@@ -21,10 +21,6 @@ fn number_of_name(name: Name) -> u64
         Referent::Old(id) => 2 * id,
         Referent::New(place) => 2 * u64::from(place) + 1,
     }
-}
-
-pub(crate) fn name_len(name: Name) -> usize {
-    number_len(number_of_name(name))
 }
 
 #[tactic(auto, unfolding(crate::specs::Packed::packed_name))]

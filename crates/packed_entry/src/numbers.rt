@@ -1,5 +1,5 @@
 //! Numbers: a byte below 248, else a byte that tells how many bytes come behind it.
-ghost use Rattle.std.specs.Prelude.{◌≡◌, ◌++◌, OnOk};
+ghost use Rattle.std.specs.Prelude.{◌≡◌, ◌≤◌, ◌++◌, OnOk};
 ghost use Rattle.packed_entry.specs.Packed.{packed_number, packed_optional, packed_flag};
 ghost use Rattle.packed_entry.specs.Read.{Gives, optional_at, flag_at};
 ghost use Rattle.packed_entry.specs.Typed.{FitsIfSome};
@@ -8,26 +8,14 @@ use crate::faults::Fault;
 use crate::reader::Reader;
 use osm_base::Memory;
 
-/// How many bytes it takes.
-pub(crate) fn number_len(number: u64) -> usize {
-    if number < 248 {
-        1
-    } else if number < 0x1_0000 {
-        3
-    } else if number < 0x1_0000_0000 {
-        5
-    } else {
-        9
-    }
-}
-
+/// A number that doesn't fit one byte. Apart, so that the code of one that does stays small.
+#[inline(never)]
 #[tactic(auto, unfolding(crate::specs::Packed::packed_number))]
-pub(crate) fn put_number(out: &mut Vec<u8>, number: u64) -> Result<(), Memory>
+fn put_wide(out: &mut Vec<u8>, number: u64) -> Result<(), Memory>
+    requires { 248 ≤ number }
     ensures { OnOk result (out.new.items ≡ out.old.items ++ packed_number number) }
 {
-    if number < 248 {
-        out.push(number as u8)?;
-    } else if number < 0x1_0000 {
+    if number < 0x1_0000 {
         out.push(248)?;
         out.extend_from_slice(&(number as u16).to_be_bytes())?;
     } else if number < 0x1_0000_0000 {
@@ -40,14 +28,20 @@ pub(crate) fn put_number(out: &mut Vec<u8>, number: u64) -> Result<(), Memory>
     Ok(())
 }
 
-// A number that may be left out, and a flag.
-
-pub(crate) fn optional_len(number: Option<u64>) -> usize {
-    match number {
-        None => 1,
-        Some(number) => number_len(number).wrapping_add(1),
+#[inline(always)]
+#[tactic(auto, unfolding(crate::specs::Packed::packed_number))]
+pub(crate) fn put_number(out: &mut Vec<u8>, number: u64) -> Result<(), Memory>
+    ensures { OnOk result (out.new.items ≡ out.old.items ++ packed_number number) }
+{
+    if number < 248 {
+        out.push(number as u8)?;
+        Ok(())
+    } else {
+        put_wide(out, number)
     }
 }
+
+// A number that may be left out, and a flag.
 
 #[tactic(auto, unfolding(crate::specs::Packed::packed_optional))]
 pub(crate) fn put_optional(out: &mut Vec<u8>, number: Option<u64>) -> Result<(), Memory>

@@ -7,12 +7,12 @@ ghost use Rattle.packed_entry.specs.Packed.{packed_number, packed_op, packed_par
 ghost use Rattle.packed_entry.specs.Read.{Gives, create_at, modify_at, delete_at, op_by, op_at, each_at, list_at};
 ghost use Rattle.packed_entry.specs.Typed.{IsOp, AreAll, IsChange};
 
-use crate::contents::{content, content_len, put_content};
+use crate::contents::{content, put_content};
 use crate::faults::Fault;
-use crate::names::{kind_code, kind_of, name, name_len, put_name};
-use crate::numbers::{number_len, put_number};
+use crate::names::{kind_code, kind_of, name, put_name};
+use crate::numbers::put_number;
 use crate::reader::Reader;
-use crate::tags::{put_tags, tags, tags_len};
+use crate::tags::{put_tags, tags};
 use osm_base::{Items, Kind, Memory};
 use osm_change::{Change, Op, kind_of as kind_of_content};
 use std::alloc::Global;
@@ -23,38 +23,6 @@ fn depth(placeholder: i64) -> u64
     ensures { result ≡ depth_of placeholder }
 {
     (-(placeholder + 1)) as u64
-}
-
-fn op_len(operation: &Op) -> usize {
-    let parts = match operation {
-        Op::Create {
-            placeholder,
-            content,
-            tags,
-        } => number_len(placeholder.unsigned_abs().wrapping_sub(1))
-            .wrapping_add(content_len(content))
-            .wrapping_add(tags_len(tags)),
-        Op::Modify {
-            name,
-            version,
-            content,
-            tags,
-        } => name_len(*name)
-            .wrapping_add(number_len(*version))
-            .wrapping_add(content_len(content))
-            .wrapping_add(tags_len(tags)),
-        Op::Delete { name, version, .. } => name_len(*name).wrapping_add(number_len(*version)),
-    };
-    parts.wrapping_add(1)
-}
-
-pub(crate) fn change_len(change: &Change) -> usize {
-    let operations = change.operations();
-    let mut len = number_len(operations.len() as u64);
-    for operation in operations {
-        len = len.wrapping_add(op_len(operation));
-    }
-    len
 }
 
 fn code_of(operation: &Op) -> u8

@@ -1,13 +1,19 @@
 //! A kept entry.
-ghost use Rattle.std.specs.Prelude.{◌≡◌, IfOk};
+ghost use Rattle.std.specs.Prelude.{◌≡◌, IfOk, OnOk};
+ghost use Rattle.packed_entry.specs.Packed.{packed_entry};
+ghost use Rattle.packed_entry.specs.Typed.{IsEntry};
 
-use crate::entries::{entry, entry_len, put_entry};
+use crate::entries::{entry, put_entry};
 use crate::faults::Fault;
 use crate::reader::Reader;
 use osm_base::Memory;
 use osm_model::Entry;
 use std::alloc::Global;
 use std::marker::Model;
+
+/// How many bytes are laid by for an entry while it is packed. A copy of them, which is kept, takes
+/// fewer instructions than to count them before.
+const SCRATCH: usize = 512;
 
 /// An entry of the journal in few bytes. Contracts see the entry.
 #[derive(Drop)]
@@ -32,8 +38,7 @@ impl PackedEntry {
     pub fn of(alloc: Global, entry: &Entry) -> Result<PackedEntry, Memory>
         ensures { IfOk result (λ packed. packed ≡ entry.now) }
     {
-        let mut bytes = Vec::with_capacity(alloc, entry_len(entry))?;
-        put_entry(&mut bytes, entry)?;
+        let bytes = bytes_of(alloc, entry)?;
         Ok(PackedEntry { bytes })
     }
 
@@ -49,4 +54,14 @@ impl PackedEntry {
             Err(Fault::Malformed) => unreachable!(),
         }
     }
+}
+
+/// The bytes of an entry, without spare room.
+fn bytes_of(alloc: Global, entry: &Entry) -> Result<Vec<u8>, Memory>
+    ensures bytes { IfOk result (λ bytes. bytes.items ≡ packed_entry entry.now) }
+    ensures typed { OnOk result (IsEntry entry.now) }
+{
+    let mut scratch = Vec::with_capacity(alloc, SCRATCH)?;
+    put_entry(&mut scratch, entry)?;
+    Ok(Vec::from_slice(alloc, scratch.as_slice())?)
 }

@@ -1,9 +1,10 @@
 //! Bytes that are read from the front.
 ghost use Rattle.std.specs.Prelude.{◌≡◌};
-ghost use Rattle.packed_entry.specs.Read.{Gives, byte_at, integer_at, number_at, text_at};
+ghost use Rattle.std.specs.Int.{w64};
+ghost use Rattle.packed_entry.specs.Read.{Gives, byte_at, wide_at, number_at, text_at};
 
 use crate::faults::Fault;
-use crate::fronts::{first_byte, first_number, first_text, four_bytes};
+use crate::fronts::{eight_bytes, first_byte, first_number, first_text};
 use std::marker::Model;
 
 /// The bytes that are left.
@@ -35,14 +36,12 @@ impl<'a> Reader<'a> {
         Ok(byte)
     }
 
-    /// A signed number of four bytes.
-    #[tactic(auto, unfolding(crate::specs::Read::integer_at))]
-    pub(crate) fn integer(&mut self) -> Result<i32, Fault>
-        ensures { Gives (λ z. z) result (integer_at self.old) self.new }
+    pub(crate) fn eight_bytes(&mut self) -> Result<u64, Fault>
+        ensures { Gives (λ n. n) result (wide_at w64 self.old) self.new }
     {
-        let (number, rest) = four_bytes(self.rest)?;
+        let (number, rest) = eight_bytes(self.rest)?;
         self.rest = rest;
-        Ok(number.cast_signed())
+        Ok(number)
     }
 
     pub(crate) fn number(&mut self) -> Result<u64, Fault>

@@ -1,42 +1,18 @@
 //! Tags: how many, the room of their texts, and each key with its value.
-ghost use Rattle.std.specs.Prelude.{◌≡◌, ◌++◌, OnOk, All};
+ghost use Rattle.std.specs.Prelude.{◌≡◌, ◌<◌, ◌++◌, length, OnOk, All};
 ghost use Rattle.std.specs.List.{flat_map};
-ghost use Rattle.packed_entry.specs.Packed.{packed_room, packed_tag, packed_tags};
+ghost use Rattle.osm_element.specs.Tags.{KeysRise};
+ghost use Rattle.packed_entry.specs.Packed.{packed_tag, packed_tags};
 ghost use Rattle.packed_entry.specs.Read.{Gives, tag_at, each_at, some_tags_at, tags_at};
 ghost use Rattle.packed_entry.specs.Typed.{IsTag, AreTags};
 
 use crate::faults::Fault;
-use crate::numbers::{number_len, put_number};
+use crate::numbers::put_number;
 use crate::reader::Reader;
-use crate::texts::{put_text, text_len};
+use crate::texts::put_text;
 use osm_base::Memory;
 use osm_element::{Table, TagList, Tags};
 use std::alloc::Global;
-
-pub(crate) fn tags_len(tags: &Tags) -> usize {
-    let tags = tags.list();
-    let count = tags.len();
-    if count == 0 {
-        return 1;
-    }
-    let mut len = number_len(count as u64).wrapping_add(number_len(tags.byte_count() as u64));
-    for index in 0..count {
-        let (key, value) = tags.pair(index);
-        len = len
-            .wrapping_add(text_len(key))
-            .wrapping_add(text_len(value));
-    }
-    len
-}
-
-fn put_room(out: &mut Vec<u8>, tags: &TagList<'_>) -> Result<(), Memory>
-    ensures bytes { OnOk result (out.new.items ≡ out.old.items ++ packed_room tags.now) }
-{
-    if tags.len() == 0 {
-        return Ok(());
-    }
-    put_number(out, tags.byte_count() as u64)
-}
 
 #[tactic(auto, unfolding(crate::specs::Packed::packed_tag))]
 fn put_tag(out: &mut Vec<u8>, key: &str, value: &str) -> Result<(), Memory>
@@ -58,17 +34,32 @@ fn put_each_tag(out: &mut Vec<u8>, tags: &TagList<'_>) -> Result<(), Memory>
     Ok(())
 }
 
+#[inline(never)]
+#[tactic(auto, unfolding(crate::specs::Packed::packed_tags))]
+fn put_some_tags(out: &mut Vec<u8>, tags: &TagList<'_>) -> Result<(), Memory>
+    requires some { 0 < length tags.now }
+    requires rise { KeysRise tags.now }
+    ensures bytes { OnOk result (out.new.items ≡ out.old.items ++ packed_tags tags.now) }
+    ensures typed { OnOk result (AreTags tags.now) }
+{
+    put_number(out, tags.len() as u64)?;
+    put_number(out, tags.byte_count() as u64)?;
+    put_each_tag(out, tags)
+}
+
+#[inline(always)]
 #[tactic(auto, unfolding(crate::specs::Packed::packed_tags))]
 pub(crate) fn put_tags(out: &mut Vec<u8>, tags: &Tags) -> Result<(), Memory>
     ensures bytes { OnOk result (out.new.items ≡ out.old.items ++ packed_tags tags.now) }
     ensures typed { OnOk result (AreTags tags.now) }
 {
     tags.keys_rise();
-    let list = tags.list();
-    let _room = list.byte_count();
-    put_number(out, list.len() as u64)?;
-    put_room(out, &list)?;
-    put_each_tag(out, &list)
+    let tags = tags.list();
+    if tags.len() == 0 {
+        put_number(out, 0)
+    } else {
+        put_some_tags(out, &tags)
+    }
 }
 
 /// A tag where it stands.
@@ -93,6 +84,7 @@ fn each_tag(alloc: Global, count: u64, room: u64, reader: &mut Reader<'_>) -> Re
     Ok(tags)
 }
 
+#[inline(never)]
 #[tactic(auto, unfolding(crate::specs::Read::some_tags_at))]
 fn some_tags(alloc: Global, count: u64, reader: &mut Reader<'_>) -> Result<Tags, Fault>
     ensures { Gives (λ x. x) result (some_tags_at count reader.old) reader.new }
@@ -105,6 +97,7 @@ fn some_tags(alloc: Global, count: u64, reader: &mut Reader<'_>) -> Result<Tags,
     }
 }
 
+#[inline(always)]
 #[tactic(auto, unfolding(crate::specs::Read::tags_at))]
 pub(crate) fn tags(alloc: Global, reader: &mut Reader<'_>) -> Result<Tags, Fault>
     ensures { Gives (λ x. x) result (tags_at reader.old) reader.new }

@@ -5,14 +5,10 @@ ghost use Rattle.packed_entry.specs.Read.{Gives, text_at};
 ghost use Rattle.packed_entry.specs.Typed.{IsText};
 
 use crate::faults::Fault;
-use crate::numbers::{number_len, put_number};
+use crate::numbers::put_number;
 use crate::reader::Reader;
 use osm_base::{Memory, Text};
 use std::alloc::Global;
-
-pub(crate) fn text_len(text: &str) -> usize {
-    number_len(text.len() as u64).wrapping_add(text.len())
-}
 
 #[tactic(auto, unfolding(crate::specs::Packed::packed_text))]
 pub(crate) fn put_text(out: &mut Vec<u8>, text: &str) -> Result<(), Memory>
