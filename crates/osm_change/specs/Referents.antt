@@ -20,6 +20,11 @@ bits_of (New place) = 2 ^ 63 + place
 abbrev pub AreBits : ℕ → Type 0
 AreBits bits = bits < 2 ^ 63 + 2 ^ 32
 
+-- an id below 2^63, or a place of 32 bits
+abbrev pub Fits : Referent → Type 0
+Fits (Old id) = id < 2 ^ 63
+Fits (New place) = place < 2 ^ 32
+
 -- the fields of a name with these bits
 abbrev pub with_bits : ℕ → Inside
 with_bits bits = record { bits = bits }

@@ -45,6 +45,8 @@ impl Model for Name {
 }
 
 impl Name {
+    ghost use Rattle.osm_change.specs.Referents.{Fits};
+
     /// An element of before the upload.
     pub fn old(id: u64) -> Name
         requires { id < 2 ^ 63 }
@@ -60,6 +62,13 @@ impl Name {
         Name {
             bits: FIRST_PLACE + u64::from(place),
         }
+    }
+
+    /// An id lies below 2^63 and a place below 2^32, in any name: a law, with nothing to do.
+    pub fn fits(self)
+        ensures { Fits self }
+    {
+        let _bits = self.bits;
     }
 
     /// What it names.

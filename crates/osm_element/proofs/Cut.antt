@@ -2,11 +2,11 @@
 use Rattle.std.proofs.Common.{◌≡◌, ℕ, zero, suc, ◌+◌, ◌-◌, ◌<◌, ◌≤◌, List, [], ◌∷◌, ◌++◌, length, take, drop, refl, sym, ap, ◌∙◌, subst, arith, append_assoc, length-append}
 use Rattle.std.proofs.Math.ListN.{get_or}
 use Rattle.std.proofs.Math.Seq.{drop-append_seam, take-append_seam, drop-append-add, take-length}
-use Rattle.std.proofs.lemmas.List.{take-append-le, drop-append-le, length-drop}
+use Rattle.std.proofs.lemmas.List.{take-append-le, drop-append-le, length-drop, length-take}
 use Rattle.std.proofs.lemmas.Str.{IsUtf8-append, IsUtf8-nil, IsCharBoundary-from_drop}
 use Rattle.std.specs.List.{slice_range}
 use Rattle.std.specs.Str.{IsUtf8, IsCharBoundary}
-use Rattle.osm_element.specs.Tags.{cut, start_at, MayCut, AreEnds}
+use Rattle.osm_element.specs.Tags.{byte_count, cut, start_at, MayCut, AreEnds}
 use Rattle.osm_element.specs.declared.labels.Ends.{Ends}
 
 -- ---- a text that grows
@@ -119,3 +119,14 @@ start_before from (e ∷ es) (suc (suc i)) d lt some =
 pub cut_count : (from : ℕ) (es : List Ends) (text : List ℕ) → length (cut from es text) ≡ length es
 cut_count from [] text = refl
 cut_count from (e ∷ es) text = ap suc (cut_count e.value es text)
+
+-- ---- how many bytes
+
+range_bytes : (text : List ℕ) (from to : ℕ) → MayCut from to text → from + length (slice_range text from to) ≡ to
+range_bytes text from to may = omega (arith, length-take (to - from) (drop from text), length-drop from text, may.rises, may.within)
+
+-- the pairs have all bytes from there on
+pub cut_bytes : (from : ℕ) (es : List Ends) (text : List ℕ) → AreEnds from es text → from + byte_count (cut from es text) ≡ length text
+cut_bytes from [] text are = omega (arith, are)
+cut_bytes from (e ∷ es) text are =
+    omega (arith, range_bytes text from e.key are.0, range_bytes text e.key e.value are.1, cut_bytes e.value es text are.2)

@@ -1,12 +1,12 @@
 -- Tags of several versions in one text that grows.
-use Rattle.std.proofs.Common.{◌≡◌, ℕ, zero, suc, ◌+◌, ◌-◌, ◌≤◌, List, [], ◌∷◌, ◌++◌, length, take, drop, map, refl, sym, ap, ◌∙◌, subst, arith, length-append, All}
+use Rattle.std.proofs.Common.{◌≡◌, ℕ, ◌-◌, List, [], ◌∷◌, ◌++◌, length, take, drop, map, refl, sym, ap, ◌∙◌, subst, arith, length-append, All}
 use Rattle.std.proofs.Math.Seq.{drop-append_seam, take-length}
 use Rattle.std.proofs.lemmas.List.{drop-append-le, map-append}
 use Rattle.std.proofs.lemmas.List.Elements.{All-head, All-tail, All-weaker}
 use Rattle.std.proofs.lemmas.Str.{IsUtf8-append, IsUtf8-nil}
 use Rattle.std.specs.List.{slice_range}
 use Rattle.std.specs.Str.{IsUtf8}
-use Rattle.osm_element.specs.Tags.{Tag, cut, AreEnds}
+use Rattle.osm_element.specs.Tags.{cut, AreEnds}
 use Rattle.osm_element.specs.TagLists.{list_at, IsPlace}
 use Rattle.osm_element.specs.declared.labels.Ends.{Ends}
 use Rattle.osm_element.specs.declared.tag_lists.Place.{Place}

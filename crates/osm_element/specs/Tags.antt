@@ -1,5 +1,5 @@
 -- Tags as lists of pairs.
-use Rattle.std.specs.Prelude.{ℕ, zero, suc, ◌≡◌, ◌≤◌, List, [], ◌∷◌, length, map, drop, slice_range}
+use Rattle.std.specs.Prelude.{ℕ, zero, suc, ◌+◌, ◌≡◌, ◌≤◌, List, [], ◌∷◌, length, map, drop, slice_range}
 use Rattle.std.specs.Ordering.{nat_cmp}
 use Rattle.std.specs.Cmp.Lexicographic.{slice_cmp}
 use Rattle.std.specs.List.Sorted.{IsStrictlySortedBy}
@@ -13,6 +13,11 @@ Tag = List ℕ × List ℕ
 -- the keys rise strictly, in the order of their bytes
 abbrev pub KeysRise : List Tag → Type 0
 KeysRise pairs = IsStrictlySortedBy (slice_cmp nat_cmp) (map (λ p. p.0) pairs)
+
+-- how many bytes the keys and the values have
+abbrev pub byte_count : List Tag → ℕ
+byte_count [] = 0
+byte_count (tag ∷ tags) = length tag.0 + length tag.1 + byte_count tags
 
 -- ---- tags in one text
 

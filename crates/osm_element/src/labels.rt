@@ -1,8 +1,8 @@
 //! Tags, in one text and one list of ends behind a pointer.
-ghost use Rattle.std.specs.Prelude.{◌≡◌, ◌↔◌, ◌<◌, ◌∷◌, [], ◌++◌, Some, None, length, get_or, map, IfOk, IfSome, IsSome, IsTrue};
+ghost use Rattle.std.specs.Prelude.{◌≡◌, ◌↔◌, ◌-◌, ◌<◌, ◌∷◌, [], ◌++◌, Some, None, length, get_or, map, IfOk, IfSome, IsSome, IsTrue};
 ghost use Rattle.std.specs.Ordering.{is_lt, nat_cmp};
 ghost use Rattle.std.specs.Cmp.Lexicographic.{slice_cmp};
-ghost use Rattle.osm_element.specs.Tags.{KeysRise, cut, start_at, AreEnds};
+ghost use Rattle.osm_element.specs.Tags.{KeysRise, byte_count, cut, start_at, AreEnds};
 ghost use Rattle.osm_element.specs.Labels.{tags_in};
 
 use osm_base::{Coord, Memory, Text, TryCopy};
@@ -18,7 +18,7 @@ pub(crate) struct Ends {
 
 /// Keys and values in one text, and where each ends.
 #[derive(Drop)]
-pub(crate) struct Table {
+pub struct Table {
     /// The keys and the values, one after the other.
     text: String,
     ends: Vec<Ends>,
@@ -47,7 +47,7 @@ impl Table {
     }
 
     /// No pairs, with room for so many and for so many bytes of keys and values.
-    fn with_room(alloc: Global, count: usize, bytes: usize) -> Result<Table, Memory>
+    pub fn with_room(alloc: Global, count: usize, bytes: usize) -> Result<Table, Memory>
         ensures { IfOk result (λ table. table ≡ []) }
     {
         Ok(Table {
@@ -57,7 +57,7 @@ impl Table {
     }
 
     /// The pairs and one more behind them.
-    fn with(self, key: &str, value: &str) -> Result<Table, Memory>
+    pub fn with(self, key: &str, value: &str) -> Result<Table, Memory>
         ensures { IfOk result (λ table. table ≡ self ++ (key.now, value.now) ∷ []) }
     {
         let Table { mut text, mut ends } = self;
@@ -183,6 +183,13 @@ impl<'a> TagList<'a> {
         self.ends.len()
     }
 
+    /// How many bytes the keys and the values have.
+    pub fn byte_count(&self) -> usize
+        ensures { result ≡ byte_count self.now }
+    {
+        self.text.len()
+    }
+
     /// A key and its value, in the order of the keys.
     pub fn pair(&self, index: usize) -> (&'a str, &'a str)
         requires { index < length self.now }
@@ -252,6 +259,21 @@ impl Tags {
             tags = tags.with(key.as_str(), value.as_str())?;
         }
         Ok(Some(tags))
+    }
+
+    /// The tags of a table, without a copy of its text. None where their keys don't rise strictly.
+    pub fn of_table(alloc: Global, table: Table) -> Result<Option<Tags>, Memory>
+        ensures rising { IfOk result (λ found. IsSome found ↔ KeysRise table) }
+        ensures value { IfOk result (λ found. IfSome found (λ tags. tags ≡ table)) }
+    {
+        if !do_keys_rise_in(&table.list()) {
+            return Ok(None);
+        }
+        let table = Box::new(alloc, PlacedTable::of(table))?;
+        Ok(Some(Tags {
+            alloc,
+            table: Some(table),
+        }))
     }
 
     /// The tags and one more, whose key is behind theirs.
@@ -362,6 +384,27 @@ fn do_keys_rise(pairs: &[(Text, Text)]) -> bool
         }
     }
     true
+}
+
+/// The same of the tags of a table.
+fn do_keys_rise_in(list: &TagList<'_>) -> bool
+    ensures { IsTrue result ↔ KeysRise list.now }
+{
+    for next in 1..list.len() {
+        if !is_key_before(list, next) {
+            return false;
+        }
+    }
+    true
+}
+
+/// Whether the key before this one is less, in byte order.
+fn is_key_before(list: &TagList<'_>, next: usize) -> bool
+    requires some { 0 < next }
+    requires there { next < length list.now }
+    ensures { result ≡ is_lt (slice_cmp nat_cmp (get_or list.now (next - 1) ([], [])).0 (get_or list.now next ([], [])).0) }
+{
+    list.pair(next - 1).0 < list.pair(next).0
 }
 
 fn is_before(text: &Text, other: &Text) -> bool

@@ -21,6 +21,6 @@ pub use checks::check_local;
 pub use contents::{Content, Held, Member, Members, RawContent, Refs};
 pub use elements::{Elements, History};
 pub use faults::LocalFault;
-pub use labels::{TagList, Tags};
+pub use labels::{Table, TagList, Tags};
 pub use tag_lists::TagLists;
 pub use versions::{Version, check_number, check_stamp};

@@ -1,10 +1,10 @@
-use Rattle.std.proofs.Common.{◌≡◌, ◌∷◌, [], ◌++◌, List, length, map, sym, ap, ◌∙◌, rules, subst}
+use Rattle.std.proofs.Common.{◌≡◌, ◌∷◌, [], ◌++◌, List, length, ap, ◌∙◌, rules, subst}
 use Rattle.std.proofs.lemmas.List.{append-nil}
 use Rattle.std.proofs.lemmas.List.Elements.{All-push}
 use Rattle.std.specs.List.{All}
 use Rattle.std.specs.String.{string_bytes}
 use Rattle.osm_element.specs.Tags.{Tag, cut}
-use Rattle.osm_element.specs.TagLists.{list_at, IsPlace}
+use Rattle.osm_element.specs.TagLists.{IsPlace}
 use Rattle.osm_element.specs.declared.labels.Ends.{Ends}
 use Rattle.osm_element.specs.declared.tag_lists.Place.{Place}
 use Rattle.osm_element.proofs.Places.{places_stay, place_there, one_more_list}

@@ -1,0 +1,6 @@
+mod Again
+mod AgainParts
+mod Loops
+mod Puts
+mod Rising
+mod Tests

@@ -1,0 +1,4 @@
+pub mod Packed
+pub mod Read
+pub mod Typed
+pub mod Kept
