@@ -17,12 +17,11 @@ use Rattle.api_desk.specs.Request.{Ask, of_feed, request_of}
 use Rattle.api_desk.proofs.Replies.{stays_alone, memory_stays}
 
 pub feed_answers :
-    (users : Users) (s : ℕ) (es journal : List Entry) (message : Message) (moment : ℕ) (call : FeedCall) (result : Result Reply Memory)
+    (users : Users) (s : ℕ) (es : List Entry) (message : Message) (moment : ℕ) (call : FeedCall) (result : Result Reply Memory)
     → request_of users message ≡ of_feed call
-    → journal ≡ es
-    → IfOk result (λ reply. reply ≡ reply_of (Some (fed journal call)))
+    → IfOk result (λ reply. reply ≡ reply_of (Some (fed es call)))
     → AnswersAlone users s es es message moment (counted_reply result)
-feed_answers users s es journal message moment call (Ok reply) asks whole text = stays_alone users s es message moment reply (record {
+feed_answers users s es message moment call (Ok reply) asks text = stays_alone users s es message moment reply (record {
   answer = Some (fed es call);
   row = subst
       (λ (q : Ask). IsRow es s (all_of s es) q moment (Some (fed es call)) (all_of s es))
@@ -33,7 +32,7 @@ feed_answers users s es journal message moment call (Ok reply) asks whole text =
         calls = refl;
         debts = refl;
       }));
-  text = text ∙ ap (λ (seen : List Entry). reply_of (Some (fed seen call))) whole;
+  text = text;
 })
-feed_answers users s es journal message moment call (Err memory) asks whole text =
+feed_answers users s es message moment call (Err memory) asks text =
     stays_alone users s es message moment (reply_of None) (memory_stays users s es (all_of s es) message moment)

@@ -107,7 +107,18 @@ first_of [] (suc k) = refl
 first_of (x ∷ F) zero = refl
 first_of (x ∷ F) (suc k) = first_of F k
 
+-- the first one from a piece's place on is the piece's entry
+pub piece_found : (es part : List Entry) (number place : ℕ) (entry : Option Entry) → place ≡ number - 1 → part ≡ take 1 (drop place es) → entry ≡ slice_get part 0 → entry ≡ slice_get es (number - 1)
+piece_found es part number place entry place_is part_is entry_is =
+    entry_is ∙ ap (λ (xs : List Entry). slice_get xs 0) part_is ∙ first_of es place ∙ ap (slice_get es) place_is
+
 -- ---- replies
+
+-- the piece is one of all of a list
+pub piece_alone : (es : List Entry) (number last : ℕ) (entry : Option Entry) (result : Result Reply Memory) → last ≡ length es → entry ≡ slice_get es (number - 1)
+    → IfOk result (λ reply. reply ≡ reply_of (Some (piece_told last number entry)))
+    → IfOk result (λ reply. reply ≡ reply_of (Some (fed es (feed.Piece number))))
+piece_alone es number last entry result count found told = rw (← count, ← found) told
 
 -- what `Hub::part` says
 pub goes_on_of : (old new : Known Entry) → IsPrefix old.front new.front → new ≡ caught_up old new.front old.calls → GoesOn old new
@@ -155,8 +166,7 @@ pub piece_shown : (old new : Known Entry) (number place last : ℕ) (part : List
     → IfOk result (λ reply. ShowsFeed old (feed.Piece number) reply new)
 piece_shown old new number place last part entry (Err memory) on place_is part_is entry_is last_is told = told
 piece_shown old new number place last part entry (Ok reply) on place_is part_is entry_is last_is told =
-    let found : entry ≡ slice_get new.front (number - 1) =
-    entry_is ∙ ap (λ (es : List Entry). slice_get es 0) part_is ∙ first_of new.front place ∙ ap (slice_get new.front) place_is in
+    let found : entry ≡ slice_get new.front (number - 1) = piece_found new.front part number place entry place_is part_is entry_is in
     record {
       goes_on = on;
       point = length new.front;

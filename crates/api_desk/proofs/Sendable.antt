@@ -41,25 +41,29 @@ use Rattle.map_machine.proofs.machine.MapWorld.TheSendSync as OfMapWorld
 step : (T : S.Declared) (D : Type 0) (c : Coded D) (v : (S.row T).Denot → D) (h : (S.row T).Denot → Type 0) → FieldsHave IsSend T.parts → IsSend (View (S.row T) D c v h)
 step T D c v h s = view_send (S.row T) D c v h (declared_send T s)
 
+-- what the journal keeps of an entry
+abbrev pub kept_row : RattleType
+kept_row = Entry.the_row
+
 abbrev pub shown_row : (N : RattleType) (g : Ghosts N.Denot) → RattleType
-shown_row N g = Shown.the_row N MapMachine.the_row MapWorld.the_row Asked.the_row Query.the_row Found.the_row MapPlan.the_row Entry.the_row Look.the_row State.the_row g machine.ghosts
+shown_row N g = Shown.the_row N MapMachine.the_row MapWorld.the_row Asked.the_row Query.the_row Found.the_row MapPlan.the_row Entry.the_row kept_row Look.the_row State.the_row g machine.ghosts
 
 abbrev pub hub_row : (N Q : RattleType) (g : Ghosts N.Denot) → RattleType
 hub_row N Q g =
-    Hub.the_row N MapMachine.the_row (shown_row N g) NoGate.the_row Q MapWorld.the_row Asked.the_row Query.the_row Found.the_row MapPlan.the_row Entry.the_row Look.the_row State.the_row
+    Hub.the_row N MapMachine.the_row (shown_row N g) NoGate.the_row Q MapWorld.the_row Asked.the_row Query.the_row Found.the_row MapPlan.the_row Entry.the_row kept_row Look.the_row State.the_row
     (LinkedList.the_row Entry.the_row Global.the_row allocator.ghosts) g machine.ghosts
-    (snapshot.ghosts N MapMachine.the_row MapWorld.the_row Asked.the_row Query.the_row Found.the_row MapPlan.the_row Entry.the_row Look.the_row State.the_row g snapshot.no_dict machine.ghosts snapshot.no_dict snapshot.no_dict snapshot.no_dict snapshot.no_dict snapshot.no_dict snapshot.no_dict snapshot.no_dict snapshot.no_dict)
-    (absorb.ghosts N MapMachine.the_row MapWorld.the_row Asked.the_row Query.the_row Found.the_row MapPlan.the_row Entry.the_row Look.the_row State.the_row g absorb.no_dict machine.ghosts absorb.no_dict absorb.no_dict absorb.no_dict absorb.no_dict absorb.no_dict absorb.no_dict absorb.no_dict absorb.no_dict)
+    (snapshot.ghosts N MapMachine.the_row MapWorld.the_row Asked.the_row Query.the_row Found.the_row MapPlan.the_row Entry.the_row kept_row Look.the_row State.the_row g snapshot.no_dict machine.ghosts snapshot.no_dict snapshot.no_dict snapshot.no_dict snapshot.no_dict snapshot.no_dict snapshot.no_dict snapshot.no_dict snapshot.no_dict snapshot.no_dict)
+    (absorb.ghosts N MapMachine.the_row MapWorld.the_row Asked.the_row Query.the_row Found.the_row MapPlan.the_row Entry.the_row kept_row Look.the_row State.the_row g absorb.no_dict machine.ghosts absorb.no_dict absorb.no_dict absorb.no_dict absorb.no_dict absorb.no_dict absorb.no_dict absorb.no_dict absorb.no_dict absorb.no_dict)
 
 pub hub_sync : (N Q : RattleType) (g : Ghosts N.Denot) → IsSend Q → IsSync (hub_row N Q g)
 hub_sync N Q g sq =
-    OfHub.the_sync N MapMachine.the_row (shown_row N g) NoGate.the_row Q MapWorld.the_row Asked.the_row Query.the_row Found.the_row MapPlan.the_row Entry.the_row Look.the_row State.the_row
+    OfHub.the_sync N MapMachine.the_row (shown_row N g) NoGate.the_row Q MapWorld.the_row Asked.the_row Query.the_row Found.the_row MapPlan.the_row Entry.the_row kept_row Look.the_row State.the_row
     (LinkedList.the_row Entry.the_row Global.the_row allocator.ghosts) g machine.ghosts
-    (snapshot.ghosts N MapMachine.the_row MapWorld.the_row Asked.the_row Query.the_row Found.the_row MapPlan.the_row Entry.the_row Look.the_row State.the_row g snapshot.no_dict machine.ghosts snapshot.no_dict snapshot.no_dict snapshot.no_dict snapshot.no_dict snapshot.no_dict snapshot.no_dict snapshot.no_dict snapshot.no_dict)
-    (absorb.ghosts N MapMachine.the_row MapWorld.the_row Asked.the_row Query.the_row Found.the_row MapPlan.the_row Entry.the_row Look.the_row State.the_row g absorb.no_dict machine.ghosts absorb.no_dict absorb.no_dict absorb.no_dict absorb.no_dict absorb.no_dict absorb.no_dict absorb.no_dict absorb.no_dict)
-    (OfShown.the_send N MapMachine.the_row MapWorld.the_row Asked.the_row Query.the_row Found.the_row MapPlan.the_row Entry.the_row Look.the_row State.the_row g machine.ghosts OfMapWorld.the_send)
-    sq OfEntry.the_send
-    (OfShown.the_sync N MapMachine.the_row MapWorld.the_row Asked.the_row Query.the_row Found.the_row MapPlan.the_row Entry.the_row Look.the_row State.the_row g machine.ghosts OfMapWorld.the_sync)
+    (snapshot.ghosts N MapMachine.the_row MapWorld.the_row Asked.the_row Query.the_row Found.the_row MapPlan.the_row Entry.the_row kept_row Look.the_row State.the_row g snapshot.no_dict machine.ghosts snapshot.no_dict snapshot.no_dict snapshot.no_dict snapshot.no_dict snapshot.no_dict snapshot.no_dict snapshot.no_dict snapshot.no_dict snapshot.no_dict)
+    (absorb.ghosts N MapMachine.the_row MapWorld.the_row Asked.the_row Query.the_row Found.the_row MapPlan.the_row Entry.the_row kept_row Look.the_row State.the_row g absorb.no_dict machine.ghosts absorb.no_dict absorb.no_dict absorb.no_dict absorb.no_dict absorb.no_dict absorb.no_dict absorb.no_dict absorb.no_dict absorb.no_dict)
+    (OfShown.the_send N MapMachine.the_row MapWorld.the_row Asked.the_row Query.the_row Found.the_row MapPlan.the_row Entry.the_row kept_row Look.the_row State.the_row g machine.ghosts OfMapWorld.the_send)
+    sq OfEntry.the_send OfEntry.the_send
+    (OfShown.the_sync N MapMachine.the_row MapWorld.the_row Asked.the_row Query.the_row Found.the_row MapPlan.the_row Entry.the_row kept_row Look.the_row State.the_row g machine.ghosts OfMapWorld.the_sync)
     OfNoGate.the_sync
 
 fields : (κ : NamedLft) (N Q R : RattleType) (g : Ghosts N.Denot) → IsSend N → IsSync N → IsSend Q → IsSync Q → IsSync R → FieldsHave IsSend (Inside.struct κ N NoGate.the_row Q R g).parts

@@ -25,11 +25,11 @@ use crate::requests::{Request, request_of};
 use desk_parts::reply_from;
 use http_link::{AlwaysTells, Desk, Reply, Withheld};
 use http_wire::Message;
-use hub_core::{Book, NoOutlet};
+use hub_core::{Book, Entries, NoOutlet};
 use machine_law::{Machine, Tag};
 use map_machine::{Asked, MapMachine, book_law, commits_are_the_maps, next_call};
 use osm_base::{Memory, Steps};
-use osm_model::{Entry, Query};
+use osm_model::Query;
 use osm_outside::Witness;
 use osm_world::World;
 use route_table::Routes;
@@ -98,10 +98,7 @@ fn answer_request<L: Ledger>(
     match request {
         Request::Change(asked) => change(book, alloc, session, asked, moment, steps),
         Request::Read(query) => query_reply(book, alloc, query, moment, steps),
-        Request::Feed(call) => {
-            book_law(book);
-            feed_reply(alloc, book.journal(), call)
-        }
+        Request::Feed(call) => feed_reply(alloc, book, call),
     }
 }
 
@@ -147,8 +144,8 @@ impl<'a> OneDesk<'a> {
     }
 
     /// The journal's entries, the first one first.
-    pub fn entries(&self) -> &[Entry]
-        ensures journal { result.now ≡ entries_of self.now }
+    pub fn entries(&self) -> Entries<'_, MapMachine>
+        ensures journal { result ≡ entries_of self.now }
         ensures legal { IsLegal (entries_of self.now) }
     {
         book_law(self.book);

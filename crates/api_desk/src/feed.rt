@@ -9,10 +9,13 @@ ghost use Rattle.api_desk.specs.Feed.{shows, last_stamp, piece_told, fed};
 
 use desk_parts::refusal_reply;
 use http_link::Reply;
+use hub_core::Book;
+use map_machine::{MapMachine, MapWorld, book_law};
 use osm_base::{Bytes, Memory, Stamp};
 use osm_change::Refusal;
 use osm_model::Entry;
 use replication_feed::{entry_text, state_text};
+use snapshot_hub::Reading;
 use std::alloc::Global;
 
 /// A call of the replication feed, whose pieces are the entries of the journal.
@@ -71,8 +74,48 @@ pub(crate) fn piece_reply(
     }
 }
 
+/// The stamp of the map's last entry, or 0 before the first.
+pub(crate) struct LastStamp;
+
+impl Reading<MapMachine> for LastStamp {
+    ghost use Rattle.osm_model.specs.declared.states.State.{State};
+
+    type Read = Stamp;
+
+    ghost of = { λ (P : State). P.last };
+
+    fn read(world: &MapWorld) -> Stamp {
+        world.world().last_stamp()
+    }
+}
+
+/// The stamp of a book's last entry, or 0 where there is none.
+fn book_stamp(book: &Book<MapMachine>) -> Stamp
+    ensures { result ≡ last_stamp book.now }
+{
+    book_law(book);
+    LastStamp::read(book.world())
+}
+
+/// The reply to a call of the feed, where a book has all its entries.
+pub fn feed_reply(alloc: Global, book: &Book<MapMachine>, call: FeedCall) -> Result<Reply, Memory>
+    ensures reply { IfOk result (λ reply. reply ≡ reply_of (Some (fed book.now call))) }
+    ensures status { IfOk result (λ reply. IsStatus reply.status) }
+{
+    book_law(book);
+    let journal = book.journal();
+    let length = journal.len() as u64;
+    match call {
+        FeedCall::State => state_reply(alloc, length, book_stamp(book)),
+        FeedCall::Piece { number } => {
+            let found = journal.part(alloc, number.saturating_sub(1), 1)?;
+            piece_reply(alloc, length, number, found.first())
+        }
+    }
+}
+
 /// The reply to a call of the feed, where these are all its entries.
-pub fn feed_reply(alloc: Global, journal: &[Entry], call: FeedCall) -> Result<Reply, Memory>
+pub fn list_reply(alloc: Global, journal: &[Entry], call: FeedCall) -> Result<Reply, Memory>
     requires { IsLegal journal.now }
     ensures reply { IfOk result (λ reply. reply ≡ reply_of (Some (fed journal.now call))) }
     ensures status { IfOk result (λ reply. IsStatus reply.status) }

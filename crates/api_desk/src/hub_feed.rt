@@ -8,31 +8,16 @@ ghost use Rattle.api_desk.specs.HubDesk.{MapReplies, GoesOn, ShowsFeed};
 ghost use Rattle.api_desk.specs.Request.{request_of, of_feed};
 ghost use Rattle.api_desk.specs.declared.feed.FeedCall.TheVariants as feed;
 
-use crate::feed::{FeedCall, piece_reply, state_reply};
+use crate::feed::{FeedCall, LastStamp, piece_reply, state_reply};
 use crate::hub_desk::{MapHub, MapSession, map_law};
 use http_link::Reply;
-use map_machine::{MapMachine, MapWorld};
-use osm_base::{Memory, Stamp};
+use map_machine::MapMachine;
+use osm_base::Memory;
 use osm_outside::Gate;
 use shared_front::HubName;
-use snapshot_hub::{Reading, Session, Snapshot};
+use snapshot_hub::{Session, Snapshot};
 use std::alloc::Global;
 use std::sync::Wait;
-
-/// The stamp of the map's last entry, or 0 before the first.
-struct LastStamp;
-
-impl Reading<MapMachine> for LastStamp {
-    ghost use Rattle.osm_model.specs.declared.states.State.{State};
-
-    type Read = Stamp;
-
-    ghost of = { λ (P : State). P.last };
-
-    fn read(world: &MapWorld) -> Stamp {
-        world.world().last_stamp()
-    }
-}
 
 /// The reply to a call for the state, by the map that is published. All that any session was told of
 /// is in it.

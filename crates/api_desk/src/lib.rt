@@ -16,7 +16,7 @@ mod tasks;
 
 pub use answers::refuse;
 pub use desk::{OneDesk, query_reply};
-pub use feed::{FeedCall, feed_reply};
+pub use feed::{FeedCall, feed_reply, list_reply};
 pub use hub_desk::{HubDesk, MapHub, MapSession};
 pub use law::desk_answers;
 pub use load_events::events;

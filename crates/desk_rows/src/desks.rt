@@ -75,7 +75,8 @@ pub fn journals_differ(
     journal: &Journal,
 ) -> Result<Option<&'static str>, Memory> {
     let slow = journal_text(alloc, journal.entries())?;
-    let quick = journal_text(alloc, fast.entries())?;
+    let entries = fast.entries().all(alloc)?;
+    let quick = journal_text(alloc, entries.as_slice())?;
     let are_same = slow.as_slice() == quick.as_slice();
     Ok(if are_same { None } else { Some("the journals") })
 }

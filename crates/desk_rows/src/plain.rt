@@ -10,7 +10,7 @@ ghost use Rattle.api_desk.specs.Answers.{reply_of};
 ghost use Rattle.api_desk.specs.Feed.{says, fed};
 
 use crate::desks::Sender;
-use api_desk::{FeedCall, Request, feed_reply, request_of};
+use api_desk::{FeedCall, Request, list_reply, request_of};
 use desk_parts::RequestFault;
 use http_link::Reply;
 use http_wire::Message;
@@ -100,7 +100,7 @@ fn read(journal: &Journal, alloc: Global, query: &Query, moment: u64) -> Result<
 fn follow(journal: &Journal, alloc: Global, call: FeedCall) -> Result<Reply, Memory>
     ensures { IfOk result (λ reply. reply ≡ reply_of (Some (fed journal.now call))) }
 {
-    feed_reply(alloc, journal.entries(), call)
+    list_reply(alloc, journal.entries(), call)
 }
 
 /// A desk that answers from a journal.

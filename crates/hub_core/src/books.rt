@@ -7,6 +7,7 @@ ghost use Rattle.hub_core.specs.Paths.{MatchPath, IsPath, IsDone};
 
 use crate::counted::CountedJournal;
 use crate::dones::{Done, Judged};
+use crate::entries::Entries;
 use crate::outlets::Outlet;
 use machine_law::{Machine, Settled, Tag};
 use osm_base::{Memory, Steps};
@@ -46,24 +47,11 @@ impl<M: Machine> Book<M> {
     }
 
     /// The entries, in the order of their commits.
-    pub fn journal(&self) -> &[M::Entry]
-        ensures journal { result.now ≡ self.now }
+    pub fn journal(&self) -> Entries<'_, M>
+        ensures journal { result ≡ self.now }
         ensures kept { IsJournal M.rules self.now }
     {
         self.journal.journal()
-    }
-
-    /// The journal alone.
-    pub fn into_journal(self) -> Vec<M::Entry>
-        ensures journal { result.items ≡ self }
-        ensures kept { IsJournal M.rules self }
-    {
-        let Book {
-            alloc: _,
-            journal,
-            world: _,
-        } = self;
-        journal.into_journal()
     }
 
     /// The journal with its counts, and the world after it.

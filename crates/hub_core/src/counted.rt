@@ -1,5 +1,5 @@
 //! The journal with its counts of calls, and what a plan comes to at its end.
-ghost use Rattle.std.specs.Prelude.{◌≡◌, ◌+◌, ◌<◌, ◌≤◌, ℕ, true, Some, [], ◌∷◌, ◌++◌, length, IfOk, OnOk, OnErr, IfSome, MatchOption, List, vec_len, vec_capacity};
+ghost use Rattle.std.specs.Prelude.{◌≡◌, ◌+◌, ◌<◌, ◌≤◌, ◌^◌, ℕ, true, Some, [], ◌∷◌, ◌++◌, map, length, IfOk, OnOk, OnErr, IfSome, MatchOption, List, vec_len, vec_capacity};
 ghost use Rattle.std.specs.BTreeMap.{ContainsKey, Updates};
 ghost use Rattle.std.specs.Ordering.{nat_cmp};
 ghost use mathlib.Core.List.{IsPrefix};
@@ -8,6 +8,7 @@ ghost use Rattle.hub_core.specs.Journal.{calls_of, count_of, extended, place_of,
 ghost use Rattle.hub_core.specs.Paths.{MatchPath, IsPath};
 
 use crate::dones::{Judged, Path};
+use crate::entries::{Entries, MOST};
 use crate::outlets::Outlet;
 use machine_law::{Machine, Settled, Tag};
 use osm_base::{Memory, Steps};
@@ -22,20 +23,22 @@ use std::sync::ledger::Ledger;
 #[derive(Drop)]
 pub struct CountedJournal<M: Machine> {
     alloc: Global,
-    journal: Vec<M::Entry>,
+    journal: Vec<M::Kept>,
     /// The number of entries of each session. A session that has none may have no place.
     calls: BTreeMap<u32, u64>,
 }
 
 impl<M: Machine> Model for CountedJournal<M> {
-    ghost use Rattle.std.specs.Prelude.{List};
+    ghost use Rattle.std.specs.Prelude.{◌≤◌, ◌^◌, List, map, length};
     ghost use Rattle.hub_core.specs.Journal.{IsJournal, AreCounted};
 
     ghost Value = { List M.Entry };
 
-    ghost view = { λ b. b.journal.items };
+    ghost view = { λ b. map M.entry_of b.journal.items };
 
-    ghost invariant = { λ b. IsJournal M.rules b.journal.items × AreCounted M.rules.tag_of b.calls b.journal.items };
+    ghost invariant = { λ b. IsJournal M.rules (map M.entry_of b.journal.items)
+        × AreCounted M.rules.tag_of b.calls (map M.entry_of b.journal.items)
+        × (length b.journal.items ≤ 2 ^ 62) };
 }
 
 impl<M: Machine> CountedJournal<M> {
@@ -51,24 +54,11 @@ impl<M: Machine> CountedJournal<M> {
     }
 
     /// The entries, in the order of their commits.
-    pub fn journal(&self) -> &[M::Entry]
-        ensures journal { result.now ≡ self.now }
+    pub fn journal(&self) -> Entries<'_, M>
+        ensures journal { result ≡ self.now }
         ensures kept { IsJournal M.rules self.now }
     {
-        self.journal.as_slice()
-    }
-
-    /// The entries alone.
-    pub fn into_journal(self) -> Vec<M::Entry>
-        ensures journal { result.items ≡ self }
-        ensures kept { IsJournal M.rules self }
-    {
-        let CountedJournal {
-            alloc: _,
-            journal,
-            calls: _,
-        } = self;
-        journal
+        Entries::of(self.journal.as_slice())
     }
 
     /// The number of the journal's entries with this session, in steps that grow with the logarithm
@@ -132,15 +122,14 @@ impl<M: Machine> CountedJournal<M> {
         ensures err { OnErr result ((self.new ≡ self.old) × O.kept outlet.old outlet.new) }
     {
         make_ready(&mut self.journal, &mut self.calls, tag.session)?;
-        let kept = offer_copied::<M, O>(self.alloc, entry, outlet)?;
+        let kept = keep_offered::<M, O>(self.alloc, entry, outlet)?;
         let place = self.journal.len() as u64;
         self.journal.push_reserved(kept);
         set_count(&mut self.calls, tag.session, tag.call);
         Ok(place)
     }
 
-    /// Puts an entry at the end that is offered to nobody, so that no copy of it is made. `Memory`,
-    /// the only error, leaves the journal.
+    /// Puts an entry at the end that is offered to nobody. `Memory`, the only error, leaves the journal.
     pub fn push(&mut self, entry: M::Entry) -> Result<(), Memory>
         requires taken { M.rules.takes (replay M.rules self.old) entry ≡ true }
         requires next { (M.rules.tag_of entry).call ≡ calls_of M.rules.tag_of (M.rules.tag_of entry).session self.old + 1 }
@@ -149,7 +138,8 @@ impl<M: Machine> CountedJournal<M> {
     {
         let tag = M::tag(&entry);
         make_ready(&mut self.journal, &mut self.calls, tag.session)?;
-        self.journal.push_reserved(entry);
+        let own = M::keep(self.alloc, &entry)?;
+        self.journal.push_reserved(own);
         set_count(&mut self.calls, tag.session, tag.call);
         Ok(())
     }
@@ -181,17 +171,21 @@ impl<M: Machine> CountedJournal<M> {
     }
 }
 
-// Takes all memory that an entry of a session needs, but for its copy.
-fn make_ready<E>(
-    journal: &mut Vec<E>,
+// Takes all memory that an entry of a session needs, but for what is kept of it.
+fn make_ready<T>(
+    journal: &mut Vec<T>,
     calls: &mut BTreeMap<u32, u64>,
     session: u32,
 ) -> Result<(), Memory>
     ensures journal { journal.new.items ≡ journal.old.items }
     ensures calls { (other : ℕ) → count_of calls.new other ≡ count_of calls.old other }
+    ensures few { OnOk result (vec_len journal.new < 2 ^ 62) }
     ensures journal_room { OnOk result (vec_len journal.new < vec_capacity journal.new) }
     ensures calls_room { OnOk result (ContainsKey nat_cmp calls.new session) }
 {
+    if journal.len() >= MOST {
+        return Err(Memory);
+    }
     journal.reserve(1)?;
     make_place(calls, session)
 }
@@ -250,17 +244,17 @@ fn place_before(calls: &BTreeMap<u32, u64>, session: u32) -> Option<(u32, u64)>
     Some((*before, *count))
 }
 
-// Offers an entry, and returns a copy of it.
-fn offer_copied<M: Machine, O: Outlet<M::Entry>>(
+// Offers an entry, and returns what is kept of it.
+fn keep_offered<M: Machine, O: Outlet<M::Entry>>(
     alloc: Global,
     entry: M::Entry,
     outlet: &mut O,
-) -> Result<M::Entry, Memory>
+) -> Result<M::Kept, Memory>
     requires { O.welcomes outlet.old entry }
-    ensures ok { IfOk result (λ kept. (kept ≡ entry) × O.offered outlet.old entry outlet.new) }
+    ensures ok { IfOk result (λ kept. (M.entry_of kept ≡ entry) × O.offered outlet.old entry outlet.new) }
     ensures err { OnErr result (O.kept outlet.old outlet.new) }
 {
-    let kept = M::copy(alloc, &entry)?;
+    let kept = M::keep(alloc, &entry)?;
     outlet.offer(entry)?;
     Ok(kept)
 }

@@ -5,6 +5,7 @@
 mod books;
 mod counted;
 mod dones;
+mod entries;
 mod events;
 mod law;
 mod list_outlet;
@@ -14,8 +15,9 @@ mod running;
 pub use books::Book;
 pub use counted::CountedJournal;
 pub use dones::{Done, Judged, Path};
+pub use entries::Entries;
 pub use events::{Event, Seen};
 pub use law::core_law;
 pub use list_outlet::ListOutlet;
-pub use outlets::{NoOutlet, Outlet};
+pub use outlets::{LastOutlet, NoOutlet, Outlet};
 pub use running::{Run, interleave};

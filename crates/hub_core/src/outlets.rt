@@ -1,5 +1,5 @@
 //! Where entries are offered as they are taken.
-ghost use Rattle.std.specs.Prelude.{◌≡◌, Option, List, MatchResult, IsOk};
+ghost use Rattle.std.specs.Prelude.{◌≡◌, Option, Some, List, MatchResult, IsOk};
 ghost use Rattle.hub_core.specs.Outlets.{with_offer};
 
 use osm_base::Memory;
@@ -59,4 +59,37 @@ impl<E: Drop> Outlet<E> for NoOutlet {
     ghost holds_on = { λ before after left. refl };
 
     ghost keeps_itself = { λ outlet. tt };
+}
+
+/// An outlet that has the last entry that it was offered. It tells nothing of those before, and takes no
+/// memory.
+#[derive(Drop)]
+pub struct LastOutlet<E> {
+    pub last: Option<E>,
+}
+
+impl<E: Drop> Outlet<E> for LastOutlet<E> {
+    ghost use Rattle.std.specs.Prelude.{◌≡◌, None, Some, refl};
+
+    ghost holds = { λ outlet. None };
+
+    ghost welcomes = { λ outlet entry. Unit {0} };
+
+    ghost offered = { λ before entry after. after.last ≡ Some entry };
+
+    ghost kept = { λ before after. after ≡ before };
+
+    fn offer(&mut self, entry: E) -> Result<(), Memory>
+        ensures ok { IsOk result }
+        ensures last { self.new.last ≡ Some entry }
+    {
+        self.last = Some(entry);
+        Ok(())
+    }
+
+    ghost appends = { λ before entry after taken. refl };
+
+    ghost holds_on = { λ before after left. refl };
+
+    ghost keeps_itself = { λ outlet. refl };
 }

@@ -130,14 +130,14 @@ impl<M: Machine> Core<M> {
         Ok(Seen::Answered(bytes))
     }
 
-    // A copy of the first entry that isn't shown.
+    // The first entry that isn't shown.
     fn next_entry(&self) -> Result<M::Entry, Memory>
         requires { self.now.published < length self.now.journal }
         ensures taken { IfOk result (λ entry. M.rules.takes (replay M.rules (take self.now.published self.now.journal)) entry ≡ true) }
         ensures item { IfOk result (λ entry. entry ≡ slice_index_or self.now.journal self.now.published entry) }
         ensures few { self.now.published + 1 < 2 ^ 64 }
     {
-        M::copy(self.alloc, &self.book.journal()[self.published])
+        self.book.journal().entry(self.alloc, self.published)
     }
 
     // Lets the world that is shown follow one entry more.
@@ -269,19 +269,12 @@ impl<M: Machine> Core<M> {
         Ok(replies)
     }
 
-    // The journal alone.
-    fn into_journal(self) -> Vec<M::Entry>
-        ensures journal { result.items ≡ self.journal }
-        ensures kept { IsJournal M.rules result.items }
+    // The whole journal.
+    fn journal(&self) -> Result<Vec<M::Entry>, Memory>
+        ensures journal { IfOk result (λ journal. journal.items ≡ self.now.journal) }
+        ensures kept { IsJournal M.rules self.now.journal }
     {
-        let Core {
-            alloc: _,
-            book,
-            shown: _,
-            published: _,
-            callers: _,
-        } = self;
-        book.into_journal()
+        self.book.journal().all(self.alloc)
     }
 }
 
@@ -332,7 +325,7 @@ pub fn interleave<M: Machine, L: Ledger>(
     let mut core = Core::<M>::new(alloc, sessions)?;
     let replies = core.play(events, steps)?;
     Ok(Run {
-        journal: core.into_journal(),
+        journal: core.journal()?,
         replies,
     })
 }

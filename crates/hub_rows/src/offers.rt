@@ -129,16 +129,24 @@ fn calls_in(count: usize, session: u32) -> u64 {
 }
 
 /// Whether journal, world, counts and outlet are those after so many entries.
-fn is_after(count: usize, book: &Book<Rising>, outlet: &ListOutlet<Entry>) -> bool {
-    let (journal, held, world) = (book.journal(), outlet.held(), book.world());
-    journal.len() == count
-        && held.len() == count
-        && world.len() == count
-        && ENTRIES.starts_with(journal)
-        && ENTRIES.starts_with(held)
-        && NUMBERS.starts_with(world.as_slice())
-        && book.calls(0) == calls_in(count, 0)
-        && book.calls(1) == calls_in(count, 1)
+fn is_after(
+    alloc: Global,
+    count: usize,
+    book: &Book<Rising>,
+    outlet: &ListOutlet<Entry>,
+) -> Result<bool, Memory> {
+    let journal = book.journal().all(alloc)?;
+    let (held, world) = (outlet.held(), book.world());
+    Ok(
+        journal.len() == count
+            && held.len() == count
+            && world.len() == count
+            && ENTRIES.starts_with(journal.as_slice())
+            && ENTRIES.starts_with(held)
+            && NUMBERS.starts_with(world.as_slice())
+            && book.calls(0) == calls_in(count, 0)
+            && book.calls(1) == calls_in(count, 1),
+    )
 }
 
 /// Commits a number, and once more where it finds no memory.
@@ -155,12 +163,12 @@ fn play_row<L: Ledger>(
         Ok(entry) => entry,
         Err(Memory) => {
             course.lacking = Some(place);
-            course.right &= is_after(row.before, book, outlet);
+            course.right &= is_after(alloc, row.before, book, outlet)?;
             commit(alloc, book, row, outlet, steps)?
         }
     };
     course.right &= entry == (row.before < row.after).then_some(row.before as u64);
-    course.right &= is_after(row.after, book, outlet);
+    course.right &= is_after(alloc, row.after, book, outlet)?;
     Ok(())
 }
 

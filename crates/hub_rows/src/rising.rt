@@ -27,6 +27,8 @@ impl Machine for Rising {
 
     type Entry = (Tag, u64);
 
+    type Kept = (Tag, u64);
+
     type Look = Option<u64>;
 
     type State = [u64; 0];
@@ -36,6 +38,8 @@ impl Machine for Rising {
     ghost rules = { rising_rules };
 
     ghost told = { λ found. found };
+
+    ghost entry_of = { λ kept. kept };
 
     ghost has_room = { λ world entry. vec_len world < vec_capacity world };
 
@@ -89,6 +93,14 @@ impl Machine for Rising {
 
     fn copy(_alloc: Global, entry: &(Tag, u64)) -> Result<(Tag, u64), Memory> {
         Ok(*entry)
+    }
+
+    fn keep(_alloc: Global, entry: &(Tag, u64)) -> Result<(Tag, u64), Memory> {
+        Ok(*entry)
+    }
+
+    fn entry(_alloc: Global, kept: &(Tag, u64)) -> Result<(Tag, u64), Memory> {
+        Ok(*kept)
     }
 
     fn accepts(_alloc: Global, world: &Vec<u64>, entry: &(Tag, u64)) -> Result<bool, Memory> {

@@ -3,8 +3,9 @@
 //! What a follower says of a piece is one computing definition over the entries that are kept, and
 //! a list of calls has its own: so the theorem on feeds in any order speaks of lists alone, and
 //! whoever calls `take` has of each call just what the list needs.
-ghost use Rattle.std.specs.Prelude.{◌≡◌, ◌+◌, ◌-◌, ◌≤◌, ◌<◌, [], length, slice_get, Some, Ok, IfOk, OnErr, if◌then◌else◌};
+ghost use Rattle.std.specs.Prelude.{◌≡◌, ◌+◌, ◌-◌, ◌≤◌, ◌<◌, ◌^◌, ◌++◌, ◌∷◌, List, [], length, slice_get, Some, Ok, IfOk, IfSome, OnErr, if◌then◌else◌};
 ghost use Rattle.osm_model.specs.Journal.{IsLegal};
+ghost use Rattle.osm_model.specs.declared.commands.Entry.{Entry};
 ghost use Rattle.journal_text.specs.Kept.{may_follow};
 ghost use Rattle.journal_follower.specs.Taken.{is_same, taken, kept_with, after_call};
 ghost use Rattle.journal_follower.specs.declared.answers.Taken.TheVariants.{Old, Differs, Folded, Illegal};
@@ -53,7 +54,8 @@ impl Follower {
 
     /// How many entries are kept: the number of the last folded piece, or 0.
     pub fn length(&self) -> u64
-        ensures { result ≡ length self.now }
+        ensures length { result ≡ length self.now }
+        ensures few { result ≤ 2 ^ 62 }
     {
         self.book().journal().len() as u64
     }
@@ -64,6 +66,13 @@ impl Follower {
         ensures legal { IsLegal self.now }
     {
         self.keeper.book()
+    }
+
+    /// The last entry, where the follower itself kept it.
+    pub fn last(&self) -> Option<&Entry>
+        ensures { IfSome result (λ entry. (before : List Entry) × (self.now ≡ before ++ entry.now ∷ [])) }
+    {
+        self.keeper.last()
     }
 
     /// Takes a piece. `Memory` leaves the follower as it was.
@@ -88,8 +97,9 @@ impl Follower {
         ensures kept { IfOk result (λ answer. kept_with answer self.now piece.now.entry ≡ self.now) }
         ensures same { result ≡ Ok Old → slice_get self.now (piece.now.number - 1) ≡ Some piece.now.entry }
     {
-        let entries = self.book().journal();
-        compare(alloc, &entries[piece.number as usize - 1], &piece.entry)
+        let place = piece.number as usize - 1;
+        let own = self.book().journal().entry(alloc, place)?;
+        compare(alloc, &own, &piece.entry)
     }
 
     /// Takes a piece in whose place nothing is kept.

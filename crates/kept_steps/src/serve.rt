@@ -109,7 +109,7 @@ where
     // What is kept of a list is kept of each longer one.
     receipts_stay::<S::Entry, T, V>();
     let KeptList { value, file } = kept;
-    let Ok((hub, first)) = StepHub::<N, S>::begin(value, opened) else {
+    let Ok((hub, first)) = StepHub::<N, S>::begin(alloc, value, opened) else {
         return (Outcome::LacksMemory, file.into_device());
     };
     let shelved = shelve::<N, K, S::Entry, T, V, R>(rt, alloc, file, first.again(), receipts);

@@ -32,6 +32,9 @@ pub trait Machine {
     /// What an accepted command does.
     type Entry: Drop;
 
+    /// What a journal keeps of an entry.
+    type Kept: Drop;
+
     /// Where a plan and a world differ.
     type Look: Drop;
 
@@ -46,6 +49,9 @@ pub trait Machine {
 
     // The answer that what was found comes to.
     ghost told: { Self.Found → List ℕ };
+
+    // The entry that is kept.
+    ghost entry_of: { Self.Kept → Self.Entry };
 
     // Whether an entry can be applied without memory.
     ghost has_room: { Self.World → Self.Entry → Type 0 };
@@ -104,6 +110,14 @@ pub trait Machine {
     /// A second entry that is equal to this one.
     fn copy(alloc: Global, entry: &Self::Entry) -> Result<Self::Entry, Memory>
         ensures { IfOk result (λ e. e ≡ entry.now) };
+
+    /// What a journal keeps of this entry.
+    fn keep(alloc: Global, entry: &Self::Entry) -> Result<Self::Kept, Memory>
+        ensures { IfOk result (λ kept. entry_of kept ≡ entry.now) };
+
+    /// An entry that is equal to the kept one.
+    fn entry(alloc: Global, kept: &Self::Kept) -> Result<Self::Entry, Memory>
+        ensures { IfOk result (λ entry. entry ≡ entry_of kept.now) };
 
     /// Whether an entry may come next on this world.
     fn accepts(alloc: Global, world: &Self::World, entry: &Self::Entry) -> Result<bool, Memory>

@@ -1,6 +1,6 @@
 -- An entry that is kept by the map's book.
-use Rattle.std.proofs.Common.{◌≡◌, ℕ, ◌+◌, Bool, true, false, ◌&&◌, List, is_ok, Option, Result, Ok, Err, refl, sym, ap, ◌∙◌}
-use Rattle.std.specs.Prelude.{◌==◌}
+use Rattle.std.proofs.Common.{◌≡◌, ℕ, ◌+◌, Bool, true, false, ◌&&◌, List, [], ◌∷◌, ◌++◌, is_ok, Option, Some, None, Result, Ok, Err, refl, sym, ap, ◌∙◌}
+use Rattle.std.specs.Prelude.{◌==◌, MatchOption}
 use Rattle.std.specs.Option.{is_some}
 use Rattle.std.proofs.lemmas.Bool.{and_parts, eqb-true}
 use Rattle.hub_core.specs.Journal.{extended, place_of}
@@ -10,6 +10,8 @@ use Rattle.osm_change.specs.declared.refusals.Refusal.{Refusal}
 use Rattle.osm_model.specs.Act.{Effect, judge}
 use Rattle.osm_model.specs.Journal.{calls_of, entry_of, replay}
 use Rattle.osm_model.specs.declared.commands.Entry.{Entry}
+use Rattle.hub_core.specs.declared.outlets.LastOutlet.{LastOutlet}
+use Rattle.map_machine.specs.Kept.{IsLastOf}
 use Rattle.map_machine.specs.Machine.{entry_if}
 use Rattle.journal_text.specs.Kept.{may_follow, kept_by, is_in_turn}
 
@@ -63,3 +65,10 @@ module _ (es : List Entry) (e : Entry) where
   kept_at entry new turn is at =
       at ∙ ap (extended es) (is ∙ entry_by turn) ∙ kept_so (judge (replay es) e.user e.stamp e.command)
       ∙ ap (λ (b : Bool). kept_by {E = Memory} (Ok b) es e) (sym (may_by turn))
+
+-- a commit leaves the last entry at hand, if one was
+pub handed : (place : Option ℕ) (old new : List Entry) (had has : LastOutlet Entry) (Tagged : Entry → Type 0) → IsLastOf old had.last
+    → MatchOption place ((new ≡ old) × (has ≡ had)) (λ place. (e : Entry) × (new ≡ old ++ e ∷ []) × Tagged e × (has.last ≡ Some e))
+    → IsLastOf new has.last
+handed None old new had has Tagged was same = rw (same.0, same.1) was
+handed (Some place) old new had has Tagged was one = rw one.3 (old, one.1)

@@ -3,3 +3,4 @@ pub mod Machine
 pub mod Copied
 pub mod Found
 pub mod Laws
+pub mod Kept

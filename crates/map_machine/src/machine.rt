@@ -73,6 +73,8 @@ impl Machine for MapMachine {
 
     type Entry = Entry;
 
+    type Kept = Entry;
+
     type Look = Look;
 
     type State = State;
@@ -82,6 +84,8 @@ impl Machine for MapMachine {
     ghost rules = { map_rules };
 
     ghost told = { told };
+
+    ghost entry_of = { λ kept. kept };
 
     ghost has_room = { λ w entry. HasRoom w.world entry.command };
 
@@ -136,6 +140,14 @@ impl Machine for MapMachine {
 
     fn copy(alloc: Global, entry: &Entry) -> Result<Entry, Memory> {
         entry.copy(alloc)
+    }
+
+    fn keep(alloc: Global, entry: &Entry) -> Result<Entry, Memory> {
+        entry.copy(alloc)
+    }
+
+    fn entry(alloc: Global, kept: &Entry) -> Result<Entry, Memory> {
+        kept.copy(alloc)
     }
 
     fn accepts(alloc: Global, world: &MapWorld, entry: &Entry) -> Result<bool, Memory> {

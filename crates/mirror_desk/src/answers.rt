@@ -43,7 +43,7 @@ fn answer_request<L: Ledger>(
     match request {
         Request::Forbidden => read_only(alloc),
         Request::Read(query) => query_reply(follower.book(), alloc, query, moment, steps),
-        Request::State => feed_reply(alloc, follower.book().journal(), FeedCall::State),
+        Request::State => feed_reply(alloc, follower.book(), FeedCall::State),
         Request::Piece => answer_piece(alloc, follower, body),
     }
 }

@@ -14,16 +14,15 @@ use crate::replies::{not_piece, took};
 use http_link::Reply;
 use journal_follower::{Follower, Taken};
 use osm_base::Memory;
-use osm_model::Entry;
 use replication_feed::{Piece, PieceFault, read_piece};
 use std::alloc::Global;
 
-/// The number of the piece that comes next after these entries.
-fn next_number(entries: &[Entry]) -> u64
-    ensures next { result ≡ length entries.now + 1 }
+/// The number of the piece that comes next.
+fn next_number(follower: &Follower) -> u64
+    ensures next { result ≡ length follower.now + 1 }
     ensures room { result + 1 < 2 ^ 64 }
 {
-    entries.len() as u64 + 1
+    follower.length() + 1
 }
 
 /// Takes a piece. The answer to one that is folded is made before it is, so that none is folded whose
@@ -37,7 +36,7 @@ fn take_piece(alloc: Global, follower: &mut Follower, piece: Piece) -> Result<Re
     ensures status { IfOk result (λ reply. IsStatus reply.status) }
 {
     let number = piece.number;
-    let next = next_number(follower.book().journal());
+    let next = next_number(follower);
     let folded = took(alloc, number, next + 1, Taken::Folded)?;
     match follower.take(alloc, piece)? {
         Taken::Folded => Ok(folded),

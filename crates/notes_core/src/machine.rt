@@ -40,6 +40,8 @@ impl Machine for NotesMachine {
 
     type Entry = NoteEntry;
 
+    type Kept = NoteEntry;
+
     type Look = NoteLook;
 
     type State = Notes;
@@ -49,6 +51,8 @@ impl Machine for NotesMachine {
     ghost rules = { note_rules };
 
     ghost told = { λ found. found };
+
+    ghost entry_of = { λ kept. kept };
 
     ghost has_room = { λ w entry. HasRoomFor w entry.command };
 
@@ -100,6 +104,14 @@ impl Machine for NotesMachine {
 
     fn copy(alloc: Global, entry: &NoteEntry) -> Result<NoteEntry, Memory> {
         entry.copy(alloc)
+    }
+
+    fn keep(alloc: Global, entry: &NoteEntry) -> Result<NoteEntry, Memory> {
+        entry.copy(alloc)
+    }
+
+    fn entry(alloc: Global, kept: &NoteEntry) -> Result<NoteEntry, Memory> {
+        kept.copy(alloc)
     }
 
     fn accepts(_alloc: Global, world: &NotesWorld, entry: &NoteEntry) -> Result<bool, Memory> {

@@ -15,6 +15,7 @@ use crate::ends::{End, EndList};
 use crate::held::Held;
 use crate::session::Session;
 use crate::snapshot::Snapshot;
+use hub_core::Entries;
 use machine_law::Machine;
 use shared_front::{Front, HubName};
 use std::marker::Model;
@@ -40,8 +41,8 @@ impl<'a, N: HubName, M: Machine, S: Snapshot<N, M>, R: Wait + Drop> Model
 
 /// What a hub leaves: its journal, and how its sessions ended, in the order of the calls.
 #[derive(Drop)]
-pub struct Closing<'a, E> {
-    pub journal: &'a [E],
+pub struct Closing<'a, M: Machine> {
+    pub journal: Entries<'a, M>,
     pub ends: &'a [End],
 }
 
@@ -70,8 +71,8 @@ impl<'a, N: HubName, M: Machine, S: Snapshot<N, M>, R: Wait + Drop> Closer<'a, N
     }
 
     /// The journal, and the ends. It takes no memory.
-    pub fn done(&self) -> Closing<'_, M::Entry>
-        ensures journal { result.journal.now ≡ self.now.journal }
+    pub fn done(&self) -> Closing<'_, M>
+        ensures journal { result.journal ≡ self.now.journal }
         ensures ends { result.ends.now ≡ self.now.ends.told }
         ensures kept { IsJournal M.rules self.now.journal }
         ensures once { EachOnce M.rules.tag_of self.now.journal }

@@ -15,7 +15,7 @@ use crate::seats::Seats;
 use crate::session::Session;
 use crate::snapshot::Snapshot;
 use crate::twins::Twins;
-use hub_core::{CountedJournal, Done, Judged};
+use hub_core::{CountedJournal, Done, Entries, Judged};
 use machine_law::{Machine, Settled, Tag};
 use osm_base::{Memory, Steps};
 use shared_front::{Front, HubName};
@@ -74,7 +74,14 @@ pub fn begin<N: HubName, M: Machine, S: Snapshot<N, M>, R: Wait + Drop>(
     let (journal, first, second) = twins.into_parts();
     let entries = journal.journal();
     let seat = opened.named::<N>();
-    let press = Press::begin(alloc, rt, seat, entries, (first, second), sessions as usize)?;
+    let press = Press::begin(
+        alloc,
+        rt,
+        seat,
+        &entries,
+        (first, second),
+        sessions as usize,
+    )?;
     let sessions = returning(alloc, &press, &journal, sessions)?;
     let held = Held {
         entries: journal,
@@ -117,8 +124,8 @@ impl<N: HubName, M: Machine, S: Snapshot<N, M>, R: Wait + Drop> Held<N, M, S, R>
     }
 
     /// The entries, in the order of their commits.
-    pub fn journal(&self) -> &[M::Entry]
-        ensures journal { result.now ≡ self.now.journal }
+    pub fn journal(&self) -> Entries<'_, M>
+        ensures journal { result ≡ self.now.journal }
         ensures kept { IsJournal M.rules self.now.journal }
         ensures seated { AreSeated M.rules.tag_of N.sessions self.now.journal }
     {
@@ -299,27 +306,7 @@ pub fn part<N: HubName, M: Machine, S: Snapshot<N, M>, R: Wait + Drop>(
     ensures err { OnErr result ((held.new ≡ held.old) × (session.new ≡ session.old)) }
 {
     let _begins = session.standing.front().begins(held.press.front());
-    let part = copied::<M>(session.alloc, part_of(held.journal(), from, count))?;
+    let part = held.journal().part(session.alloc, from, count)?;
     freshen(held, session)?;
     Ok(part)
-}
-
-// The entries from a place on, at most so many.
-#[tactic(auto, using(std::proofs::lemmas::List::drop_min, std::proofs::lemmas::List::take_min))]
-fn part_of<E>(entries: &[E], from: u64, count: u64) -> &[E]
-    ensures { result.now ≡ take count (drop from entries.now) }
-{
-    let rest = &entries[(from as usize).min(entries.len())..];
-    &rest[..(count as usize).min(rest.len())]
-}
-
-// Copies of entries, in their order.
-fn copied<M: Machine>(alloc: Global, entries: &[M::Entry]) -> Result<Vec<M::Entry>, Memory>
-    ensures { IfOk result (λ made. made.items ≡ entries.now) }
-{
-    let mut made = Vec::with_capacity(alloc, entries.len())?;
-    for entry in entries {
-        made.push(M::copy(alloc, entry)?)?;
-    }
-    Ok(made)
 }

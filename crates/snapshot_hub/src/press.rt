@@ -7,7 +7,7 @@ ghost use Rattle.snapshot_hub.specs.Editions.{edition, listed};
 
 use crate::snapshot::Snapshot;
 use crate::step::Step;
-use hub_core::Outlet;
+use hub_core::{Entries, Outlet};
 use left_right::{ReadHandle, WriteHandle};
 use machine_law::Machine;
 use osm_base::Memory;
@@ -52,7 +52,7 @@ impl<N: HubName, M: Machine, S: Snapshot<N, M>, R: Wait + Drop> Press<N, M, S, R
         alloc: Global,
         rt: R,
         seat: (Tail<N, M::Entry>, Front<N, M::Entry>),
-        entries: &[M::Entry],
+        entries: &Entries<'_, M>,
         worlds: (M::World, M::World),
         readers: usize,
     ) -> Result<Press<N, M, S, R>, Memory>
@@ -64,7 +64,7 @@ impl<N: HubName, M: Machine, S: Snapshot<N, M>, R: Wait + Drop> Press<N, M, S, R
         ensures { IfOk result (λ p. p ≡ edition entries.now entries.now) }
     {
         let (tail, mut front) = seat;
-        add_all(&tail, &mut front, entries)?;
+        add_all(alloc, &tail, &mut front, entries)?;
         let (first, second) = worlds;
         let first = S::of_world(alloc, first, &front);
         let second = S::of_world(alloc, second, &front);
@@ -150,16 +150,18 @@ impl<N: HubName, M: Machine, S: Snapshot<N, M>, R: Wait + Drop> Outlet<M::Entry>
 }
 
 // Adds these entries to a front that has none yet.
-fn add_all<N: HubName, E>(
-    tail: &Tail<N, E>,
-    front: &mut Front<N, E>,
-    entries: &[E],
+fn add_all<N: HubName, M: Machine>(
+    alloc: Global,
+    tail: &Tail<N, M::Entry>,
+    front: &mut Front<N, M::Entry>,
+    entries: &Entries<'_, M>,
 ) -> Result<(), Memory>
     requires { front.old ≡ [] }
     ensures { OnOk result (front.new ≡ entries.now) }
 {
-    for entry in entries {
-        if front.len() >= MOST || !front.add(tail, entry) {
+    for place in 0..entries.len() {
+        let entry = entries.entry(alloc, place)?;
+        if front.len() >= MOST || !front.add(tail, &entry) {
             return Err(Memory);
         }
     }

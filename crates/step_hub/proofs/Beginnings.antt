@@ -1,6 +1,7 @@
 -- Beginnings of one list.
-use Rattle.std.proofs.Common.{◌≡◌, ℕ, ◌+◌, ◌<◌, ◌≤◌, List, [], ◌∷◌, ◌++◌, length, take, get_or, ⊎_elim, inl, refl, ap, sym, ◌∙◌, arith, append_assoc, append-nil, length-append}
+use Rattle.std.proofs.Common.{◌≡◌, ℕ, ◌+◌, ◌<◌, ◌≤◌, List, [], ◌∷◌, ◌++◌, length, take, drop, ◌-◌, get_or, ⊎_elim, inl, refl, ap, sym, ◌∙◌, arith, append_assoc, append-nil, length-append}
 use Rattle.std.proofs.lemmas.List.{take-append-le, take_more}
+use Rattle.std.proofs.Math.Seq.{drop-append_seam, take-length}
 use Rattle.std.specs.List.{AllByRecursion}
 use mathlib.Core.List.{IsPrefix}
 use Rattle.http_wire.specs.declared.message.Message.{Message}
@@ -32,6 +33,26 @@ module _ {A : Type 0} where
   pub grows_one : (old new : List A) → GrowsByOne old new → length new ≤ length old + 1
   grows_one old new grown =
       ⊎_elim (λ same. omega (arith, ap length same)) (λ more. omega (arith, ap length more.1 ∙ length-append old (more.0 ∷ []))) grown
+
+  -- what grows by one and is longer has its last entry more
+  pub grown_last : (old new before : List A) (e : A) → GrowsByOne old new → new ≡ before ++ e ∷ [] → length old < length new → old ++ e ∷ [] ≡ new
+  grown_last old new before e grown last longer =
+      ⊎_elim (λ same. absurd (omega (arith, longer, ap length same)))
+      (λ more. let is : before ++ e ∷ [] ≡ old ++ more.0 ∷ [] = sym last ∙ more.1 in
+      ap (λ x. old ++ x ∷ []) (last_same before old e more.0 is) ∙ sym more.1) grown
+    where
+      last_same : (xs ys : List A) (x y : A) → xs ++ x ∷ [] ≡ ys ++ y ∷ [] → x ≡ y
+      last_same [] [] x y is = cc
+      last_same [] (b ∷ ys) x y is = absurd (omega (arith, ap length is, length-append ys (y ∷ [])))
+      last_same (a ∷ xs) [] x y is = absurd (omega (arith, ap length is, length-append xs (x ∷ [])))
+      last_same (a ∷ xs) (b ∷ ys) x y is = let rest : xs ++ x ∷ [] ≡ ys ++ y ∷ [] = cc in last_same xs ys x y rest
+
+  -- the part of a list behind a beginning of it
+  pub part_behind : (old new : List A) → IsPrefix old new → old ++ take (length new - length old) (drop (length old) new) ≡ new
+  part_behind old new p =
+      let rest : drop (length old) new ≡ p.0 = ap (drop (length old)) (sym p.1) ∙ drop-append_seam old p.0 in
+      let more : length new - length old ≡ length p.0 = omega (arith, sym (ap length p.1) ∙ length-append old p.0) in
+      rw (rest, more, take-length) p.1
 
   -- a step that leaves the list that was seen
   pub nothing_done : (steps : List A → Message → ℕ → Reply → List A → Type 0) (list : List A) (grown : ℕ) (message : Message) (moment : ℕ) (reply : Reply)

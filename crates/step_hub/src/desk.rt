@@ -55,7 +55,7 @@ impl<'a, N: HubName, S: Stepped + Drop, R: Wait> StepDesk<'a, N, S, R> {
         }
     }
 
-    /// Copies of the entries that are found under the lock behind this beginning of the list, and the longer one that they make of it.
+    /// The entries that are found under the lock behind this beginning of the list, and the longer one that they make of it.
     /// `None` where the hub has no list that begins so, which no run has shown.
     pub fn behind(
         &self,

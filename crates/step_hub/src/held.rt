@@ -14,7 +14,7 @@ ghost use Rattle.step_hub.specs.Steps.{GrowsByOne, StepsOn};
 use crate::stepped::Stepped;
 use http_link::Reply;
 use http_wire::Message;
-use osm_base::{Memory, copy_all};
+use osm_base::Memory;
 use shared_front::{Front, HubName, Tail};
 use std::alloc::Global;
 use std::marker::Model;
@@ -43,8 +43,9 @@ impl<N: HubName, S: Stepped + Drop> Model for Held<N, S> {
 }
 
 impl<N: HubName, S: Stepped + Drop> Held<N, S> {
-    /// The value's list, all of it added to an empty list. `Memory` where that took no more, which no run has shown.
+    /// The value's list, all of it added to an empty list. `Memory` also where that took no more, which no run has shown.
     pub fn begin(
+        alloc: Global,
         value: S,
         tail: Tail<N, S::Entry>,
         mut front: Front<N, S::Entry>,
@@ -53,9 +54,7 @@ impl<N: HubName, S: Stepped + Drop> Held<N, S> {
         ensures list { IfOk result (λ held. held ≡ S.list value) }
         ensures legal { IfOk result (λ held. S.legal held) }
     {
-        if !add_all(value.entries(), &tail, &mut front) {
-            return Err(Memory);
-        }
+        add_all(alloc, &value, &tail, &mut front)?;
         Ok(Held {
             value,
             tail,
@@ -99,7 +98,7 @@ impl<N: HubName, S: Stepped + Drop> Held<N, S> {
         }
         let found = self.front.len();
         let reply = self.value.answer(alloc, setting, message, moment);
-        if !catch_up(self.value.entries(), &self.tail, &mut self.front) {
+        if !catch_up(&self.value, &self.tail, &mut self.front) {
             self.ahead = true;
             return Err(Memory);
         }
@@ -108,7 +107,7 @@ impl<N: HubName, S: Stepped + Drop> Held<N, S> {
         reply
     }
 
-    /// Copies of the entries behind this beginning of the list, and the longer one that they make of it, which is all of it. `None`
+    /// The entries behind this beginning of the list, and the longer one that they make of it, which is all of it. `None`
     /// where what was seen of the list is longer than the list, or the value has an entry that the list hasn't: no run has shown either.
     pub fn behind(
         &self,
@@ -121,40 +120,50 @@ impl<N: HubName, S: Stepped + Drop> Held<N, S> {
         if self.ahead || !front.begins(&self.front) {
             return Ok(None);
         }
-        let entries = self.value.entries();
-        let seen = (front.len() as usize).min(entries.len());
-        let copies = copy_all(alloc, &entries[seen..])?;
-        Ok(Some((copies, self.front.again())))
+        let behind = self.front.len() - front.len();
+        let entries = self.value.part(alloc, front.len(), behind)?;
+        Ok(Some((entries, self.front.again())))
     }
 }
 
-/// Adds all these entries to an empty list, and says whether it did.
-fn add_all<N: HubName, E>(entries: &[E], tail: &Tail<N, E>, front: &mut Front<N, E>) -> bool
+/// Adds all entries of a value to an empty list.
+fn add_all<N: HubName, S: Stepped>(
+    alloc: Global,
+    value: &S,
+    tail: &Tail<N, S::Entry>,
+    front: &mut Front<N, S::Entry>,
+) -> Result<(), Memory>
     requires { front.old ≡ [] }
-    ensures { IsTrue result → front.new ≡ entries.now }
+    ensures list { OnOk result (front.new ≡ S.list value.now) }
+    ensures legal { S.legal (S.list value.now) }
 {
-    if entries.len() as u64 >= MOST {
-        return false;
-    }
-    for entry in entries {
-        if !front.add(tail, entry) {
-            return false;
+    for place in 0..value.len() {
+        let entry = value.entry(alloc, place)?;
+        if front.len() >= MOST || !front.add(tail, &entry) {
+            return Err(Memory);
         }
     }
-    true
+    Ok(())
 }
 
-/// Adds the entry that the front lacks of these, if it lacks one, and says whether it has them all then.
-fn catch_up<N: HubName, E>(entries: &[E], tail: &Tail<N, E>, front: &mut Front<N, E>) -> bool
+/// Adds the entry that the front lacks of a value's list, if it lacks one, and says whether it has them all then.
+fn catch_up<N: HubName, S: Stepped>(
+    value: &S,
+    tail: &Tail<N, S::Entry>,
+    front: &mut Front<N, S::Entry>,
+) -> bool
     requires { length front.old < 2 ^ 62 }
-    ensures all { IsTrue result → GrowsByOne front.old entries.now → front.new ≡ entries.now }
+    ensures all { IsTrue result → GrowsByOne front.old (S.list value.now) → front.new ≡ S.list value.now }
+    ensures legal { S.legal (S.list value.now) }
     ensures begins { IsPrefix front.old front.new }
     ensures more { length front.old ≤ length front.new }
     ensures one { IsTrue result → length front.new ≤ length front.old + 1 }
 {
-    let seen = front.len() as usize;
-    if seen >= entries.len() {
+    if front.len() >= value.len() as u64 {
         return true;
     }
-    front.add(tail, &entries[seen])
+    match value.last() {
+        Some(entry) => front.add(tail, entry),
+        None => false,
+    }
 }

@@ -15,9 +15,10 @@ pub struct StepHub<N: HubName, S: Stepped + Drop> {
 }
 
 impl<N: HubName, S: Stepped + Drop> StepHub<N, S> {
-    /// A hub of a value under that name, and the front that has seen the value's whole list. It takes no memory; `Memory` where that
-    /// list couldn't be added to an empty one, which no run has shown.
+    /// A hub of a value under that name, and the front that has seen the value's whole list. `Memory` also where that list couldn't
+    /// be added to an empty one, which no run has shown.
     pub fn begin(
+        alloc: Global,
         value: S,
         opened: Opened<S::Entry>,
     ) -> Result<(StepHub<N, S>, Front<N, S::Entry>), Memory>
@@ -26,7 +27,7 @@ impl<N: HubName, S: Stepped + Drop> StepHub<N, S> {
         ensures legal { IfOk result (λ r. S.legal r.1) }
     {
         let (tail, none) = opened.named::<N>();
-        let held = Held::begin(value, tail, none)?;
+        let held = Held::begin(alloc, value, tail, none)?;
         let front = held.front().again();
         let hub = StepHub {
             held: Mutex::new(held),
@@ -34,7 +35,7 @@ impl<N: HubName, S: Stepped + Drop> StepHub<N, S> {
         Ok((hub, front))
     }
 
-    /// Copies of the entries that are found behind this beginning of the list, and the longer one that they make of it.
+    /// The entries that are found behind this beginning of the list, and the longer one that they make of it.
     /// `None` where the hub has no list that begins so, which no run has shown.
     pub fn behind<R: Wait>(
         &self,

@@ -110,7 +110,7 @@ where
     ensures serves { ServesPortsFrom S.steps S.legal setting.now (S.list value) (map P.told ports.old.items) (map P.told ports.new.items) result }
     ensures count { vec_len ports.new ≡ vec_len ports.old }
 {
-    let Ok((hub, first)) = StepHub::<N, S>::begin(value, opened) else {
+    let Ok((hub, first)) = StepHub::<N, S>::begin(alloc, value, opened) else {
         return Outcome::LacksMemory;
     };
     match serve_by(rt, alloc, &hub, setting, &first, ports) {

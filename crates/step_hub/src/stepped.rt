@@ -1,5 +1,5 @@
 //! What a value is that answers in steps of a list.
-ghost use Rattle.std.specs.Prelude.{◌≡◌, ℕ, List, IfOk};
+ghost use Rattle.std.specs.Prelude.{◌≡◌, ◌<◌, ◌++◌, ◌∷◌, [], ℕ, List, Some, IfOk, IfSome, length, slice_get, take, drop};
 ghost use Rattle.osm_base.specs.Status.{IsStatus};
 ghost use Rattle.http_wire.specs.declared.message.Message.{Message};
 ghost use Rattle.http_link.specs.declared.desk.Reply.{Reply};
@@ -8,13 +8,13 @@ ghost use Rattle.step_hub.specs.Steps.{GrowsByOne, memory_reply};
 
 use http_link::Reply;
 use http_wire::Message;
-use osm_base::{Memory, TryCopy};
+use osm_base::Memory;
 use std::alloc::Global;
 
 /// A value with a list that only grows, which answers messages one after another.
 pub trait Stepped {
     /// What the list is made of.
-    type Entry: TryCopy + Drop;
+    type Entry: Drop;
 
     /// What all who ask have in common, such as the users.
     type Setting;
@@ -28,10 +28,23 @@ pub trait Stepped {
     // Which reply a message may get at a moment on a list, and the list that it leaves.
     ghost steps: { Self.Setting → List Self.Entry → Message → ℕ → Reply → List Self.Entry → Type 0 };
 
-    /// The list.
-    fn entries(&self) -> &[Self::Entry]
-        ensures entries { result.now ≡ list self.now }
+    /// How many entries the list has.
+    fn len(&self) -> usize
+        ensures length { result ≡ length (list self.now) }
         ensures legal { legal (list self.now) };
+
+    /// The entry at a place of the list, from 0.
+    fn entry(&self, alloc: Global, place: usize) -> Result<Self::Entry, Memory>
+        requires { place < length (list self.now) }
+        ensures { IfOk result (λ entry. slice_get (list self.now) place ≡ Some entry) };
+
+    /// The entries from a place on, counted from 0: at most so many, and fewer where the list ends.
+    fn part(&self, alloc: Global, from: u64, count: u64) -> Result<Vec<Self::Entry>, Memory>
+        ensures { IfOk result (λ part. part.items ≡ take count (drop from (list self.now))) };
+
+    /// The last entry, which is at hand where an answer added it.
+    fn last(&self) -> Option<&Self::Entry>
+        ensures { IfSome result (λ entry. (before : List Self.Entry) × (list self.now ≡ before ++ entry.now ∷ [])) };
 
     /// Answers a message, which was whole at that moment, in seconds since 1970, and adds an entry to the list at most. Want of
     /// memory counts as the reply 503.

@@ -1,5 +1,3 @@
-use Rattle.std.proofs.Common.{sym, subst}
-use Rattle.osm_model.specs.Journal.{IsLegal}
 use Rattle.api_desk.proofs.FeedAlone.{feed_answers}
 use Rattle.api_desk.proofs.Replies.{change_answers, query_answers}
 use Rattle.api_desk.proofs.desk.answer_request.Goals as goal
@@ -25,20 +23,15 @@ pub returns-in-Read-clause-answers : goal.returns-in-Read-clause-answers
 returns-in-Read-clause-answers g c users message asks =
     query_answers users c.args.session c.args.book.now message c.args.moment c.in-Read.query c.query_reply.result (rw c.in-Read.is at asks) c.query_reply.ensures.reply
 
-pub feed_reply-requires : goal.feed_reply-requires
-feed_reply-requires g c = subst IsLegal (sym c.journal.ensures.journal) c.book_law.ensures
-
 pub returns-in-Feed-clause-answers : goal.returns-in-Feed-clause-answers
 returns-in-Feed-clause-answers g c users message asks =
     feed_answers
     users
     c.args.session
     c.args.book.now
-    _
     message
     c.args.moment
     c.in-Feed.call
     c.feed_reply.result
     (rw c.in-Feed.is at asks)
-    c.journal.ensures.journal
     c.feed_reply.ensures.reply

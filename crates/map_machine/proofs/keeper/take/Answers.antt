@@ -4,7 +4,7 @@ use Rattle.journal_text.specs.Kept.{kept_by}
 use Rattle.osm_model.specs.declared.states.State.{State}
 use Rattle.map_machine.specs.Machine.{IsPlannedAs}
 use Rattle.map_machine.specs.declared.plans.Asked.{Asked}
-use Rattle.map_machine.proofs.KeepLemmas.{kept_at, next, placed}
+use Rattle.map_machine.proofs.KeepLemmas.{handed, kept_at, next, placed}
 use Rattle.map_machine.proofs.keeper.take.Goals as goal
 
 pub commit-requires-clause-made : goal.commit-requires-clause-made
@@ -31,3 +31,6 @@ returns-clause-kept g c =
     let acts = rw c.seconds.ensures at (c.in_ok-done.ensures.acts es asked ([], append-nil es) planned) in
     kept_at es c.args.entry _ _ c.requires.turn refl acts.entered
     ∙ ap (λ b. kept_by {E = Memory} (Ok b) es c.args.entry) (sym (c.is_some.ensures ∙ placed es c.args.entry _ _ c.requires.turn refl acts.placed))
+
+pub returns-clause-last : goal.returns-clause-last
+returns-clause-last g c = handed c.in_ok-done.done.place c.args.book.now c.commit.new.self c.args.last.now c.commit.new.outlet _ c.requires.last c.in_ok-done.ensures.offers

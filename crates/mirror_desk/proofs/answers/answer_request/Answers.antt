@@ -25,4 +25,4 @@ returns-in-State-clause-answers g c =
     let old = c.args.follower.now in
     rw
     c.in-State.is
-    (told_on old c.args.moment states (as_server (fed old State)) c.feed_reply.result (refl, refl) (rw (c.journal.ensures.journal, c.book-in-State.ensures.book) at c.feed_reply.ensures.reply))
+    (told_on old c.args.moment states (as_server (fed old State)) c.feed_reply.result (refl, refl) (rw c.book-in-State.ensures.book at c.feed_reply.ensures.reply))

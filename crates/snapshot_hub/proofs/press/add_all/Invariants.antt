@@ -3,5 +3,5 @@ use Rattle.std.specs.Prelude.{take}
 use Rattle.snapshot_hub.proofs.press.add_all.Given as goal
 
 -- the entries so far
-abbrev pub invariant-loop-entry : goal.invariant-loop-entry
-invariant-loop-entry g l = l.front ≡ take l.entry-index l.entries
+abbrev pub invariant-loop-place : goal.invariant-loop-place
+invariant-loop-place g l = l.front ≡ take l.place l.entries

@@ -53,7 +53,7 @@ returns g c core stands =
     let next : call ≡ calls_of of_machine.tag_of session inside.book + 1 = c.in-Some-checked_add.ensures.1 ∙ ap (λ n. n + 1) c.calls.ensures in
     let settled = of_machine.act (replay of_machine inside.book) (tagged session call) c.args.moment intent.0.command in
     let acts = c.in_ok-done.ensures.acts (take intent.0.base inside.book) intent.0.command (prefix_take intent.0.base inside.book) planned in
-    let seen : length c.journal-seen.result.now ≡ length (extended core.journal settled.entry) = ap length (c.journal-seen.ensures.journal ∙ (acts.entered ∙ ap (λ j. extended j settled.entry) here.journal)) in
+    let seen : c.len-seen.result ≡ length (extended core.journal settled.entry) = c.len-seen.ensures.length ∙ ap length (c.journal.ensures.journal ∙ (acts.entered ∙ ap (λ j. extended j settled.entry) here.journal)) in
     let stands_so = stands_settled of_machine core settled.entry inside.published left session _ here.published (long ∙ here.count) (omega (arith, found.0, long))
     (λ k other less apart. subst (λ x. IsCaller of_machine core.journal (core.sessions k) x)
     (sym (ap (λ l. get_or l k other) found.1.3 ∙ get_or-set_other inside.callers.items session k (record old { plan = None }) other apart)) (here.sessions k other (omega (arith, less, long))))
