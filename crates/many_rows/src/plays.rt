@@ -125,7 +125,7 @@ fn judge<S: Drop, P: Print>(
     alloc: Global,
     users: &UserTable,
     jobs: Vec<Job<S>>,
-    closing: &Closing<'_, Entry>,
+    closing: &Closing<'_, MapMachine>,
     row: &Row<'_>,
     ends: Ends,
 ) -> Result<Outcome, RowFault> {
@@ -133,7 +133,7 @@ fn judge<S: Drop, P: Print>(
     let entries = closing.journal.len() as u64;
     let calls = told.len() as u64;
     let unwanted = unwanted(rt, told.as_slice());
-    let astray = replay(alloc, users, told, closing.journal)?;
+    let astray = replay(alloc, users, told, &closing.journal)?;
     Ok(Outcome {
         calls,
         ends: closing.ends.len() as u64,

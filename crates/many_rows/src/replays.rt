@@ -4,11 +4,10 @@ use crate::notes::Told;
 use api_desk::OneDesk;
 use http_link::Desk;
 use http_wire::whole_message;
-use hub_core::Book;
+use hub_core::{Book, Entries};
 use journal_text::entry_line;
 use map_machine::MapMachine;
 use osm_base::Memory;
-use osm_model::Entry;
 use std::alloc::Global;
 use user_table::UserTable;
 
@@ -31,11 +30,15 @@ fn answers_so(alloc: Global, desk: &mut OneDesk<'_>, told: Told) -> Result<bool,
 }
 
 /// How many lines of two journals differ.
-fn differing(alloc: Global, one: &[Entry], other: &[Entry]) -> Result<u64, Memory> {
+fn differing(
+    alloc: Global,
+    one: &Entries<'_, MapMachine>,
+    other: &Entries<'_, MapMachine>,
+) -> Result<u64, Memory> {
     let mut count = one.len().abs_diff(other.len()) as u64;
-    for (mine, theirs) in one.iter().zip(other) {
-        let mine = entry_line(alloc, mine)?;
-        let theirs = entry_line(alloc, theirs)?;
+    for place in 0..one.len().min(other.len()) {
+        let mine = entry_line(alloc, &one.entry(alloc, place)?)?;
+        let theirs = entry_line(alloc, &other.entry(alloc, place)?)?;
         if mine.as_slice() != theirs.as_slice() {
             count = count.saturating_add(1);
         }
@@ -47,7 +50,7 @@ fn replay_at(
     alloc: Global,
     desk: &mut OneDesk<'_>,
     told: Vec<Told>,
-    journal: &[Entry],
+    journal: &Entries<'_, MapMachine>,
 ) -> Result<u64, Memory> {
     let mut wrong = 0_u64;
     for told in told {
@@ -55,7 +58,7 @@ fn replay_at(
             wrong = wrong.saturating_add(1);
         }
     }
-    Ok(wrong.saturating_add(differing(alloc, desk.entries(), journal)?))
+    Ok(wrong.saturating_add(differing(alloc, &desk.entries(), journal)?))
 }
 
 /// Sends all that sessions sent to one desk over an empty book, in the order of the places. Answers
@@ -65,7 +68,7 @@ pub fn replay(
     alloc: Global,
     users: &UserTable,
     told: Vec<Told>,
-    journal: &[Entry],
+    journal: &Entries<'_, MapMachine>,
 ) -> Result<u64, Memory> {
     let mut told = told;
     told.sort_by_key(|told| told.place)?;

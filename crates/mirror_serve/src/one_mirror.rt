@@ -52,8 +52,20 @@ impl Stepped for Mirror {
 
     ghost steps = { λ users old message moment reply new. MirrorAnswers users old message moment reply new };
 
-    fn entries(&self) -> &[Entry] {
-        self.follower.book().journal()
+    fn len(&self) -> usize {
+        self.follower.book().journal().len()
+    }
+
+    fn entry(&self, alloc: Global, place: usize) -> Result<Entry, Memory> {
+        self.follower.book().journal().entry(alloc, place)
+    }
+
+    fn part(&self, alloc: Global, from: u64, count: u64) -> Result<Vec<Entry>, Memory> {
+        self.follower.book().journal().part(alloc, from, count)
+    }
+
+    fn last(&self) -> Option<&Entry> {
+        self.follower.last()
     }
 
     fn answer(

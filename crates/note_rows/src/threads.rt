@@ -140,10 +140,10 @@ pub fn two_threads_write<N: HubName + Send + Sync, R: Threads + Wait + Sync>(
     let mut closer = hub.close();
     let matched = closer.end(&mut one.session) == End::Matched
         && closer.end(&mut other.session) == End::Matched;
-    let journal = closer.done().journal;
+    let journal = closer.done().journal.all(alloc)?;
     let replied = all_replied(
         alloc,
-        journal,
+        journal.as_slice(),
         row.each,
         one.replies.as_slice(),
         other.replies.as_slice(),

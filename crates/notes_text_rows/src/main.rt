@@ -49,9 +49,9 @@ fn reading(alloc: Global, text: &str) -> Result<String, Memory> {
         Ok(book) => book,
         Err(why) => return fault(alloc, why),
     };
-    let entries = book.journal();
+    let entries = book.journal().all(alloc)?;
     let count = entries.len();
-    if is_written_so(alloc, text, entries)? {
+    if is_written_so(alloc, text, entries.as_slice())? {
         Ok(format!(in alloc; "reads {count}")?)
     } else {
         Ok(format!(in alloc; "is written otherwise, and reads {count}")?)

@@ -12,8 +12,8 @@ ghost use Rattle.osm_serve.specs.Export.{IsExport};
 
 use crate::sending::{Replies, send_each};
 use api_desk::OneDesk;
-use hub_core::Book;
-use journal_text::journal_text;
+use hub_core::{Book, Entries};
+use journal_text::{HEADER, lines_behind};
 use map_machine::MapMachine;
 use osm_base::{Bytes, Memory, SESSION_LIMIT};
 use std::alloc::Global;
@@ -87,6 +87,18 @@ pub fn run_load(
     run_over(alloc, &users, book, seed, sessions, uploads)
 }
 
+/// The text of a journal, of which one entry at a time is made anew.
+fn text_of(alloc: Global, entries: &Entries<'_, MapMachine>) -> Result<Bytes, Memory>
+    ensures { IfOk result (λ text. text ≡ text_of entries.now) }
+{
+    let mut text = Vec::from_slice(alloc, HEADER)?;
+    for place in 0..entries.len() {
+        let entry = entries.entry(alloc, place)?;
+        text = lines_behind(text, &[entry])?;
+    }
+    Ok(Bytes::from_vec(text))
+}
+
 /// Sends a load to a desk, and writes the text of the journal.
 fn journal_at(alloc: Global, load: Load, desk: &mut OneDesk<'_>) -> Result<Bytes, Memory>
     ensures { IfOk result (λ text. (replies : Replies) × (replies.lacking ≡ 0) × IsLegal (entries_of desk.new)
@@ -97,7 +109,7 @@ fn journal_at(alloc: Global, load: Load, desk: &mut OneDesk<'_>) -> Result<Bytes
     if replies.lacking > 0 {
         return Err(Memory);
     }
-    journal_text(alloc, desk.entries())
+    text_of(alloc, &desk.entries())
 }
 
 /// Sends a load of its users over a book that is empty at first, and writes the text of the journal.

@@ -159,7 +159,7 @@ fn serve<N: HubName, R: Wait, L: Link>(
     let end = serve_by(rt, alloc, &hub, users, session, link)?;
     let closer = hub.close();
     let closing = closer.done();
-    Ok(end == wanted.end && are_entries(closing.journal, wanted.entries))
+    Ok(end == wanted.end && are_entries(closing.journal.all(alloc)?.as_slice(), wanted.entries))
 }
 
 /// Whether that comes of a link, but for what is written on it.

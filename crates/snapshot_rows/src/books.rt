@@ -48,7 +48,7 @@ fn play_line<L: Ledger>(
     let (word, rest) = word_of(line);
     match word {
         "add" => tell_added(told, commit(alloc, side, wish_of(rest)?, steps)),
-        "journal" => tell_entries(told, side.book.journal()),
+        "journal" => tell_entries(told, side.book.journal().all(alloc)?.as_slice()),
         "outlet" => tell_entries(told, side.outlet.held()),
         "numbers" => tell_numbers(told, side.book.world().numbers.as_slice()),
         "calls" => tell_calls(told, side),

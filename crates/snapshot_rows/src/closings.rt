@@ -59,8 +59,7 @@ fn tell_order(told: &mut String, journal: &[Noted], rest: &str) -> Result<(), Ro
     tell_whether(told, is_in_order(journal, number(session)?, number(count)?))
 }
 
-fn tell_length(told: &mut String, journal: &[Noted]) -> Result<(), RowFault> {
-    let length = journal.len();
+fn tell_length(told: &mut String, length: usize) -> Result<(), RowFault> {
     write!(told, "{length}")?;
     Ok(())
 }
@@ -80,6 +79,7 @@ fn tell_seen<N: HubName, R: Wait + Drop>(
 
 /// What is told of a closed hub.
 pub fn tell_closing<N: HubName, R: Wait + Drop>(
+    alloc: Global,
     closer: &ListCloser<'_, N, R>,
     sessions: &[ListSession<N>],
     line: &str,
@@ -89,10 +89,10 @@ pub fn tell_closing<N: HubName, R: Wait + Drop>(
     let (word, rest) = word_of(line);
     match word {
         "ends" => tell_ends(told, closing.ends),
-        "journal" => tell_entries(told, closing.journal),
-        "length" => tell_length(told, closing.journal),
+        "journal" => tell_entries(told, closing.journal.all(alloc)?.as_slice()),
+        "length" => tell_length(told, closing.journal.len()),
         "seen" => tell_seen(closer, sessions, rest, told),
-        "in_order" => tell_order(told, closing.journal, rest),
+        "in_order" => tell_order(told, closing.journal.all(alloc)?.as_slice(), rest),
         _ => Err(RowFault::Unread),
     }
 }

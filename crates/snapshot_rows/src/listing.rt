@@ -65,6 +65,8 @@ impl Machine for Listing {
 
     type Entry = Noted;
 
+    type Kept = Noted;
+
     type Look = u64;
 
     type State = [u64; 0];
@@ -74,6 +76,8 @@ impl Machine for Listing {
     ghost rules = { listing_rules };
 
     ghost told = { λ found. found };
+
+    ghost entry_of = { λ kept. kept };
 
     ghost has_room = { λ world entry. vec_len world.numbers < vec_capacity world.numbers };
 
@@ -139,6 +143,14 @@ impl Machine for Listing {
             return Err(Memory);
         }
         Ok(*entry)
+    }
+
+    fn keep(alloc: Global, entry: &Noted) -> Result<Noted, Memory> {
+        Listing::copy(alloc, entry)
+    }
+
+    fn entry(_alloc: Global, kept: &Noted) -> Result<Noted, Memory> {
+        Ok(*kept)
     }
 
     fn accepts(_alloc: Global, _world: &Numbers, entry: &Noted) -> Result<bool, Memory> {

@@ -73,6 +73,7 @@ fn play_open<N: HubName + Send + Sync, R: Threads + Wait + Sync + Print, L: Ledg
 /// The same of a closed one.
 fn play_closed<N: HubName, R: Wait + Drop, P: Print>(
     rt: &P,
+    alloc: Global,
     closer: &ListCloser<'_, N, R>,
     sessions: &[ListSession<N>],
     lines: &str,
@@ -85,7 +86,7 @@ fn play_closed<N: HubName, R: Wait + Drop, P: Print>(
             }
         } else if !is_still(line) {
             told.clear();
-            tell_closing(closer, sessions, line, told)?;
+            tell_closing(alloc, closer, sessions, line, told)?;
         }
     }
     Ok(true)
@@ -94,6 +95,7 @@ fn play_closed<N: HubName, R: Wait + Drop, P: Print>(
 /// Ends the sessions of those numbers, and plays the lines behind that.
 fn close<N: HubName, R: Wait + Drop, P: Print>(
     rt: &P,
+    alloc: Global,
     hub: &mut ListHub<N, R>,
     sessions: &mut [ListSession<N>],
     ends: &[u64],
@@ -106,12 +108,13 @@ fn close<N: HubName, R: Wait + Drop, P: Print>(
 {
     let mut closer = hub.close();
     end_all(&mut closer, sessions, ends);
-    play_closed(rt, &closer, sessions, lines, told)
+    play_closed(rt, alloc, &closer, sessions, lines, told)
 }
 
 /// Plays the lines on this hub.
 fn play_on<N: HubName + Send + Sync, R: Threads + Wait + Sync + Print, L: Ledger>(
     rt: &R,
+    alloc: Global,
     hub: &mut ListHub<N, &R>,
     sessions: &mut [ListSession<N>],
     ends: &[u64],
@@ -126,7 +129,7 @@ fn play_on<N: HubName + Send + Sync, R: Threads + Wait + Sync + Print, L: Ledger
     if !play_open(rt, hub, sessions, lines.open, steps, told)? {
         return Ok(false);
     }
-    close(rt, hub, sessions, ends, count, lines.closed, told)
+    close(rt, alloc, hub, sessions, ends, count, lines.closed, told)
 }
 
 /// Plays the lines on a new hub of that name.
@@ -147,7 +150,9 @@ fn play_new<N: HubName + Send + Sync, R: Threads + Wait + Sync + Print, L: Ledge
     let mut told = String::new(alloc);
     let (mut hub, mut sessions) = ListHub::<N, &R>::new(alloc, rt, seats, NoGate)?;
     let sessions = sessions.as_mut_slice();
-    play_on(rt, &mut hub, sessions, ends, count, lines, steps, &mut told)
+    play_on(
+        rt, alloc, &mut hub, sessions, ends, count, lines, steps, &mut told,
+    )
 }
 
 /// Plays a row on a hub of its own.

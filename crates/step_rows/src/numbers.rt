@@ -45,8 +45,22 @@ impl Stepped for Numbers {
 
     ghost steps = { λ _ _ _ _ _ _. ⊤ };
 
-    fn entries(&self) -> &[u64] {
-        self.items.as_slice()
+    fn len(&self) -> usize {
+        self.items.len()
+    }
+
+    fn entry(&self, _alloc: Global, place: usize) -> Result<u64, Memory> {
+        Ok(self.items[place])
+    }
+
+    #[tactic(auto, using(std::proofs::lemmas::List::drop_min, std::proofs::lemmas::List::take_min))]
+    fn part(&self, alloc: Global, from: u64, count: u64) -> Result<Vec<u64>, Memory> {
+        let rest = &self.items[(from as usize).min(self.items.len())..];
+        Ok(rest[..(count as usize).min(rest.len())].to_vec(alloc)?)
+    }
+
+    fn last(&self) -> Option<&u64> {
+        self.items.last()
     }
 
     /// Where the setting says so, each POST is answered by want of memory.
