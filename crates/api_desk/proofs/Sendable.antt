@@ -18,6 +18,8 @@ use Rattle.osm_model.specs.contracts.commands.Entry as Entry
 use Rattle.osm_model.specs.contracts.queries.Query as Query
 use Rattle.osm_model.specs.contracts.states.State as State
 use Rattle.osm_model.proofs.commands.Entry.TheSendSync as OfEntry
+use Rattle.packed_entry.specs.contracts.packed.PackedEntry as PackedEntry
+use Rattle.packed_entry.proofs.packed.PackedEntry.TheSendSync as OfPackedEntry
 use Rattle.route_table.proofs.Sendable.{routes_sync}
 use Rattle.shared_front.specs.declared.front.HubName.{Ghosts}
 use Rattle.snapshot_hub.specs.contracts.hub.Hub as Hub
@@ -43,7 +45,7 @@ step T D c v h s = view_send (S.row T) D c v h (declared_send T s)
 
 -- what the journal keeps of an entry
 abbrev pub kept_row : RattleType
-kept_row = Entry.the_row
+kept_row = PackedEntry.the_row
 
 abbrev pub shown_row : (N : RattleType) (g : Ghosts N.Denot) → RattleType
 shown_row N g = Shown.the_row N MapMachine.the_row MapWorld.the_row Asked.the_row Query.the_row Found.the_row MapPlan.the_row Entry.the_row kept_row Look.the_row State.the_row g machine.ghosts
@@ -62,7 +64,7 @@ hub_sync N Q g sq =
     (snapshot.ghosts N MapMachine.the_row MapWorld.the_row Asked.the_row Query.the_row Found.the_row MapPlan.the_row Entry.the_row kept_row Look.the_row State.the_row g snapshot.no_dict machine.ghosts snapshot.no_dict snapshot.no_dict snapshot.no_dict snapshot.no_dict snapshot.no_dict snapshot.no_dict snapshot.no_dict snapshot.no_dict snapshot.no_dict)
     (absorb.ghosts N MapMachine.the_row MapWorld.the_row Asked.the_row Query.the_row Found.the_row MapPlan.the_row Entry.the_row kept_row Look.the_row State.the_row g absorb.no_dict machine.ghosts absorb.no_dict absorb.no_dict absorb.no_dict absorb.no_dict absorb.no_dict absorb.no_dict absorb.no_dict absorb.no_dict absorb.no_dict)
     (OfShown.the_send N MapMachine.the_row MapWorld.the_row Asked.the_row Query.the_row Found.the_row MapPlan.the_row Entry.the_row kept_row Look.the_row State.the_row g machine.ghosts OfMapWorld.the_send)
-    sq OfEntry.the_send OfEntry.the_send
+    sq OfEntry.the_send OfPackedEntry.the_send
     (OfShown.the_sync N MapMachine.the_row MapWorld.the_row Asked.the_row Query.the_row Found.the_row MapPlan.the_row Entry.the_row kept_row Look.the_row State.the_row g machine.ghosts OfMapWorld.the_sync)
     OfNoGate.the_sync
 

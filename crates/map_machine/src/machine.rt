@@ -30,6 +30,7 @@ use osm_change::{Answer, Refusal};
 use osm_later::maps_follow_themselves;
 use osm_model::{Entry, Fault, Query, State};
 use osm_world::World;
+use packed_entry::PackedEntry;
 use std::alloc::Global;
 use std::sync::ledger::Ledger;
 use upload_check::{Look, Outcome, Plan, SettledUpload, UploadCmd, plan_again, settle};
@@ -73,7 +74,7 @@ impl Machine for MapMachine {
 
     type Entry = Entry;
 
-    type Kept = Entry;
+    type Kept = PackedEntry;
 
     type Look = Look;
 
@@ -142,12 +143,12 @@ impl Machine for MapMachine {
         entry.copy(alloc)
     }
 
-    fn keep(alloc: Global, entry: &Entry) -> Result<Entry, Memory> {
-        entry.copy(alloc)
+    fn keep(alloc: Global, entry: &Entry) -> Result<PackedEntry, Memory> {
+        PackedEntry::of(alloc, entry)
     }
 
-    fn entry(alloc: Global, kept: &Entry) -> Result<Entry, Memory> {
-        kept.copy(alloc)
+    fn entry(alloc: Global, kept: &PackedEntry) -> Result<Entry, Memory> {
+        kept.entry(alloc)
     }
 
     fn accepts(alloc: Global, world: &MapWorld, entry: &Entry) -> Result<bool, Memory> {
