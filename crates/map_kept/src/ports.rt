@@ -22,12 +22,12 @@ ghost use Rattle.kept_serve.specs.Ports.{ServesKeptPorts};
 
 use crate::desk::MapKeptDesk;
 use api_desk::{HubDesk, MapHub, MapSession};
-use desk_serve::{points_are_consistent, serve_kept_link};
+use desk_serve::points_are_consistent;
 use durable_log::{Board, Receipt, Shelf, Told, receipts_stay};
 use entry_file::EntryLines;
 use http_link::LinkEnd;
 use journal_file::{Device, JournalFile};
-use kept_desk::Keeper;
+use kept_desk::{Keeper, KeptSession};
 use kept_serve::{KeptBack, leave_shelf, outcome_of, shelve};
 use link_workers::{Outcome, Service, Worker, any_failed, seat_all, serve_all, unseat_all};
 use map_machine::MapMachine;
@@ -35,6 +35,8 @@ use osm_base::Memory;
 use osm_model::Entry;
 use osm_outside::{Link, NoGate, Outside, Port, PortOutside};
 use route_table::Routes;
+use server_frame::{answer_link, link_left_alone};
+use session_desk::SessionDesk;
 use shared_front::{Front, HubName, Opened};
 use snapshot_hub::{Seats, Shown, Twins};
 use std::alloc::Global;
@@ -74,9 +76,32 @@ impl<
         desk: &mut MapKeptDesk<'a, N, K, V, R, W>,
         link: &mut L,
     ) -> LinkEnd {
-        serve_kept_link::<N, MapMachine, Shown<N, MapMachine>, MapKeptDesk<'a, N, K, V, R, W>, L>(
-            alloc, desk, link,
-        )
+        serve_by_desk(alloc, desk, link)
+    }
+}
+
+/// Answers the requests of the link by the desk's session, until the link ends, as `serve_kept_link` does
+/// for any desk: at this one the toolchain would compare its type in more steps than it takes.
+fn serve_by_desk<N: HubName, K: HubName, V: Device, R: Wait + Drop, W: Wait, L: Link>(
+    alloc: Global,
+    desk: &mut MapKeptDesk<'_, N, K, V, R, W>,
+    link: &mut L,
+) -> LinkEnd
+    ensures { KeepsLink map_rules map_row desk.old desk.new (L.told link.old) (L.told link.new) result }
+{
+    // What the machine keeps, and what a link that is left alone is.
+    points_are_consistent::<MapMachine>();
+    link_left_alone();
+    match desk.freshen_session() {
+        Ok(()) => {
+            let end = answer_link(alloc, desk, link);
+            desk.law();
+            end
+        }
+        Err(_) => {
+            desk.law();
+            LinkEnd::Memory
+        }
     }
 }
 
