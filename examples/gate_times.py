@@ -152,7 +152,7 @@ def main() -> int:
     words = parser.parse_args()
     status, crates, seconds = watch(words.command or ["rt", "ci"], words.every)
     tell(crates, words.top)
-    print(f"\n{seconds / 60:.0f} minutes by the clock, on {os.cpu_count()} processors")
+    print(f"\n{seconds / 60:.0f} minutes by the clock, on {len(os.sched_getaffinity(0))} processors")
     return status
 
 
