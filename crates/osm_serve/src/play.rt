@@ -17,6 +17,7 @@ use journal_text::{HEADER, lines_behind};
 use map_machine::MapMachine;
 use osm_base::{Bytes, Memory, SESSION_LIMIT};
 use std::alloc::Global;
+use std::slice;
 use user_table::UserTable;
 use workload::{Figures, Load, figures_of, users_of_load};
 
@@ -94,7 +95,7 @@ fn text_of(alloc: Global, entries: &Entries<'_, MapMachine>) -> Result<Bytes, Me
     let mut text = Vec::from_slice(alloc, HEADER)?;
     for place in 0..entries.len() {
         let entry = entries.entry(alloc, place)?;
-        text = lines_behind(text, &[entry])?;
+        text = lines_behind(text, slice::from_ref(&entry))?;
     }
     Ok(Bytes::from_vec(text))
 }
