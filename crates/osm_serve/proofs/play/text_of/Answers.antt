@@ -14,4 +14,4 @@ loop-place-preserved c =
     let e = c.in_ok-entry.entry in
     let there = c.in_ok-entry.ensures in
     let next : take (i + 1) es ≡ take i es ++ e ∷ [] = take_more es i e (slice_get_within es i e there) ∙ ap (λ x. take i es ++ x ∷ []) (get_or_from_slice_get es i e e there) in
-    c.in_ok-text.ensures.lines ∙ ap (λ xs. c.loop-place.text.items ++ lines xs) c.from_ref.ensures.value ∙ ap (λ ts. ts ++ lines (e ∷ [])) c.loop-place.invariant ∙ sym (text-append line (header Two) (take i es) (e ∷ [])) ∙ ap text_of (sym next)
+    c.in_ok-text-2.ensures.lines ∙ ap (λ xs. c.loop-place.text.items ++ lines xs) c.from_ref.ensures.value ∙ ap (λ ts. ts ++ lines (e ∷ [])) c.loop-place.invariant ∙ sym (text-append line (header Two) (take i es) (e ∷ [])) ∙ ap text_of (sym next)
