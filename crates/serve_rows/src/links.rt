@@ -1,6 +1,7 @@
 //! A link of three requests that breaks off at each place in turn: how it ends, what was written, and
 //! that the journal has each command that was accepted, once.
-ghost use Rattle.std.specs.Prelude.{◌≡◌};
+ghost use Rattle.std.specs.Prelude.{◌≡◌, Some};
+ghost use Rattle.snapshot_hub.specs.Ends.{Ends};
 
 use crate::replies::reply;
 use crate::texts::{CREATION, MOMENT, NODE_BODY, NODE_READ, NODE_UPLOAD, UPLOADED, USERS};
@@ -157,9 +158,21 @@ fn serve<N: HubName, R: Wait, L: Link>(
         return Ok(false);
     };
     let end = serve_by(rt, alloc, &hub, users, session, link)?;
+    Ok(end == wanted.end && closes_with(alloc, &mut hub, wanted.entries)?)
+}
+
+/// Closes the hub, and tells whether so many entries of its one session are its journal.
+fn closes_with<N: HubName, R: Wait + Drop>(
+    alloc: Global,
+    hub: &mut MapHub<N, NoGate, R>,
+    count: usize,
+) -> Result<bool, Memory>
+    requires { (ends : Ends) × (hub.old ≡ Some ends) }
+{
     let closer = hub.close();
     let closing = closer.done();
-    Ok(end == wanted.end && are_entries(closing.journal.all(alloc)?.as_slice(), wanted.entries))
+    let entries = closing.journal.all(alloc)?;
+    Ok(are_entries(entries.as_slice(), count))
 }
 
 /// Whether that comes of a link, but for what is written on it.
