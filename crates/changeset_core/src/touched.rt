@@ -36,7 +36,8 @@ fn old_area<P: Places>(places: &P, key: Key) -> Option<Box7>
 
 /// The box with the place of a content, or with those of what it lists.
 fn with_content<P: Places>(places: &P, area: Option<Box7>, content: &Held<'_>) -> Option<Box7>
-    ensures { result ≡ widen_all (widen_by (P.elements places.now) area (refs (held_content content.now))) (option_to_list (position_in (held_content content.now))) }
+    ensures { result
+        ≡ widen_all (widen_by (P.elements places.now) area (refs (held_content content.now))) (option_to_list (position_in (held_content content.now))) }
 {
     match content {
         Held::Node(at) => widened(area, *at),

@@ -66,10 +66,12 @@ fn end_uses_in(users: &mut UserIndex, user: Key, content: &Held<'_>, listed: &[K
     requires { IsRising listed.now }
     ensures users { (a b : Key)
         → lists_key (users_in users.new b) a
-        ≡ lists_key (users_in users.old b) a && not (lists_key (refs (held_content content.now)) b && (key_eq user a && not (lists_key listed.now b))) }
+        ≡ lists_key (users_in users.old b) a
+        && not (lists_key (refs (held_content content.now)) b && (key_eq user a && not (lists_key listed.now b))) }
     ensures past { (a b : Key)
         → lists_key (past_in users.new b) a
-        ≡ lists_key (past_in users.old b) a || (lists_key (users_in users.old b) a && (lists_key (refs (held_content content.now)) b && (key_eq user a && not (lists_key listed.now b)))) }
+        ≡ lists_key (past_in users.old b) a
+        || (lists_key (users_in users.old b) a && (lists_key (refs (held_content content.now)) b && (key_eq user a && not (lists_key listed.now b)))) }
     ensures room { (b : Key) → free_in users.new b ≡ free_in users.old b }
 {
     match content {
@@ -84,10 +86,12 @@ pub fn end_uses(users: &mut UserIndex, user: Key, held: &Option<Held<'_>>, liste
     requires { IsRising listed.now }
     ensures users { (a b : Key)
         → lists_key (users_in users.new b) a
-        ≡ lists_key (users_in users.old b) a && not (lists_key (refs_in (option_map held_content held.now)) b && (key_eq user a && not (lists_key listed.now b))) }
+        ≡ lists_key (users_in users.old b) a
+        && not (lists_key (refs_in (option_map held_content held.now)) b && (key_eq user a && not (lists_key listed.now b))) }
     ensures past { (a b : Key)
         → lists_key (past_in users.new b) a
-        ≡ lists_key (past_in users.old b) a || (lists_key (users_in users.old b) a && (lists_key (refs_in (option_map held_content held.now)) b && (key_eq user a && not (lists_key listed.now b)))) }
+        ≡ lists_key (past_in users.old b) a
+        || (lists_key (users_in users.old b) a && (lists_key (refs_in (option_map held_content held.now)) b && (key_eq user a && not (lists_key listed.now b)))) }
     ensures room { (b : Key) → free_in users.new b ≡ free_in users.old b }
 {
     if let Some(content) = held {

@@ -1,24 +1,16 @@
 -- What was packed is read again, whatever follows it.
-use Rattle.std.proofs.Common.{◌≡◌, ℕ, zero, suc, ◌+◌, ◌*◌, ◌/◌, ◌%◌, ◌^◌, ◌<◌, ◌≤◌, Bool, true, false, eqb, ltb, List, [], ◌∷◌, ◌++◌, length, take, drop, Option, Some, None, ℤ, pos, negsuc, refl, sym, ap, ◌∙◌, append_assoc, arith, inl, inr}
-use Rattle.std.specs.Prelude.{if◌then◌else◌, All, ◌==◌, nat_lt}
+use Rattle.std.proofs.Common.{◌≡◌, ℕ, suc, ◌^◌, ◌<◌, Bool, true, false, ltb, List, [], ◌∷◌, ◌++◌, length, Option, Some, None, refl, ap, ◌∙◌, append_assoc, arith, inl, inr}
+use Rattle.std.specs.Prelude.{All}
 use Rattle.std.specs.List.{flat_map, AllByRecursion}
-use Rattle.std.specs.Int.{Width, w16, w32, w64, byte_len, from_be_bytes, to_be_bytes, cast_signed, cast_unsigned}
-use mir.Val.{SFits}
-use Rattle.std.proofs.lemmas.Bool.{cases_lt, ltb-false, le-ltb, lt-ltb, eq-eqb, ne_eqb, and_from}
-use Rattle.std.proofs.lemmas.Int.{ints, to_z-of_z}
+use Rattle.std.specs.Int.{Width, w16, w32, w64, byte_len, from_be_bytes, to_be_bytes}
+use Rattle.std.proofs.lemmas.Bool.{cases_lt, le-ltb, lt-ltb}
 use Rattle.std.proofs.lemmas.List.{take_at, drop_at, length-append}
 use Rattle.std.proofs.lemmas.List.Elements.{recursion_from_All}
-use Rattle.std.proofs.lemmas.List.Concat.{flat_map-cons}
 use Rattle.std.proofs.lemmas.Nat.{from_be_bytes-to_be_bytes_2, from_be_bytes-to_be_bytes_4, from_be_bytes-to_be_bytes_8}
 use Rattle.std.proofs.lemmas.Str.{is_utf8-from_IsUtf8}
-use Rattle.std.specs.Str.{is_utf8}
-use Rattle.osm_base.specs.Key.{kind_rank}
-use Rattle.osm_base.specs.Place.{Position, IsPosition, is_position, is_within}
-use Rattle.osm_base.specs.declared.keys.Kind.{Kind}
-use Rattle.osm_base.specs.declared.keys.Kind.TheVariants as kinds
 use Rattle.packed_entry.specs.Packed.{packed_number, packed_optional, packed_flag, packed_text, packed_list}
-use Rattle.packed_entry.specs.Read.{Parsed, ◌>>=◌, byte_at, wide_at, number_by, number_at, optional_at, flag_at, text_of, text_at, each_at, list_at}
-use Rattle.packed_entry.specs.Typed.{Fits64, FitsIfSome, IsText, AreAll}
+use Rattle.packed_entry.specs.Read.{Parsed, wide_at, number_at, optional_at, flag_at, text_at, each_at, list_at}
+use Rattle.packed_entry.specs.Typed.{FitsIfSome, IsText, AreAll}
 
 -- ---- numbers
 

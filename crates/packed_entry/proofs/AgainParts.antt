@@ -1,9 +1,9 @@
 -- The parts of an entry are read again.
-use Rattle.std.proofs.Common.{◌≡◌, ◌≤ℤ◌, ℕ, suc, eqb, ◌+◌, ◌*◌, ◌/◌, ◌%◌, ◌^◌, ◌<◌, ◌≤◌, Bool, true, false, List, [], ◌∷◌, ◌++◌, length, Some, None, ℤ, pos, negsuc, refl, sym, ap, ◌∙◌, append-nil, append_assoc, arith}
-use Rattle.std.specs.Prelude.{if◌then◌else◌, int_le}
+use Rattle.std.proofs.Common.{◌≡◌, ◌≤ℤ◌, ℕ, suc, eqb, ◌+◌, ◌*◌, ◌/◌, ◌%◌, ◌^◌, ◌<◌, true, false, List, [], ◌∷◌, ◌++◌, length, Some, ℤ, pos, negsuc, refl, sym, ap, ◌∙◌, append-nil, append_assoc, arith}
+use Rattle.std.specs.Prelude.{int_le}
 use Rattle.std.specs.List.{flat_map}
-use Rattle.std.specs.Int.{w32, w64, to_be_bytes, cast_unsigned, cast_signed}
-use mir.Val.{SFits, of_z}
+use Rattle.std.specs.Int.{w32, w64, cast_unsigned, cast_signed}
+use mir.Val.{of_z}
 use Rattle.std.proofs.lemmas.Bool.{lt-ltb, eq-eqb, ne_eqb, and_from}
 use Rattle.std.proofs.lemmas.Int.{ints, to_z-of_z}
 use Rattle.osm_base.specs.Key.{kind_rank}
@@ -26,9 +26,9 @@ use Rattle.osm_model.specs.declared.commands.Command.{Command}
 use Rattle.osm_model.specs.declared.commands.Command.TheVariants.{CreateChangeset, Retag, CloseChangeset, Upload, Single, MakeRedaction, Redact, Unredact}
 use Rattle.osm_model.specs.declared.commands.Entry.{Entry}
 use Rattle.packed_entry.specs.Kept.{HasChange, ArePacked, entry_in}
-use Rattle.packed_entry.specs.Packed.{packed_number, packed_optional, packed_flag, packed_text, packed_list, packed_room, packed_tag, packed_tags, number_of_name, packed_name, position_bits, packed_position, packed_member, packed_content, depth_of, op_code, packed_parts, packed_op, packed_key, packed_fields, packed_command, packed_user, packed_entry}
-use Rattle.packed_entry.specs.Read.{Parsed, ◌>>=◌, number_at, text_at, each_at, list_at, tag_at, some_tags_at, tags_at, name_of, name_at, kind_of_rank, kind_at, position_of, position_at, member_at, content_at, create_at, modify_at, delete_at, op_by, op_at, create_changeset_at, retag_at, close_at, upload_at, single_at, title_at, key_at, redact_at, unredact_at, command_by, command_at, user_at, session_at, entry_at}
-use Rattle.packed_entry.specs.Typed.{Fits64, FitsIfSome, IsText, IsTag, AreTags, IsMember, AreAll, IsContent, IsOp, IsChange, IsCommand, IsUser, IsEntry}
+use Rattle.packed_entry.specs.Packed.{packed_number, packed_list, packed_tag, packed_tags, packed_name, position_bits, packed_position, packed_member, packed_content, packed_op, packed_key, packed_command, packed_user, packed_entry}
+use Rattle.packed_entry.specs.Read.{Parsed, ◌>>=◌, list_at, tag_at, some_tags_at, tags_at, name_at, kind_of_rank, kind_at, position_of, position_at, member_at, content_at, create_at, modify_at, delete_at, op_by, op_at, create_changeset_at, retag_at, close_at, upload_at, single_at, title_at, key_at, redact_at, unredact_at, command_by, command_at, user_at, session_at, entry_at}
+use Rattle.packed_entry.specs.Typed.{Fits64, IsTag, AreTags, IsMember, IsContent, IsOp, IsChange, IsCommand, IsUser, IsEntry}
 use Rattle.packed_entry.proofs.Again.{wide64, wide_again, number_again, optional_again, flag_again, text_again, each_again, list_again}
 use Rattle.packed_entry.proofs.Rising.{rise_told}
 
@@ -37,7 +37,9 @@ use Rattle.packed_entry.proofs.Rising.{rise_told}
 tag_again : (tag : Tag) (rest : List ℕ) → IsTag tag → tag_at (packed_tag tag ++ rest) ≡ Some (tag, rest)
 unfolding packed_tag tag_at
 tag_again tag rest is =
-    rw (append_assoc (packed_text tag.0) (packed_text tag.1) rest, text_again tag.0 (packed_text tag.1 ++ rest) is.key, text_again tag.1 rest is.value) refl
+    let key = is.key in
+    let value = is.value in
+    simp append_assoc (rw (text_again, text_again) refl)
 
 pub tags_again : (tags : List Tag) (rest : List ℕ) → AreTags tags → tags_at (packed_tags tags ++ rest) ≡ Some (tags, rest)
 unfolding packed_tags tags_at some_tags_at
@@ -116,13 +118,9 @@ kind_again kinds.Relation rest = refl
 member_again : (m : Member Name) (rest : List ℕ) → IsMember m → member_at (packed_member m ++ rest) ≡ Some (m, rest)
 unfolding packed_member member_at
 member_again m rest is =
-    rw (
-      append_assoc (kind_rank m.kind ∷ packed_name m.name) (packed_text m.role) rest,
-      append_assoc (kind_rank m.kind ∷ []) (packed_name m.name) (packed_text m.role ++ rest),
-      kind_again m.kind (packed_name m.name ++ (packed_text m.role ++ rest)),
-      name_again m.name (packed_text m.role ++ rest) is.name,
-      text_again m.role rest is.role,
-    ) refl
+    let name = is.name in
+    let role = is.role in
+    simp append_assoc (rw (kind_again m.kind, name_again, text_again) refl)
 
 pub content_again : (content : Content Name) (rest : List ℕ) → IsContent content → content_at (kind_of content) (packed_content content ++ rest) ≡ Some (content, rest)
 unfolding packed_content content_at
@@ -170,32 +168,25 @@ unfolding packed_op create_at modify_at delete_at
 op_again (Create (pos n) content tags) rest is = absurd (no_pos n is.0.negative)
 op_again (Create (negsuc n) content tags) rest is =
     let small : n < 2 ^ 63 = let low = is.0.low in omega (arith, ints) in
-    by_code (kind_rank (kind_of content)) 0 (kind_of content) ((packed_number n ++ packed_content content ++ packed_tags tags) ++ rest) (code_0 (kind_of content))
-    ∙ rw (
-      append_assoc (packed_number n ++ packed_content content) (packed_tags tags) rest,
-      append_assoc (packed_number n) (packed_content content) (packed_tags tags ++ rest),
-      number_again n (packed_content content ++ (packed_tags tags ++ rest)) (omega arith),
-      lt-ltb n (2 ^ 63) small,
-      content_again content (packed_tags tags ++ rest) is.1,
-      tags_again tags rest is.2,
-    ) refl
+    let fits : n < 2 ^ 64 = omega arith in
+    let typed = is.1 in
+    let are = is.2 in
+    by_code (kind_rank (kind_of content)) 0 (kind_of content) _ (code_0 (kind_of content))
+    ∙ simp append_assoc (rw (number_again, lt-ltb n (2 ^ 63) small, content_again, tags_again) refl)
 op_again (Modify name version content tags) rest is =
-    by_code (3 + kind_rank (kind_of content)) 1 (kind_of content) ((packed_name name ++ packed_number version ++ packed_content content ++ packed_tags tags) ++ rest) (code_1 (kind_of content))
-    ∙ rw (
-      append_assoc (packed_name name ++ packed_number version ++ packed_content content) (packed_tags tags) rest,
-      append_assoc (packed_name name ++ packed_number version) (packed_content content) (packed_tags tags ++ rest),
-      append_assoc (packed_name name) (packed_number version) (packed_content content ++ (packed_tags tags ++ rest)),
-      name_again name (packed_number version ++ (packed_content content ++ (packed_tags tags ++ rest))) is.0,
-      number_again version (packed_content content ++ (packed_tags tags ++ rest)) is.1,
-      content_again content (packed_tags tags ++ rest) is.2,
-      tags_again tags rest is.3,
-    ) refl
+    let named = is.0 in
+    let fits = is.1 in
+    let typed = is.2 in
+    let are = is.3 in
+    by_code (3 + kind_rank (kind_of content)) 1 (kind_of content) _ (code_1 (kind_of content)) ∙ simp append_assoc (rw (name_again, number_again, content_again, tags_again) refl)
 op_again (Delete kind name version false) rest is =
-    by_code (6 + kind_rank kind) 2 kind ((packed_name name ++ packed_number version) ++ rest) (code_2 kind)
-    ∙ rw (append_assoc (packed_name name) (packed_number version) rest, name_again name (packed_number version ++ rest) is.0, number_again version rest is.1) refl
+    let named = is.0 in
+    let fits = is.1 in
+    by_code (6 + kind_rank kind) 2 kind _ (code_2 kind) ∙ simp append_assoc (rw (name_again, number_again) refl)
 op_again (Delete kind name version true) rest is =
-    by_code (9 + kind_rank kind) 3 kind ((packed_name name ++ packed_number version) ++ rest) (code_3 kind)
-    ∙ rw (append_assoc (packed_name name) (packed_number version) rest, name_again name (packed_number version ++ rest) is.0, number_again version rest is.1) refl
+    let named = is.0 in
+    let fits = is.1 in
+    by_code (9 + kind_rank kind) 3 kind _ (code_3 kind) ∙ simp append_assoc (rw (name_again, number_again) refl)
 
 change_again : (ops : List Op) (rest : List ℕ) → IsChange ops → list_at op_at (packed_list packed_op ops ++ rest) ≡ Some (ops, rest)
 change_again ops rest is = list_again packed_op op_at IsOp op_again ops rest is.all
@@ -209,38 +200,42 @@ key_again key rest fits = rw (kind_again key.kind (packed_number key.id ++ rest)
 command_again : (c : Command) (rest : List ℕ) → IsCommand c → command_at (packed_command c ++ rest) ≡ Some (c, rest)
 unfolding packed_command command_at command_by create_changeset_at retag_at close_at upload_at single_at title_at redact_at unredact_at
 command_again (CreateChangeset tags large_from) rest is =
-    rw (append_assoc (packed_optional large_from) (packed_tags tags) rest, optional_again large_from (packed_tags tags ++ rest) is.0, tags_again tags rest is.1) refl
-command_again (Retag id tags) rest is = rw (append_assoc (packed_number id) (packed_tags tags) rest, number_again id (packed_tags tags ++ rest) is.0, tags_again tags rest is.1) refl
+    let fits = is.0 in
+    let are = is.1 in
+    simp append_assoc (rw (optional_again, tags_again) refl)
+command_again (Retag id tags) rest is =
+    let fits = is.0 in
+    let are = is.1 in
+    simp append_assoc (rw (number_again, tags_again) refl)
 command_again (CloseChangeset id) rest is = rw (number_again id rest is) refl
 command_again (Upload id ops) rest is =
-    rw (append_assoc (packed_number id) (packed_list packed_op ops) rest, number_again id (packed_list packed_op ops ++ rest) is.0, change_again ops rest is.1) refl
+    let fits = is.0 in
+    let typed = is.1 in
+    simp append_assoc (rw (number_again, change_again) refl)
 command_again (Single id ops) rest is =
-    rw (append_assoc (packed_number id) (packed_list packed_op ops) rest, number_again id (packed_list packed_op ops ++ rest) is.0, change_again ops rest is.1, eq-eqb (length ops) 1 is.2) refl
+    let fits = is.0 in
+    let typed = is.1 in
+    simp append_assoc (rw (number_again, change_again, eq-eqb (length ops) 1 is.2) refl)
 command_again (MakeRedaction title) rest is = rw (text_again title rest is) refl
 command_again (Redact key version redaction) rest is =
-    rw (
-      append_assoc (packed_key key ++ packed_number version) (packed_number redaction) rest,
-      append_assoc (packed_key key) (packed_number version) (packed_number redaction ++ rest),
-      key_again key (packed_number version ++ (packed_number redaction ++ rest)) is.0,
-      number_again version (packed_number redaction ++ rest) is.1,
-      number_again redaction rest is.2,
-    ) refl
-command_again (Unredact key version) rest is = rw (append_assoc (packed_key key) (packed_number version) rest, key_again key (packed_number version ++ rest) is.0, number_again version rest is.1) refl
+    let id = is.0 in
+    let fits = is.1 in
+    let also = is.2 in
+    simp append_assoc (rw (key_again, number_again, number_again) refl)
+command_again (Unredact key version) rest is =
+    let id = is.0 in
+    let fits = is.1 in
+    simp append_assoc (rw (key_again, number_again) refl)
 
 -- ---- an entry
 
 user_again : (u : User) (rest : List ℕ) → IsUser u → user_at (packed_user u ++ rest) ≡ Some (u, rest)
 unfolding packed_user user_at
 user_again u rest is =
-    rw (
-      append_assoc (packed_number u.id ++ packed_text u.name ++ packed_flag u.moderator) (packed_optional u.limit) rest,
-      append_assoc (packed_number u.id ++ packed_text u.name) (packed_flag u.moderator) (packed_optional u.limit ++ rest),
-      append_assoc (packed_number u.id) (packed_text u.name) (packed_flag u.moderator ++ (packed_optional u.limit ++ rest)),
-      number_again u.id (packed_text u.name ++ (packed_flag u.moderator ++ (packed_optional u.limit ++ rest))) is.id,
-      text_again u.name (packed_flag u.moderator ++ (packed_optional u.limit ++ rest)) is.name,
-      flag_again u.moderator (packed_optional u.limit ++ rest),
-      optional_again u.limit rest is.limit,
-    ) refl
+    let id = is.id in
+    let name = is.name in
+    let limit = is.limit in
+    simp append_assoc (rw (number_again, text_again, flag_again, optional_again) refl)
 
 session_again : (n : ℕ) (rest : List ℕ) → n < 2 ^ 32 → session_at (packed_number n ++ rest) ≡ Some (n, rest)
 unfolding session_at
@@ -249,21 +244,12 @@ session_again n rest small = rw (number_again n rest (omega arith), lt-ltb n (2 
 pub entry_again : (e : Entry) (rest : List ℕ) → IsEntry e → entry_at (packed_entry e ++ rest) ≡ Some (e, rest)
 unfolding packed_entry entry_at
 entry_again e rest is =
-    let behind_user = packed_command e.command ++ rest in
-    let behind_stamp = packed_user e.user ++ behind_user in
-    let behind_call = packed_number e.stamp ++ behind_stamp in
-    let behind_session = packed_number e.call ++ behind_call in
-    rw (
-      append_assoc (packed_number e.session ++ packed_number e.call ++ packed_number e.stamp ++ packed_user e.user) (packed_command e.command) rest,
-      append_assoc (packed_number e.session ++ packed_number e.call ++ packed_number e.stamp) (packed_user e.user) behind_user,
-      append_assoc (packed_number e.session ++ packed_number e.call) (packed_number e.stamp) behind_stamp,
-      append_assoc (packed_number e.session) (packed_number e.call) behind_call,
-      session_again e.session behind_session is.session,
-      number_again e.call behind_call is.call,
-      number_again e.stamp behind_stamp is.stamp,
-      user_again e.user behind_user is.user,
-      command_again e.command rest is.command,
-    ) refl
+    let session = is.session in
+    let call = is.call in
+    let stamp = is.stamp in
+    let user = is.user in
+    let command = is.command in
+    simp append_assoc (rw (session_again, number_again, number_again, user_again, command_again) refl)
 
 -- ---- what is kept
 

@@ -1,6 +1,6 @@
 -- The test whether keys rise tells that they do.
 use Rattle.std.specs.Prelude.{if◌then◌else◌}
-use Rattle.std.proofs.Common.{◌≡◌, ℕ, Bool, true, false, ◌&&◌, List, [], ◌∷◌, map, Option, Some, None, refl, sym, ap, ◌∙◌}
+use Rattle.std.proofs.Common.{◌≡◌, ℕ, Bool, true, List, [], ◌∷◌, map, Some, None, refl, sym, ap, ◌∙◌}
 use Rattle.std.proofs.lemmas.Bool.{and_parts, and_from, false_from_ne_true}
 use Rattle.std.specs.List.{AllByRecursion}
 use Rattle.std.specs.List.Sorted.{IsStrictlySortedBy}
@@ -9,7 +9,7 @@ use Rattle.std.specs.Cmp.Lexicographic.{slice_cmp}
 use Rattle.std.specs.declared.cmp.Ordering.{Ordering}
 use Rattle.std.specs.declared.cmp.Ordering.TheVariants.{Less, Equal, Greater}
 use Rattle.osm_element.specs.Tags.{Tag, KeysRise}
-use Rattle.packed_entry.specs.Read.{Parsed, ◌>>=◌, number_at, each_at, tag_at, is_key_below, do_keys_rise, rising, some_tags_at}
+use Rattle.packed_entry.specs.Read.{number_at, each_at, tag_at, is_key_below, do_keys_rise, rising, some_tags_at}
 
 less : (o : Ordering) → is_lt o ≡ true → o ≡ Less
 less Less e = refl

@@ -1,5 +1,5 @@
 -- What bytes are kept, and the entry that they stand for.
-use Rattle.std.specs.Prelude.{ℕ, List, [], false, Option, None, Some, ⊤}
+use Rattle.std.specs.Prelude.{ℕ, List, [], false, None, Some, ⊤}
 use Rattle.osm_change.specs.Change.{IsWellFormed}
 use Rattle.osm_model.specs.declared.commands.Command.{Command}
 use Rattle.osm_model.specs.declared.commands.Command.TheVariants.{CreateChangeset, Retag, CloseChangeset, Upload, Single, MakeRedaction, Redact, Unredact}

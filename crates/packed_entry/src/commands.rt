@@ -1,10 +1,9 @@
 //! Commands: a byte for which, and its fields.
 ghost use Rattle.std.specs.Prelude.{◌≡◌, ◌++◌, OnOk};
-ghost use Rattle.osm_change.specs.Change.{IsWellFormed};
 ghost use Rattle.packed_entry.specs.Kept.{Reads};
 ghost use Rattle.packed_entry.specs.Packed.{packed_command, packed_fields, packed_key, command_code};
 ghost use Rattle.packed_entry.specs.Read.{Gives, create_changeset_at, retag_at, close_at, upload_at, single_at, title_at, key_at, redact_at, unredact_at, command_by, command_at};
-ghost use Rattle.packed_entry.specs.Typed.{Fits64, FitsIfSome, IsCommand};
+ghost use Rattle.packed_entry.specs.Typed.{Fits64, IsCommand};
 
 use crate::faults::Fault;
 use crate::names::{kind, kind_code};

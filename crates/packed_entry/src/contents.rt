@@ -1,4 +1,6 @@
 //! What elements hold. The kind of a content stands elsewhere.
+//!
+//! Lists are put and read apart from their callers, so that the code for a node stays small.
 ghost use Rattle.std.specs.Prelude.{◌≡◌, ◌++◌, OnOk, All};
 ghost use Rattle.std.specs.List.{flat_map};
 ghost use Rattle.osm_base.specs.Place.{IsPosition};

@@ -1,9 +1,9 @@
 //! Names of elements, and kinds.
-ghost use Rattle.std.specs.Prelude.{◌≡◌, ◌++◌, OnOk, MatchOption, None, Some};
+ghost use Rattle.std.specs.Prelude.{◌≡◌, ◌++◌, OnOk};
 ghost use Rattle.osm_base.specs.Key.{kind_rank};
 ghost use Rattle.osm_change.specs.Referents.{Fits};
 ghost use Rattle.packed_entry.specs.Packed.{packed_name, number_of_name};
-ghost use Rattle.packed_entry.specs.Read.{Gives, name_of, name_at, kind_of_rank, kind_at};
+ghost use Rattle.packed_entry.specs.Read.{Gives, name_at, kind_of_rank, kind_at};
 
 use crate::faults::Fault;
 use crate::numbers::put_number;

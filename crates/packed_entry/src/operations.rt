@@ -1,9 +1,8 @@
 //! Operations: an action and a kind in one byte, and then what the operation holds.
 ghost use Rattle.std.specs.Prelude.{◌≡◌, ◌++◌, OnOk, All};
 ghost use Rattle.std.specs.List.{flat_map};
-ghost use Rattle.osm_base.specs.Key.{kind_rank};
-ghost use Rattle.osm_change.specs.Change.{IsPlaceholder, HasPlaceholder, IsWellFormed, kind_of as kind_of_content};
-ghost use Rattle.packed_entry.specs.Packed.{packed_number, packed_op, packed_parts, op_code, packed_list, depth_of};
+ghost use Rattle.osm_change.specs.Change.{IsPlaceholder, HasPlaceholder};
+ghost use Rattle.packed_entry.specs.Packed.{packed_op, packed_parts, op_code, packed_list, depth_of};
 ghost use Rattle.packed_entry.specs.Read.{Gives, create_at, modify_at, delete_at, op_by, op_at, each_at, list_at};
 ghost use Rattle.packed_entry.specs.Typed.{IsOp, AreAll, IsChange};
 

@@ -1,4 +1,6 @@
 //! Tags: how many, the room of their texts, and each key with its value.
+//!
+//! Some tags are put and read apart from their callers, so that the code for none stays small.
 ghost use Rattle.std.specs.Prelude.{◌≡◌, ◌<◌, ◌++◌, length, OnOk, All};
 ghost use Rattle.std.specs.List.{flat_map};
 ghost use Rattle.osm_element.specs.Tags.{KeysRise};

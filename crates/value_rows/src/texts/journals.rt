@@ -4,6 +4,7 @@ use super::{TextFault, numbered, said};
 use journal_text::{JournalFault, TEXT_LIMIT, Version, entry_line, read_line, split_header};
 use osm_base::split_once;
 use osm_model::Entry;
+use packed_entry::PackedEntry;
 use std::alloc::{AllocError, Global};
 
 /// A line of a row: the next line of the journal, a piece of one, or a byte 13.
@@ -20,8 +21,11 @@ pub fn add(text: &mut String, line: &str) -> Result<(), AllocError> {
     }
 }
 
+/// Whether the line is that of the entry, and so of an equal one that was kept in few bytes.
 fn is_line_of(alloc: Global, line: &str, entry: &Entry) -> Result<bool, TextFault> {
-    let written = entry_line(alloc, entry)?;
+    let packed = PackedEntry::of(alloc, entry)?;
+    let again = packed.entry(alloc)?;
+    let written = entry_line(alloc, &again)?;
     Ok(line.as_bytes() == written.as_slice())
 }
 

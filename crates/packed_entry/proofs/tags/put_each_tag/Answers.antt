@@ -1,4 +1,4 @@
-use Rattle.std.proofs.Common.{◌≤◌, ◌<◌, [], arith, length}
+use Rattle.std.proofs.Common.{◌<◌, [], arith, length}
 use Rattle.packed_entry.specs.Typed.{IsTag}
 use Rattle.packed_entry.specs.Packed.{packed_tag}
 use Rattle.packed_entry.proofs.Puts.{one_more, all_of}
