@@ -59,7 +59,8 @@ pub fn shelve<N: HubName, K: HubName, E, T: Lines<E>, V: Device, W: Wait>(
 }
 
 /// The device of a shelf by which nobody was served, once that has given this first receipt and has all
-/// that the receipt is for, and no call of it has failed. It is so at once: no run has shown otherwise, and where it isn't this waits for ever.
+/// that the receipt is for, and no call of it has failed. It is so at once; where it isn't, which no
+/// run has shown, this waits for ever.
 pub fn leave_shelf<N: HubName, K: HubName, E, T: Lines<E>, V: Device, W: Wait>(
     rt: &W,
     first: &Front<N, E>,

@@ -57,16 +57,6 @@ impl BookKeeper {
         &self.book
     }
 
-    /// The book of what is kept, which is legal.
-    pub fn into_book(self) -> Book<MapMachine>
-        ensures book { result ≡ self }
-        ensures legal { IsLegal self }
-    {
-        book_law(&self.book);
-        let BookKeeper { book, last: _ } = self;
-        book
-    }
-
     /// The last entry, where this keeper kept it.
     pub fn last(&self) -> Option<&Entry>
         ensures { IfSome result (λ entry. (before : List Entry) × (self.now ≡ before ++ entry.now ∷ [])) }
