@@ -30,7 +30,7 @@ use osm_model::Entry;
 use osm_outside::{Gate, Point, Witness};
 use route_table::Routes;
 use session_desk::{HasSession, SessionDesk, behind, command_bytes, freshen, query_bytes};
-use shared_front::{Front, HubName};
+use shared_front::{FoundFront, Front, HubName};
 use snapshot_hub::{Hub, Session, Shown, Snapshot};
 use std::alloc::Global;
 use std::marker::{Brand, Model};
@@ -215,7 +215,7 @@ impl<'a, N: HubName, G: Gate + Drop, R: Wait + Drop, W: Wait> SessionDesk<
 
     ghost rows_stay = { map_rows_stay };
 
-    fn freshen(&mut self) -> Result<(), Memory> {
+    fn freshen(&mut self) -> Result<FoundFront<N, Entry>, Memory> {
         freshen(self.rt, self.hub, &mut self.session)
     }
 

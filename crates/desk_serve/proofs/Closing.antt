@@ -1,5 +1,5 @@
 -- The one list of a hub that was closed, and what the link of its one session comes to.
-use Rattle.std.proofs.Common.{◌≡◌, ℕ, zero, suc, ◌≤◌, ◌==◌, cond, List, [], ◌∷◌, take, refl, sym, ap, subst, arith}
+use Rattle.std.proofs.Common.{◌≡◌, ℕ, zero, suc, ◌≤◌, ◌==◌, cond, List, [], ◌∷◌, take, None, refl, sym, ap, subst, arith}
 use Rattle.std.proofs.lemmas.List.Sums.{sum_by-append}
 use Rattle.std.specs.Prelude.{IfSome, slice_get}
 use mathlib.Core.List.{IsPrefix}
@@ -51,6 +51,7 @@ module _ {S C Q P E K : Type 0} (rules : Rules S C Q P E K) (row : RowOf E) wher
       let all : HasServed row users old 0 served.exchanges new =
       link_served rules row (at_desk users old) (at_desk users new) (record { came = before; went = after; end = end }) served 0 (omega arith) in record {
         exchanges = served.exchanges;
+        found = served.found;
         link = served.link;
         tells = telling.tells;
         one = closed.one;
@@ -80,6 +81,7 @@ module _ {S C Q P E K : Type 0} (rules : Rules S C Q P E K) (row : RowOf E) wher
   pub pipe_unserved : (users : Users) (before : Told) → LinksLeftAlone → rules.consistent rules.start → ServesPipe rules row users before before Memory
   pipe_unserved users before alone consistent = record {
     exchanges = [];
+    found = None;
     link = alone before;
     tells = tt;
     one = [];

@@ -13,8 +13,7 @@ use Rattle.user_table.specs.Users.{Users}
 use Rattle.session_desk.specs.Answered.{AtDesk, RowOf, IsFresh, AreAnswered, HasServed}
 use Rattle.osm_outside.specs.Told.{Told}
 use Rattle.http_link.specs.declared.end.LinkEnd.{LinkEnd}
-use Rattle.server_frame.specs.OnLink.{OnLink}
-use Rattle.desk_serve.specs.Link.{ServesLink}
+use Rattle.desk_serve.specs.Link.{OnVisit, ServesLink}
 use Rattle.desk_serve.specs.Desks.{at_desk}
 use Rattle.desk_serve.proofs.Serving.{nothing_served}
 
@@ -75,8 +74,8 @@ module _ {S C Q P E K : Type 0} (rules : Rules S C Q P E K) (row : RowOf E) wher
       → HasServed row old.users old.known point s.exchanges new.known
   link_served old new v s point le =
       ⊎_elim
-      (λ fresh. from_fresh old.users old.known s.start new.known point s.exchanges fresh
-      (s.served point (omega (arith, le, no_shorter old.known.front s.start.front fresh.begins))))
+      (λ begun. from_fresh old.users old.known s.start new.known point s.exchanges begun.fresh
+      (s.served point (omega (arith, le, no_shorter old.known.front s.start.front begun.fresh.begins))))
       (λ lacks. subst (λ (k : Known E). HasServed row old.users k point s.exchanges new.known) lacks.stays
       (s.served point (omega (arith, le, ap (λ (k : Known E). length k.front) lacks.stays))))
       s.started
@@ -93,7 +92,7 @@ module _ {S C Q P E K : Type 0} (rules : Rules S C Q P E K) (row : RowOf E) wher
   pub record Joins (old new : AtDesk E) (visits : List Visit) (point : ℕ) : Type 0 where
     pub users : new.users ≡ old.users
     pub exchanges : List (List Exchange)
-    pub each : AllZip (λ visit exchanges. OnLink visit.came visit.went exchanges visit.end) visits exchanges
+    pub each : AllZip (λ visit exchanges. OnVisit visit exchanges) visits exchanges
     pub served : HasServed row old.users old.known point (all_of exchanges) new.known
 
   join_more : (old mid new : AtDesk E) (v : Visit) (visits : List Visit) (point : ℕ) → LinksChain row
@@ -102,7 +101,7 @@ module _ {S C Q P E K : Type 0} (rules : Rules S C Q P E K) (row : RowOf E) wher
   join_more old mid new v visits point chain s first rest = record {
     users = rest.users ∙ s.users;
     exchanges = s.exchanges ∷ rest.exchanges;
-    each = (s.link, rest.each);
+    each = (record { found = s.found; link = s.link }, rest.each);
     served = chain old.users old.known mid.known new.known point s.exchanges (all_of rest.exchanges) first
         (subst (λ (u : Users). HasServed row u mid.known first.last (all_of rest.exchanges) new.known) s.users rest.served);
   }

@@ -1,7 +1,7 @@
 -- Serving a link by a desk that keeps before it tells.
-use Rattle.std.proofs.Common.{◌≡◌, ℕ, ◌≤◌, inl, inr, List, [], ◌∷◌, length, refl, ap, ◌∙◌, subst, arith}
+use Rattle.std.proofs.Common.{◌≡◌, ℕ, ◌≤◌, inl, inr, List, [], ◌∷◌, length, Some, None, refl, ap, ◌∙◌, subst, arith}
 use Rattle.osm_outside.specs.Event.{Shown}
-use Rattle.osm_outside.specs.Told.{Told}
+use Rattle.osm_outside.specs.Told.{Told, finding}
 use Rattle.http_wire.specs.declared.message.Message.{Message}
 use Rattle.http_link.specs.declared.desk.Reply.{Reply}
 use Rattle.http_link.specs.declared.desk.Withheld.{Withheld}
@@ -11,7 +11,7 @@ use Rattle.http_link.specs.declared.end.LinkEnd.{LinkEnd}
 use Rattle.http_link.specs.declared.end.LinkEnd.TheVariants.{Memory, Unkept}
 use Rattle.machine_law.specs.Rules.{Rules}
 use Rattle.user_table.specs.Users.{Users}
-use Rattle.server_frame.specs.OnLink.{AnswersLinkTold}
+use Rattle.server_frame.specs.OnLink.{AnswersLinkTold, OnLink}
 use Rattle.session_desk.specs.Answered.{AtDesk, RowOf, IsFresh, HasServed}
 use Rattle.kept_desk.specs.Kept.{AtKept, Tells, shows_kept, Withholds, HasWithheld, AllowsKept, Sending, sendings, exchanges_in, HasKeptAndTold}
 use Rattle.kept_desk.proofs.Told.{none_told}
@@ -86,20 +86,23 @@ pub sound_at : {S C Q P E K : Type 0} (rules : Rules S C Q P E K) (desk other : 
 sound_at {E = E} rules desk other same h = subst (λ (d : AtDesk E). IsSound rules d.known.front) same h
 
 module _ {S C Q P E K : Type 0} (rules : Rules S C Q P E K) (row : RowOf E) where
-  pub keeps_link : (old fresh new : AtKept E) (before after : Told) (end : LinkEnd) → ToldChain row → ToldIsServed row → SameExchanges
-      → fresh.desk.users ≡ old.desk.users → IsFresh rules old.desk.known fresh.desk.known → fresh.receipts ≡ old.receipts → fresh.failed ≡ old.failed
-      → AnswersLinkTold (AllowsKept row) Tells shows_kept Withholds fresh new before after end → IsSound rules new.desk.known.front
+  -- so many entries were found, and the link was told of them first
+  pub keeps_link : (old fresh new : AtKept E) (found : ℕ) (before learned after : Told) (end : LinkEnd) → ToldChain row → ToldIsServed row → SameExchanges
+      → fresh.desk.users ≡ old.desk.users → IsFresh rules old.desk.known fresh.desk.known → found ≡ length fresh.desk.known.front
+      → fresh.receipts ≡ old.receipts → fresh.failed ≡ old.failed → learned ≡ finding (Some found) before
+      → AnswersLinkTold (AllowsKept row) Tells shows_kept Withholds fresh new learned after end → IsSound rules new.desk.known.front
       → KeepsLink rules row old new before after end
-  keeps_link old fresh new before after end chain is_served same users is_fresh receipts failed s sound =
+  keeps_link old fresh new found before learned after end chain is_served same users is_fresh whole receipts failed is s sound =
       let exchanges = s.answers.exchanges in
       let told : (point : ℕ) → point ≤ length fresh.desk.known.front → HasKeptAndTold row old.desk.users fresh point (sendings end exchanges) new =
       λ point le. subst (λ (u : Users). HasKeptAndTold row u fresh point (sendings end exchanges) new) users (chain fresh new exchanges end point le s.told).1 in record {
         serves = record {
           exchanges = exchanges;
-          link = s.answers.link;
+          found = Some found;
+          link = subst (λ (t : Told). OnLink t after exchanges end) is s.answers.link;
           users = (chain fresh new exchanges end 0 (omega arith) s.told).0 ∙ users;
           start = fresh.desk.known;
-          started = inl is_fresh;
+          started = inl (record { fresh = is_fresh; whole = ap (λ (n : ℕ). Some n) whole });
           served = λ point le.
               subst (λ (l : List Exchange). HasServed row old.desk.users fresh.desk.known point l new.desk.known) (same end exchanges)
               (is_served old.desk.users fresh new point (sendings end exchanges) (told point le));
@@ -121,10 +124,11 @@ module _ {S C Q P E K : Type 0} (rules : Rules S C Q P E K) (row : RowOf E) wher
       let known : new.desk.known ≡ old.desk.known = ap (λ (d : AtKept E). d.desk.known) same in record {
         serves = record {
           exchanges = [];
+          found = None;
           link = alone told;
           users = users;
           start = new.desk.known;
-          started = inr (record { stays = known; nothing = refl; untouched = refl; ended = refl });
+          started = inr (record { stays = known; unfound = refl; nothing = refl; untouched = refl; ended = refl });
           served = λ point le. nothing_served rules row old.desk.users new.desk.known point le;
           front = sound;
         };

@@ -1,5 +1,5 @@
 -- The links of one session that keeps before it tells, joined one after another.
-use Rattle.std.proofs.Common.{◌≡◌, ℕ, true, ◌≤◌, ◌⊎◌, inl, inr, List, [], ◌∷◌, ◌++◌, length, refl, sym, ap, ◌∙◌, subst, arith}
+use Rattle.std.proofs.Common.{◌≡◌, ℕ, true, ◌≤◌, ◌⊎◌, inl, inr, List, [], ◌∷◌, ◌++◌, length, Option, refl, sym, ap, ◌∙◌, subst, arith}
 use mathlib.Core.List.{IsPrefix}
 use Rattle.osm_outside.specs.Told.{Told}
 use Rattle.http_link.specs.Exchange.{Exchange}
@@ -14,13 +14,13 @@ use Rattle.durable_log.specs.Receipts.{Receipt}
 use Rattle.user_table.specs.Users.{Users}
 use Rattle.session_desk.specs.Rows.{Place}
 use Rattle.session_desk.specs.Steps.{place_at}
-use Rattle.session_desk.specs.Answered.{RowOf, IsFresh}
+use Rattle.session_desk.specs.Answered.{RowOf}
 use Rattle.session_desk.proofs.Lists.{prefix_trans, prefix_length}
 use Rattle.kept_desk.specs.Kept.{AtKept, at_kept, Sending, sendings, HasWithheld, AreKeptAndTold, HasKeptAndTold}
 use Rattle.kept_desk.proofs.Kept.{Still, still, same_place}
 use Rattle.kept_desk.proofs.Told.{none_told}
 use Rattle.desk_serve.specs.Desks.{at_desk}
-use Rattle.desk_serve.specs.Link.{LacksStart}
+use Rattle.desk_serve.specs.Link.{HasStarted, LacksStart}
 use Rattle.desk_serve.specs.Kept.{KeepsLink}
 use Rattle.desk_serve.specs.KeptPorts.{KeptJoins, HasCause, all_sendings}
 
@@ -74,16 +74,16 @@ module _ {S C Q P E K : Type 0} (rules : Rules S C Q P E K) (row : RowOf E) wher
   }
 
   -- what a session that a link began with still has
-  still_at : (old start : Known E) (before after : Told) (exchanges : List Exchange) (end : LinkEnd)
-      → IsFresh rules old start ⊎ LacksStart old start before after exchanges end → Still rules old start
-  still_at old start before after exchanges end (inl fresh) = still rules old start (inr fresh)
-  still_at old start before after exchanges end (inr lacks) = still rules old start (inl lacks.stays)
+  still_at : (old start : Known E) (found : Option ℕ) (before after : Told) (exchanges : List Exchange) (end : LinkEnd)
+      → HasStarted rules old start found ⊎ LacksStart old start found before after exchanges end → Still rules old start
+  still_at old start found before after exchanges end (inl begun) = still rules old start (inr begun.fresh)
+  still_at old start found before after exchanges end (inr lacks) = still rules old start (inl lacks.stays)
 
   -- a whole link, from any point of the front that the session had before
   link_kept : (old new : AtKept E) (v : Visit) (s : KeepsLink rules row old new v.came v.went v.end) (point : ℕ) → point ≤ length old.desk.known.front
       → HasKeptAndTold row old.desk.users old point (sendings v.end s.serves.exchanges) new
   link_kept old new v s point le =
-      let begun : Still rules old.desk.known s.serves.start = still_at old.desk.known s.serves.start v.came v.went s.serves.exchanges v.end s.serves.started in
+      let begun : Still rules old.desk.known s.serves.start = still_at old.desk.known s.serves.start s.serves.found v.came v.went s.serves.exchanges v.end s.serves.started in
       from_start old.desk.users old s.start new point (sendings v.end s.serves.exchanges)
       (subst (λ (k : Known E). Still rules old.desk.known k) (sym s.known) begun) s.receipts s.failed
       (s.kept point (omega (arith, le, prefix_length old.desk.known.front s.serves.start.front begun.begins)))
@@ -94,7 +94,7 @@ module _ {S C Q P E K : Type 0} (rules : Rules S C Q P E K) (row : RowOf E) wher
   join_more old mid new v visits point chain s first rest = record {
     users = rest.users ∙ s.serves.users;
     exchanges = s.serves.exchanges ∷ rest.exchanges;
-    each = (s.serves.link, rest.each);
+    each = (record { found = s.serves.found; link = s.serves.link }, rest.each);
     joined = chain old.desk.users old mid new point (sendings v.end s.serves.exchanges) (all_sendings visits rest.exchanges) first
         (subst (λ (u : Users). HasKeptAndTold row u mid first.last (all_sendings visits rest.exchanges) new) s.serves.users rest.joined);
   }

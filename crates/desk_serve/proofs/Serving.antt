@@ -1,6 +1,6 @@
 -- Serving a link by a desk of a hub.
-use Rattle.std.proofs.Common.{◌≡◌, ℕ, ◌≤◌, inl, inr, List, [], length, refl, ◌∙◌, subst, arith, append-nil}
-use Rattle.osm_outside.specs.Told.{Told}
+use Rattle.std.proofs.Common.{◌≡◌, ℕ, ◌≤◌, inl, inr, List, [], length, Some, None, refl, ap, ◌∙◌, subst, arith, append-nil}
+use Rattle.osm_outside.specs.Told.{Told, finding}
 use Rattle.http_wire.specs.declared.message.Message.{Message}
 use Rattle.http_link.specs.declared.desk.Reply.{Reply}
 use Rattle.http_link.specs.declared.end.LinkEnd.{LinkEnd}
@@ -23,18 +23,21 @@ module _ {S C Q P E K : Type 0} (rules : Rules S C Q P E K) (row : RowOf E) wher
   Chains {D} allows view = (old new : D) (exchanges : List Exchange) (point : ℕ) → point ≤ length (view old).known.front
       → Chain allows old exchanges new → ((view new).users ≡ (view old).users) × HasServed row (view old).users (view old).known point exchanges (view new).known
 
-  pub serves_link : {D : Type 0} (allows : D → Message → ℕ → Reply → D → Type 0) (view : D → AtDesk E) (old fresh new : D) (before after : Told) (end : LinkEnd) → Chains allows view
-      → (view fresh).users ≡ (view old).users → IsFresh rules (view old).known (view fresh).known → AnswersLink allows fresh new before after end → IsSound rules (view new).known.front
+  -- so many entries were found, and the link was told of them first
+  pub serves_link : {D : Type 0} (allows : D → Message → ℕ → Reply → D → Type 0) (view : D → AtDesk E) (old fresh new : D) (found : ℕ) (before told after : Told) (end : LinkEnd)
+      → Chains allows view → (view fresh).users ≡ (view old).users → IsFresh rules (view old).known (view fresh).known → found ≡ length (view fresh).known.front
+      → told ≡ finding (Some found) before → AnswersLink allows fresh new told after end → IsSound rules (view new).known.front
       → ServesLink rules row (view old) (view new) before after end
-  serves_link allows view old fresh new before after end chains users is_fresh s sound =
+  serves_link allows view old fresh new found before told after end chains users is_fresh whole learned s sound =
       let at : (point : ℕ) → point ≤ length (view fresh).known.front
       → ((view new).users ≡ (view fresh).users) × HasServed row (view fresh).users (view fresh).known point s.exchanges (view new).known =
       λ point le. chains fresh new s.exchanges point le s.answered in record {
         exchanges = s.exchanges;
-        link = s.link;
+        found = Some found;
+        link = subst (λ (t : Told). OnLink t after s.exchanges end) learned s.link;
         users = (at 0 (omega arith)).0 ∙ users;
         start = (view fresh).known;
-        started = inl is_fresh;
+        started = inl (record { fresh = is_fresh; whole = ap (λ (n : ℕ). Some n) whole });
         served = λ point le. subst (λ (u : Users). HasServed row u (view fresh).known point s.exchanges (view new).known) users (at point le).1;
         front = sound;
       }
@@ -46,10 +49,11 @@ module _ {S C Q P E K : Type 0} (rules : Rules S C Q P E K) (row : RowOf E) wher
   left_alone : (old : AtDesk E) (told : Told) → LinksLeftAlone → IsSound rules old.known.front → ServesLink rules row old old told told Memory
   left_alone old told alone sound = record {
     exchanges = [];
+    found = None;
     link = alone told;
     users = refl;
     start = old.known;
-    started = inr (record { stays = refl; nothing = refl; untouched = refl; ended = refl });
+    started = inr (record { stays = refl; unfound = refl; nothing = refl; untouched = refl; ended = refl });
     served = λ point le. nothing_served old.users old.known point le;
     front = sound;
   }

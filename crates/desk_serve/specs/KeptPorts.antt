@@ -15,11 +15,10 @@ use Rattle.snapshot_hub.specs.Known.{returner, seeing}
 use Rattle.durable_log.specs.Receipts.{AreKept}
 use Rattle.durable_log.specs.Receipts.{Receipt}
 use Rattle.user_table.specs.Users.{Users}
-use Rattle.server_frame.specs.OnLink.{OnLink}
 use Rattle.session_desk.specs.Answered.{RowOf}
 use Rattle.kept_desk.specs.Kept.{AtKept, at_kept, Sending, sendings, HasKeptAndTold}
 use Rattle.desk_serve.specs.Desks.{at_desk}
-use Rattle.desk_serve.specs.Link.{IsSound, HasItsCalls}
+use Rattle.desk_serve.specs.Link.{OnVisit, IsSound, HasItsCalls}
 use Rattle.desk_serve.specs.Kept.{KeepsLink}
 
 -- What a worker was given, and what it gave back: the number of its session, what its desk kept behind its last link, its port as it was
@@ -73,7 +72,7 @@ module _ {S C Q P E K : Type 0} (rules : Rules S C Q P E K) (row : RowOf E) wher
     pub within : IsPrefix shift.stopped.desk.known.front one
     pub calls : HasItsCalls rules one shift.stopped.desk.known
     pub exchanges : List (List Exchange)
-    pub each : AllZip (λ visit exchanges. OnLink visit.came visit.went exchanges visit.end) links.links.visits exchanges
+    pub each : AllZip (λ visit exchanges. OnVisit visit exchanges) links.links.visits exchanges
     -- The messages of all these links, one link after another: each has a row at a point of the one list, and before anything of a reply was
     -- sent its link was shown a receipt for its point; neither the points nor the receipts ever go back, not even from one link to the next.
     -- They begin where the journal J ends.
@@ -110,7 +109,7 @@ module _ {S C Q P E K : Type 0} (rules : Rules S C Q P E K) (row : RowOf E) wher
   pub record KeptJoins (old new : AtKept E) (visits : List Visit) (point : ℕ) : Type 0 where
     pub users : new.desk.users ≡ old.desk.users
     pub exchanges : List (List Exchange)
-    pub each : AllZip (λ visit exchanges. OnLink visit.came visit.went exchanges visit.end) visits exchanges
+    pub each : AllZip (λ visit exchanges. OnVisit visit exchanges) visits exchanges
     pub joined : HasKeptAndTold row old.desk.users old point (all_sendings visits exchanges) new
 
   -- Workers with sessions of these numbers, of a hub that began with this journal, served these ports, with these receipts in hand at first.

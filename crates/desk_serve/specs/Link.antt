@@ -1,10 +1,11 @@
 -- What serving one link by a session of a hub does, for any machine; and what serving a link by a new hub does.
-use Rattle.std.specs.Prelude.{◌≡◌, ℕ, ◌≤◌, ◌⊎◌, true, List, [], length, take}
-use Rattle.osm_outside.specs.Told.{Told}
+use Rattle.std.specs.Prelude.{◌≡◌, ℕ, ◌≤◌, ◌⊎◌, true, List, [], length, take, Option, Some, None}
+use Rattle.osm_outside.specs.Told.{Told, finding}
 use Rattle.http_link.specs.declared.end.LinkEnd.{LinkEnd}
 use Rattle.http_link.specs.declared.end.LinkEnd.TheVariants.{Memory}
 use Rattle.http_link.specs.Exchange.{Exchange}
 use Rattle.http_link.specs.Link.{TellsAll}
+use Rattle.link_workers.specs.Port.{Visit}
 use Rattle.machine_law.specs.Rules.{Rules, replay, is_legal}
 use Rattle.hub_core.specs.Journal.{calls_of, is_numbered}
 use Rattle.snapshot_hub.specs.Known.{Known, newcomer}
@@ -12,9 +13,21 @@ use Rattle.server_frame.specs.OnLink.{OnLink}
 use Rattle.user_table.specs.Users.{Users}
 use Rattle.session_desk.specs.Answered.{AtDesk, RowOf, IsFresh, HasServed}
 
+-- What happened on a link that was served to its end, with these exchanges: first of all it was told how many entries a journal had
+-- that was found, or there was no memory to find one.
+pub record OnVisit (visit : Visit) (exchanges : List Exchange) : Type 0 where
+  pub found : Option ℕ
+  pub link : OnLink (finding found visit.came) visit.went exchanges visit.end
+
+-- The session was freshened: its front is the journal that was found, and so many entries the link was told of.
+pub record HasStarted {S C Q P E K : Type 0} (rules : Rules S C Q P E K) (old start : Known E) (found : Option ℕ) : Type 0 where
+  pub fresh : IsFresh rules old start
+  pub whole : found ≡ Some (length start.front)
+
 -- There was no memory to freshen the session, and the link was left alone.
-pub record LacksStart {E : Type 0} (old start : Known E) (before after : Told) (exchanges : List Exchange) (end : LinkEnd) : Type 0 where
+pub record LacksStart {E : Type 0} (old start : Known E) (found : Option ℕ) (before after : Told) (exchanges : List Exchange) (end : LinkEnd) : Type 0 where
   pub stays : start ≡ old
+  pub unfound : found ≡ None
   pub nothing : exchanges ≡ []
   pub untouched : after ≡ before
   pub ended : end ≡ Memory
@@ -42,13 +55,15 @@ module _ {S C Q P E K : Type 0} (rules : Rules S C Q P E K) (row : RowOf E) wher
   pub record ServesLink (old new : AtDesk E) (before after : Told) (end : LinkEnd) : Type 0 where
     -- the messages that were answered, with their moments and replies
     pub exchanges : List Exchange
-    pub link : OnLink before after exchanges end
+    -- how many entries the journal had that was found under the lock: the first that happened on the link is that it was told so
+    pub found : Option ℕ
+    pub link : OnLink (finding found before) after exchanges end
     pub users : new.users ≡ old.users
-    -- what the session knew before the first message: it had been freshened, or there was no memory for that
+    -- what the session knew before the first message: it had been freshened and had seen what was found, or there was no memory for that
     pub start : Known E
-    pub started : IsFresh rules old.known start ⊎ LacksStart old.known start before after exchanges end
-    -- Wherever in the front of its start it was last answered, up to the whole of it: each message has a row at a point of the session's
-    -- front at the exit; the points begin there and never go back
+    pub started : HasStarted rules old.known start found ⊎ LacksStart old.known start found before after exchanges end
+    -- Wherever in the front of its start it was last answered, up to the whole of it, and so up to all that was found: each message has a
+    -- row at a point of the session's front at the exit; the points begin there and never go back
     pub served : (point : ℕ) → point ≤ length start.front → HasServed row old.users start point exchanges new.known
     pub front : IsSound rules new.known.front
 
@@ -61,7 +76,9 @@ module _ {S C Q P E K : Type 0} (rules : Rules S C Q P E K) (row : RowOf E) wher
   pub record ServesPipe (users : Users) (before after : Told) (end : LinkEnd) : Type 0 where
     -- the messages that were answered, with their moments and replies
     pub exchanges : List Exchange
-    pub link : OnLink before after exchanges end
+    -- how many entries were found before the first message, as the link was told
+    pub found : Option ℕ
+    pub link : OnLink (finding found before) after exchanges end
     -- no reply was withheld
     pub tells : TellsAll end
     -- one list, the journal of the closed hub, with no entry but those of the one session

@@ -11,8 +11,7 @@ use Rattle.snapshot_hub.specs.Known.{Known, newcomer, seeing}
 use Rattle.user_table.specs.Users.{Users}
 use Rattle.session_desk.specs.Answered.{RowOf, HasServed}
 use Rattle.desk_serve.specs.Desks.{at_desk}
-use Rattle.server_frame.specs.OnLink.{OnLink}
-use Rattle.desk_serve.specs.Link.{IsListOf, HasItsCalls, TellsLink}
+use Rattle.desk_serve.specs.Link.{OnVisit, IsListOf, HasItsCalls, TellsLink}
 use Rattle.link_workers.specs.declared.outcome.Outcome.{Outcome}
 use Rattle.link_workers.specs.declared.outcome.Outcome.TheVariants.{Served, Failed, Unkept, LacksMemory}
 
@@ -40,7 +39,7 @@ module _ {S C Q P E K : Type 0} (rules : Rules S C Q P E K) (row : RowOf E) wher
     -- The messages of all these links, one link after another: each has a row at a point of the one list; the points never go back, not
     -- even from one link to the next.
     pub exchanges : List (List Exchange)
-    pub each : AllZip (λ visit exchanges. OnLink visit.came visit.went exchanges visit.end) links.links.visits exchanges
+    pub each : AllZip (λ visit exchanges. OnVisit visit exchanges) links.links.visits exchanges
     pub joined : HasServed row users (newcomer shift.number) 0 (all_of exchanges) (seeing shift.stopped one)
 
   -- The links of these ports were served by the sessions of a new hub, which was then closed.

@@ -28,7 +28,8 @@ pub fn serve_kept_link<N: HubName, M: Machine, S: Snapshot<N, M>, Q: KeptSession
     points_are_consistent::<M>();
     link_left_alone();
     match desk.freshen_session() {
-        Ok(()) => {
+        Ok(found) => {
+            link.learn(found);
             let end = answer_link(alloc, desk, link);
             desk.law();
             end

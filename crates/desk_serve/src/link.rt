@@ -15,9 +15,9 @@ use shared_front::HubName;
 use snapshot_hub::Snapshot;
 use std::alloc::Global;
 
-/// Answers the requests of the link by the desk's session, until the link ends, and withholds no reply. Before the first one
-/// the session sees the journal that is found under the lock; want of memory there leaves the link
-/// alone.
+/// Answers the requests of the link by the desk's session, until the link ends, and withholds no reply.
+/// Before the first one the session sees the journal that is found under the lock, and the link is told
+/// of it; want of memory there leaves the link alone.
 pub fn serve_link<
     N: HubName,
     M: Machine,
@@ -33,7 +33,8 @@ pub fn serve_link<
     points_are_consistent::<M>();
     link_left_alone();
     match desk.freshen() {
-        Ok(()) => {
+        Ok(found) => {
+            link.learn(found);
             let end = answer_link(alloc, desk, link);
             desk.law();
             end

@@ -4,7 +4,7 @@ use Rattle.std.specs.Prelude.{⊤}
 use Rattle.std.specs.List.{concat}
 use Rattle.std.proofs.lemmas.List.{length-map}
 use Rattle.osm_base.specs.declared.limits.TheConstants.{HEAD_LIMIT, REQUEST_LIMIT}
-use Rattle.osm_outside.specs.Event.{Event, Shown, Gave, Took, Answered, Showed, given, taken}
+use Rattle.osm_outside.specs.Event.{Event, Shown, Gave, Took, Answered, Showed, Found, given, taken}
 use Rattle.osm_outside.specs.Told.{Told}
 use Rattle.http_wire.specs.Message.{BeginsWithin, HasMessages}
 use Rattle.http_wire.specs.End.{IsUnfinished}
@@ -124,6 +124,7 @@ given-append (Gave bytes ∷ xs) ys =
 given-append (Took bytes ∷ xs) ys = given-append xs ys
 given-append (Answered moment ∷ xs) ys = given-append xs ys
 given-append (Showed front ∷ xs) ys = given-append xs ys
+given-append (Found entries ∷ xs) ys = given-append xs ys
 
 taken-append : (xs ys : List Event) → taken (xs ++ ys) ≡ taken xs ++ taken ys
 taken-append [] ys = refl
@@ -132,6 +133,7 @@ taken-append (Took bytes ∷ xs) ys =
     ap (λ l. bytes ++ l) (taken-append xs ys) ∙ sym (append_assoc bytes (taken xs) (taken ys))
 taken-append (Answered moment ∷ xs) ys = taken-append xs ys
 taken-append (Showed front ∷ xs) ys = taken-append xs ys
+taken-append (Found entries ∷ xs) ys = taken-append xs ys
 
 given-reads : (reads : List (List ℕ)) → given (map Gave reads) ≡ concat reads
 given-reads [] = refl

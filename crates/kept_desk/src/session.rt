@@ -3,14 +3,14 @@
 //! It answers by another desk, and before a reply is sent it sees to it that the file holds the
 //! front on which the session was answered. Where the file can't, the reply isn't sent. Each machine
 //! has such a desk of its own, which holds its desk and a keeper.
-ghost use Rattle.std.specs.Prelude.{◌≡◌, OnOk, OnErr};
+ghost use Rattle.std.specs.Prelude.{◌≡◌, IfOk, OnOk, OnErr};
 ghost use Rattle.session_desk.specs.Answered.{IsFresh};
 ghost use Rattle.kept_desk.specs.Kept.{AtKept};
 
 use machine_law::Machine;
 use osm_base::Memory;
 use session_desk::SessionDesk;
-use shared_front::HubName;
+use shared_front::{FoundFront, HubName};
 use snapshot_hub::Snapshot;
 
 /// A desk of a session, whose replies are sent only once the file holds what they tell of.
@@ -24,10 +24,11 @@ pub trait KeptSession<N: HubName, M: Machine, S: Snapshot<N, M>>: SessionDesk<N,
     // What its session has, how many entries its last reply may tell of, the receipts in hand, and whether keeping failed.
     ghost kept: { Self → AtKept M.Entry };
 
-    /// Publishes the journal that is found under the lock, and lets the session see it. The receipts
-    /// in hand stay.
-    fn freshen_session(&mut self) -> Result<(), Memory>
+    /// Publishes the journal that is found under the lock, and lets the session see it. That journal
+    /// comes back, told where its end is. The receipts in hand stay.
+    fn freshen_session(&mut self) -> Result<FoundFront<N, M::Entry>, Memory>
         ensures users { (kept self.new).desk.users ≡ (kept self.old).desk.users }
+        ensures found { IfOk result (λ found. found ≡ (kept self.new).desk.known.front) }
         ensures ok { OnOk result (IsFresh M.rules (kept self.old).desk.known (kept self.new).desk.known) }
         ensures err { OnErr result (kept self.new ≡ kept self.old) }
         ensures receipts { (kept self.new).receipts ≡ (kept self.old).receipts }

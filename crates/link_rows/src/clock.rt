@@ -5,7 +5,7 @@ use http_link::{LinkEnd, serve_desk};
 use osm_base::{BODY_LIMIT, Memory};
 use osm_outside::{Clock, Failed, Link, MemLink, Outside, Sink, Source, Trace, Witness};
 use receipts::Receipt;
-use shared_front::{Front, HubName};
+use shared_front::{FoundFront, Front, HubName};
 use std::alloc::Global;
 
 /// A link whose clock says how many reads there were.
@@ -53,6 +53,10 @@ impl Clock for CountedLink {
 }
 
 impl Witness for CountedLink {
+    fn learn<N: HubName, E>(&mut self, found: FoundFront<N, E>) {
+        self.trace = self.trace.found(&found);
+    }
+
     fn show<K: HubName>(&mut self, receipts: &Front<K, Receipt>) {
         self.trace = self.trace.shown(receipts);
     }

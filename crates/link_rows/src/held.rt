@@ -5,7 +5,7 @@ use http_link::{LinkEnd, serve_desk};
 use osm_base::{BODY_LIMIT, Memory};
 use osm_outside::{Clock, Failed, Link, MemLink, Outside, Sink, Source, Witness};
 use receipts::Receipt;
-use shared_front::{Front, HubName};
+use shared_front::{FoundFront, Front, HubName};
 use std::alloc::Global;
 
 /// A link that gives one request a read, and fails where a read comes before so many bytes of replies were taken.
@@ -55,6 +55,10 @@ impl Clock for HeldLink {
 }
 
 impl Witness for HeldLink {
+    fn learn<N: HubName, E>(&mut self, found: FoundFront<N, E>) {
+        self.link.learn(found);
+    }
+
     fn show<K: HubName>(&mut self, receipts: &Front<K, Receipt>) {
         self.link.show(receipts);
     }

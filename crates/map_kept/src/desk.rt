@@ -14,7 +14,7 @@ use osm_base::Memory;
 use osm_model::Entry;
 use osm_outside::{NoGate, Witness};
 use session_desk::{HasSession, SessionDesk};
-use shared_front::{Front, HubName};
+use shared_front::{FoundFront, Front, HubName};
 use snapshot_hub::Shown;
 use std::alloc::Global;
 use std::marker::Model;
@@ -124,7 +124,7 @@ impl<'a, N: HubName, K: HubName, V: Device, R: Wait + Drop, W: Wait> SessionDesk
 
     ghost rows_stay = { map_rows_stay };
 
-    fn freshen(&mut self) -> Result<(), Memory> {
+    fn freshen(&mut self) -> Result<FoundFront<N, Entry>, Memory> {
         self.desk.freshen()
     }
 
@@ -160,7 +160,7 @@ impl<'a, N: HubName, K: HubName, V: Device, R: Wait + Drop, W: Wait> KeptSession
 
     ghost withholds_kept = { λ it why h. h };
 
-    fn freshen_session(&mut self) -> Result<(), Memory> {
+    fn freshen_session(&mut self) -> Result<FoundFront<N, Entry>, Memory> {
         self.desk.freshen()
     }
 }

@@ -93,7 +93,8 @@ fn serve_by_desk<N: HubName, K: HubName, V: Device, R: Wait + Drop, W: Wait, L: 
     points_are_consistent::<MapMachine>();
     link_left_alone();
     match desk.freshen_session() {
-        Ok(()) => {
+        Ok(found) => {
+            link.learn(found);
             let end = answer_link(alloc, desk, link);
             desk.law();
             end

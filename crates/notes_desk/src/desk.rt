@@ -20,7 +20,7 @@ use notes_core::{NoteEntry, NotesMachine};
 use osm_base::{Bytes, Memory, Steps};
 use osm_outside::{Gate, Point, Witness};
 use session_desk::{HasSession, SessionDesk, behind, command_bytes, freshen, query_bytes};
-use shared_front::{Front, HubName};
+use shared_front::{FoundFront, Front, HubName};
 use snapshot_hub::{Hub, Session, Shown};
 use std::alloc::Global;
 use std::marker::{Brand, Model};
@@ -196,7 +196,7 @@ impl<'a, N: HubName, G: Gate + Drop, R: Wait + Drop, W: Wait> SessionDesk<
 
     ghost rows_stay = { note_rows_stay };
 
-    fn freshen(&mut self) -> Result<(), Memory> {
+    fn freshen(&mut self) -> Result<FoundFront<N, NoteEntry>, Memory> {
         freshen(self.rt, self.hub, &mut self.session)
     }
 

@@ -12,7 +12,7 @@ use notes_desk::{NotesDesk, NotesSession};
 use osm_base::Memory;
 use osm_outside::{NoGate, Witness};
 use session_desk::{HasSession, SessionDesk};
-use shared_front::{Front, HubName};
+use shared_front::{FoundFront, Front, HubName};
 use snapshot_hub::Shown;
 use std::alloc::Global;
 use std::marker::Model;
@@ -135,7 +135,7 @@ impl<
 
     ghost rows_stay = { note_rows_stay };
 
-    fn freshen(&mut self) -> Result<(), Memory> {
+    fn freshen(&mut self) -> Result<FoundFront<N, NoteEntry>, Memory> {
         self.desk.freshen()
     }
 
@@ -175,7 +175,7 @@ impl<
 
     ghost withholds_kept = { λ it why h. h };
 
-    fn freshen_session(&mut self) -> Result<(), Memory> {
+    fn freshen_session(&mut self) -> Result<FoundFront<N, NoteEntry>, Memory> {
         self.desk.freshen()
     }
 }

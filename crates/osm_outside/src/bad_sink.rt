@@ -6,7 +6,7 @@ ghost use Rattle.osm_outside.specs.Memory.{IsBad, TakesNone, after_taking, calle
 use crate::memory::MemLink;
 use crate::outside::{Clock, Failed, Link, Outside, Sink, Source, Witness};
 use receipts::Receipt;
-use shared_front::{Front, HubName};
+use shared_front::{FoundFront, Front, HubName};
 use std::marker::Model;
 
 /// A link in memory, one of whose writes takes nothing.
@@ -87,6 +87,10 @@ impl Clock for BadSink {
 }
 
 impl Witness for BadSink {
+    fn learn<N: HubName, E>(&mut self, found: FoundFront<N, E>) {
+        self.link.learn(found);
+    }
+
     fn show<K: HubName>(&mut self, receipts: &Front<K, Receipt>) {
         self.link.show(receipts);
     }

@@ -1,5 +1,5 @@
 //! The traits of the outside. Each counts its faults, and a call fails only where its count rose.
-//! A link keeps for contracts, in one list, what its calls gave, took and told and were shown.
+//! A link keeps for contracts, in one list, what its calls gave, took and told and were shown or told.
 //!
 //! Counts of faults are numbers of 64 bits that stand still at their end. "Rose" is the word of
 //! every contract: `min (before + 1) (2^64 - 1) ≤ now`.
@@ -12,14 +12,14 @@ ghost use Rattle.std.specs.Prelude.{◌≡◌, ◌+◌, ◌<◌, ◌≤◌, ◌�
 ghost use Rattle.std.specs.Io.KnownBytes.{ReadConsumes};
 ghost use Rattle.osm_base.specs.declared.limits.TheConstants.{USERS_LIMIT};
 ghost use Rattle.osm_outside.specs.Event.{Answered, Showed};
-ghost use Rattle.osm_outside.specs.Told.{Told, Rose, AddsRead, AddsWrite, OnlyReads, OnlyWrites};
+ghost use Rattle.osm_outside.specs.Told.{Told, Rose, AddsRead, AddsWrite, OnlyReads, OnlyWrites, finding};
 ghost use Rattle.osm_outside.specs.Lent.{IsOut, hand_out, take_back};
 ghost use Rattle.osm_outside.specs.Port.{PortTold, Accepts};
 ghost use Rattle.osm_outside.specs.Host.{HostTold, OnlyAsked, OnlyPorts};
 
 use osm_base::{Bytes, Memory};
 use receipts::Receipt;
-use shared_front::{Front, HubName};
+use shared_front::{FoundFront, Front, HubName};
 use std::alloc::Global;
 
 /// A read or a write failed.
@@ -70,8 +70,13 @@ pub trait Clock: Outside {
         ensures told { Self.told self.new ≡ record (Self.told self.old) { fixed = Some seconds } };
 }
 
-/// What is shown by which receipts a reply is sent. It is told to contracts alone.
+/// What is shown by which receipts a reply is sent, and told which list was found before the first one.
+/// It is told to contracts alone.
 pub trait Witness: Outside {
+    /// Is told with how many entries a list was found.
+    fn learn<N: HubName, E>(&mut self, found: FoundFront<N, E>)
+        ensures found { Self.told self.new ≡ finding (Some (length found)) (Self.told self.old) };
+
     /// Is shown the receipts of that front, all that were given by then as far as it has seen them.
     fn show<K: HubName>(&mut self, receipts: &Front<K, Receipt>)
         ensures trace { Self.told self.new ≡ record (Self.told self.old) {

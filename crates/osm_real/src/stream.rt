@@ -8,7 +8,7 @@ ghost use Rattle.osm_real.specs.Stream.{link_stream, stream_told, unused};
 use crate::duplex::{Duplex, Pair};
 use osm_outside::{Clock, Failed, Link, Outside, Sink, Source, Trace, Witness};
 use receipts::Receipt;
-use shared_front::{Front, HubName};
+use shared_front::{FoundFront, Front, HubName};
 use std::io::{Read, Write};
 use std::time::{SystemTime, UNIX_EPOCH};
 
@@ -145,6 +145,10 @@ fn seconds_since_1970(clock: &impl std::rt::Clock) -> u64 {
 }
 
 impl<S: Duplex, C> Witness for StreamLink<S, C> {
+    fn learn<N: HubName, E>(&mut self, found: FoundFront<N, E>) {
+        self.trace = self.trace.found(&found);
+    }
+
     fn show<K: HubName>(&mut self, receipts: &Front<K, Receipt>) {
         self.trace = self.trace.shown(receipts);
     }

@@ -4,7 +4,7 @@ use Rattle.std.specs.Prelude.{IfSome}
 use Rattle.std.specs.List.{AllByRecursion, concat}
 use Rattle.std.specs.Io.KnownBytes.{Consumes}
 use Rattle.std.proofs.lemmas.List.{length-map}
-use Rattle.osm_outside.specs.Event.{Event, Shown, Gave, Took, Answered, Showed, given, answered}
+use Rattle.osm_outside.specs.Event.{Event, Shown, Gave, Took, Answered, Showed, Found, given, answered}
 use Rattle.osm_outside.specs.Told.{Told}
 use Rattle.http_wire.specs.declared.message.Message.{Message}
 use Rattle.http_wire.specs.declared.end.WireEnd.{WireEnd}
@@ -29,6 +29,7 @@ given-append (Gave bytes ∷ xs) ys =
 given-append (Took bytes ∷ xs) ys = given-append xs ys
 given-append (Answered moment ∷ xs) ys = given-append xs ys
 given-append (Showed front ∷ xs) ys = given-append xs ys
+given-append (Found entries ∷ xs) ys = given-append xs ys
 
 answered-append : (xs ys : List Event) → answered (xs ++ ys) ≡ answered xs ++ answered ys
 answered-append [] ys = refl
@@ -36,6 +37,7 @@ answered-append (Gave bytes ∷ xs) ys = answered-append xs ys
 answered-append (Took bytes ∷ xs) ys = answered-append xs ys
 answered-append (Answered moment ∷ xs) ys = ap (λ l. moment ∷ l) (answered-append xs ys)
 answered-append (Showed front ∷ xs) ys = answered-append xs ys
+answered-append (Found entries ∷ xs) ys = answered-append xs ys
 
 given-reads : (reads : List (List ℕ)) → given (map Gave reads) ≡ concat reads
 given-reads [] = refl

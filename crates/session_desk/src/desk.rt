@@ -6,7 +6,7 @@ ghost use Rattle.session_desk.specs.Answered.{AtDesk, IsFresh, RowOf, StaysOrFre
 use http_link::Desk;
 use machine_law::Machine;
 use osm_base::Memory;
-use shared_front::{Front, HubName};
+use shared_front::{FoundFront, Front, HubName};
 use snapshot_hub::{Session, Snapshot};
 
 /// A desk that answers the messages of one session of a hub, which it keeps.
@@ -22,9 +22,11 @@ pub trait SessionDesk<N: HubName, M: Machine, S: Snapshot<N, M>>: Desk {
     // What one message may be answered.
     ghost answers: { RowOf M.Entry };
 
-    /// Publishes the journal that is found under the lock, and lets the session see it.
-    fn freshen(&mut self) -> Result<(), Memory>
+    /// Publishes the journal that is found under the lock, and lets the session see it. That journal
+    /// comes back, told where its end is.
+    fn freshen(&mut self) -> Result<FoundFront<N, M::Entry>, Memory>
         ensures users { (keeps self.new).users ≡ (keeps self.old).users }
+        ensures found { IfOk result (λ found. found ≡ (keeps self.new).known.front) }
         ensures ok { OnOk result (IsFresh M.rules (keeps self.old).known (keeps self.new).known) }
         ensures err { OnErr result (keeps self.new ≡ keeps self.old) };
 

@@ -8,7 +8,7 @@ use crate::calls::{answer_command, answer_query};
 use machine_law::Machine;
 use osm_base::{Bytes, Memory, Steps};
 use osm_outside::Gate;
-use shared_front::{Front, HubName};
+use shared_front::{FoundFront, Front, HubName};
 use snapshot_hub::{Hub, Session, Snapshot};
 use std::sync::Wait;
 use std::sync::ledger::Ledger;
@@ -24,19 +24,20 @@ fn settle_first<N: HubName, M: Machine, S: Snapshot<N, M>, G: Gate + Drop, R: Wa
     ensures err { OnErr result (session.new ≡ session.old) }
 {
     if session.owes() {
-        hub.freshen(rt, session)
-    } else {
-        Ok(())
+        let _found = hub.freshen(rt, session)?;
     }
+    Ok(())
 }
 
-/// Publishes the journal that is found under the lock, and lets the session see it.
+/// Publishes the journal that is found under the lock, and lets the session see it. That journal comes
+/// back, told where its end is.
 #[tactic(auto, using(crate::proofs::Settled::fresh_of))]
 pub fn freshen<N: HubName, M: Machine, S: Snapshot<N, M>, G: Gate + Drop, R: Wait + Drop, W: Wait>(
     rt: &W,
     hub: &Hub<N, M, S, G, R>,
     session: &mut Session<N, M, S>,
-) -> Result<(), Memory>
+) -> Result<FoundFront<N, M::Entry>, Memory>
+    ensures found { IfOk result (λ found. found ≡ session.new.front) }
     ensures ok { OnOk result (IsFresh M.rules session.old session.new) }
     ensures err { OnErr result (session.new ≡ session.old) }
 {

@@ -70,6 +70,23 @@ impl<N: HubName, E> Model for Front<N, E> {
     ghost invariant = { λ f. (f.entries ≡ length f.seen.log) × (f.seen.book ≡ N.book) };
 }
 
+/// A beginning of the list that was told where its end is, and so under the lock under which that lies.
+/// Contracts see it as its entries.
+///
+/// Nothing but the end makes one, and nobody can make a second of it.
+#[derive(Drop)]
+pub struct FoundFront<N: HubName, E> {
+    front: Front<N, E>,
+}
+
+impl<N: HubName, E> Model for FoundFront<N, E> {
+    ghost use Rattle.std.specs.Prelude.{List};
+
+    ghost Value = { List E };
+
+    ghost view = { λ f. f.front };
+}
+
 impl<E> Opened<E> {
     /// A new list. It takes no memory.
     pub fn new() -> Opened<E> {
@@ -97,6 +114,26 @@ impl<E> Opened<E> {
                 of: PhantomData,
             },
         )
+    }
+}
+
+impl<N: HubName, E> Tail<N, E> {
+    /// This front, told where the list's end is. It takes no memory.
+    pub fn tell(&self, front: &Front<N, E>) -> FoundFront<N, E>
+        ensures { result ≡ front.now }
+    {
+        FoundFront {
+            front: front.again(),
+        }
+    }
+}
+
+impl<N: HubName, E> FoundFront<N, E> {
+    /// The front that was told.
+    pub fn front(&self) -> &Front<N, E>
+        ensures { result.now ≡ self.now }
+    {
+        &self.front
     }
 }
 

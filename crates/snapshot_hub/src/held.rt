@@ -18,7 +18,7 @@ use crate::twins::Twins;
 use hub_core::{CountedJournal, Done, Entries, Judged};
 use machine_law::{Machine, Settled, Tag};
 use osm_base::{Memory, Steps};
-use shared_front::{Front, HubName};
+use shared_front::{FoundFront, Front, HubName};
 use std::alloc::Global;
 use std::marker::Model;
 use std::sync::Wait;
@@ -265,16 +265,18 @@ fn raised(calls: u64, place: Option<u64>) -> u64
     }
 }
 
-/// Publishes the journal, and lets the session go on from there. It owes nothing then.
+/// Publishes the journal, and lets the session go on from there. It owes nothing then. The front is the
+/// journal that was found.
 pub fn freshen<N: HubName, M: Machine, S: Snapshot<N, M>, R: Wait + Drop>(
     held: &mut Held<N, M, S, R>,
     session: &mut Session<N, M, S>,
-) -> Result<(), Memory>
+) -> Result<FoundFront<N, M::Entry>, Memory>
     requires seen { length session.old.front ≤ length held.old.journal }
     requires calls { session.old.calls ≡ calls_of M.rules.tag_of session.old.number held.old.journal }
     ensures begins { IsPrefix session.old.front held.old.journal }
     ensures front { IsPrefix session.old.front session.new.front }
     ensures journal { held.new.journal ≡ held.old.journal }
+    ensures found { IfOk result (λ found. found ≡ held.new.journal) }
     ensures ok { OnOk result ((session.new ≡ caught_up session.old held.new.journal session.old.calls)
         × (held.new.published ≡ held.new.journal)) }
     ensures err { OnErr result ((held.new ≡ held.old) × (session.new ≡ session.old)) }
@@ -283,7 +285,7 @@ pub fn freshen<N: HubName, M: Machine, S: Snapshot<N, M>, R: Wait + Drop>(
     held.publish()?;
     let calls = session.calls();
     session.standing.catch_up(held.press.front().again(), calls);
-    Ok(())
+    Ok(held.press.found())
 }
 
 /// Publishes the journal as `freshen` does, and copies its entries from this place on, counted from
@@ -307,6 +309,6 @@ pub fn part<N: HubName, M: Machine, S: Snapshot<N, M>, R: Wait + Drop>(
 {
     let _begins = session.standing.front().begins(held.press.front());
     let part = held.journal().part(session.alloc, from, count)?;
-    freshen(held, session)?;
+    let _found = freshen(held, session)?;
     Ok(part)
 }

@@ -27,7 +27,7 @@ use hub_core::{CountedJournal, Done};
 use machine_law::Machine;
 use osm_base::{Memory, Steps};
 use osm_outside::{Gate, Point};
-use shared_front::HubName;
+use shared_front::{FoundFront, HubName};
 use std::alloc::Global;
 use std::marker::Model;
 use std::sync::ledger::Ledger;
@@ -177,9 +177,14 @@ impl<N: HubName, M: Machine, S: Snapshot<N, M>, G: Gate + Drop, R: Wait + Drop> 
     }
 
     /// Publishes the journal that is found under the lock, and lets the session see it. Clauses say what
-    /// the session knows then: it owes nothing, and its front has all its calls.
-    pub fn freshen<W: Wait>(&self, rt: &W, session: &mut Session<N, M, S>) -> Result<(), Memory>
+    /// the session knows then: it owes nothing, its front has all its calls, and is what was found.
+    pub fn freshen<W: Wait>(
+        &self,
+        rt: &W,
+        session: &mut Session<N, M, S>,
+    ) -> Result<FoundFront<N, M::Entry>, Memory>
         ensures begins { IsPrefix session.old.front session.new.front }
+        ensures found { IfOk result (λ found. found ≡ session.new.front) }
         ensures ok { OnOk result (session.new ≡ caught_up session.old session.new.front session.old.calls) }
         ensures calls { OnOk result (session.old.calls ≡ calls_of M.rules.tag_of session.old.number session.new.front) }
         ensures err { OnErr result (session.new ≡ session.old) }

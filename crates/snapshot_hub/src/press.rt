@@ -11,7 +11,7 @@ use hub_core::{Entries, Outlet};
 use left_right::{ReadHandle, WriteHandle};
 use machine_law::Machine;
 use osm_base::Memory;
-use shared_front::{Front, HubName, Tail};
+use shared_front::{FoundFront, Front, HubName, Tail};
 use std::alloc::Global;
 use std::marker::Model;
 use std::sync::Wait;
@@ -88,6 +88,13 @@ impl<N: HubName, M: Machine, S: Snapshot<N, M>, R: Wait + Drop> Press<N, M, S, R
         ensures kept { IsFront M.rules N.sessions self.now.journal }
     {
         &self.front
+    }
+
+    /// The same front, told where the journal's end is.
+    pub fn found(&self) -> FoundFront<N, M::Entry>
+        ensures { result ≡ self.now.journal }
+    {
+        self.tail.tell(&self.front)
     }
 
     /// The copy that is published.

@@ -2,7 +2,7 @@
 use crate::hubs::{ListHub, ListSession, add, add_many, at, cross, plain};
 use crate::listing::Noted;
 use crate::tells::{
-    tell_added, tell_crossed, tell_done, tell_entries, tell_lack, tell_number, tell_whether,
+    tell_added, tell_crossed, tell_entries, tell_freshened, tell_lack, tell_number, tell_whether,
     wish_of,
 };
 use osm_base::{Memory, Steps};
@@ -89,6 +89,16 @@ fn number_of(text: &str) -> Result<u64, RowFault> {
     }
 }
 
+/// Whether the session has then seen all that was found under the lock.
+fn freshen<N: HubName, R: Wait + Drop, W: Wait>(
+    rt: &W,
+    hub: &ListHub<N, R>,
+    session: &mut ListSession<N>,
+) -> Result<bool, Memory> {
+    let found = hub.freshen(rt, session)?;
+    Ok(found.front().len() == session.seen())
+}
+
 fn do_by<N: HubName, R: Wait + Drop, W: Wait, L: Ledger>(
     rt: &W,
     hub: &ListHub<N, R>,
@@ -100,7 +110,7 @@ fn do_by<N: HubName, R: Wait + Drop, W: Wait, L: Ledger>(
 ) -> Result<(), RowFault> {
     match deed {
         Deed::Add => tell_added(told, add(rt, hub, session, wish_of(rest)?, steps)),
-        Deed::Freshen => tell_done(told, hub.freshen(rt, session)),
+        Deed::Freshen => tell_freshened(told, freshen(rt, hub, session)),
         Deed::Stands => tell_standing(told, hub, session),
         Deed::Reads => tell_at(told, at(hub, session, number(rest)?, steps)),
         Deed::Part => part_of(rt, hub, session, rest, told),

@@ -126,8 +126,13 @@ pub fn tell_crossed(
     }
 }
 
-pub fn tell_done(told: &mut String, came: Result<(), Memory>) -> Result<(), RowFault> {
-    tell_text(told, if came.is_ok() { "done" } else { "no memory" })
+pub fn tell_freshened(told: &mut String, came: Result<bool, Memory>) -> Result<(), RowFault> {
+    let text = match came {
+        Ok(true) => "done",
+        Ok(false) => "less than was found",
+        Err(Memory) => "no memory",
+    };
+    tell_text(told, text)
 }
 
 pub fn tell_lack(told: &mut String) -> Result<(), RowFault> {

@@ -1,3 +1,5 @@
+use Rattle.std.proofs.Common.{length, Some, refl, ap, ◌∙◌}
+use Rattle.osm_outside.specs.Told.{finding}
 use Rattle.api_desk.specs.HubDesk.{map_row, map_rows_stay}
 use Rattle.map_machine.specs.Machine.{map_rules}
 use Rattle.kept_desk.proofs.Sendings.{in_sendings}
@@ -11,9 +13,11 @@ returns-in-Ok g c =
     let new = c.answer_link-end.new.desk in
     let before = g.L.Outside.told c.args.link.now in
     let after = g.L.Outside.told c.answer_link-end.new.link in
-    keeps_link map_rules map_row c.args.desk.now c.freshen_session.new.self new before after c.answer_link-end.result
+    let fresh = c.freshen_session.new.self in
+    keeps_link map_rules map_row c.args.desk.now fresh new (length fresh.desk.known.front) before (g.L.Outside.told c.learn.new.self) after c.answer_link-end.result
     (told_chain map_row map_rows_stay) (served_of map_row) in_sendings
-    c.in-Ok.ensures.users c.in-Ok.ensures.ok c.in-Ok.ensures.receipts c.in-Ok.ensures.failed
+    c.in-Ok.ensures.users c.in-Ok.ensures.ok refl c.in-Ok.ensures.receipts c.in-Ok.ensures.failed
+    (c.learn.ensures.found ∙ ap (λ l. finding (Some (length l)) before) c.in-Ok.ensures.found)
     c.answer_link-end.ensures.told
     (sound_of map_rules c.points_are_consistent.ensures new.desk.known.front c.law.ensures)
 
