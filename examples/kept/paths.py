@@ -95,6 +95,13 @@ class Running:
         names = (os.path.join(folder, it) for it in os.listdir(folder))
         return next(read(it) for it in names if os.readlink(it).startswith(path))
 
+    def ends_itself(self) -> bool:
+        """Whether it ends in order, though its input doesn't."""
+        try:
+            return self.process.wait(END_WAIT) == 0
+        except subprocess.TimeoutExpired:
+            return False
+
     def end(self) -> int:
         """The status with which it ends where its input does."""
         assert self.process.stdin
@@ -265,7 +272,7 @@ class Trial:
                 self.faults.append(f"{name} hasn't the changesets {changesets}")
 
     def try_moved(self, name: str, move: Callable[[str], str]) -> None:
-        """A file that has another name stays the server's; what has its name now is as it was given."""
+        """A file that has another name stays the server's. What has its name now is as it was given, and the server ends by itself."""
         path = os.path.join(self.fresh(), "journal")
         with self.running(path) as it:
             numbers = [it.change()]
@@ -273,15 +280,17 @@ class Trial:
             numbers.append(it.change())
             lies = read(path) if os.path.exists(path) else None
             told = "both changes are told" if all(numbers) else "a change isn't told"
+            by_itself = lies is not None and it.ends_itself()
             status = it.end()
         now = "nothing lies at the path" if lies is None else f"at the path lie {len(lies)} bytes as they were put there"
-        print(f"| {name} under a server | {told}, {now}, status {status}; the moved file has both |")
-        if not all(numbers) or status != 0 or lies not in (None, EMPTY):
-            self.faults.append(f"{name}: {numbers}, status {status}")
+        how = "it ended by itself" if by_itself else "ended by its input"
+        print(f"| {name} under a server | {told}, {now}, {how}, status {status}; the moved file has both |")
+        if not all(numbers) or status != 0 or lies not in (None, EMPTY) or by_itself != (lies is not None):
+            self.faults.append(f"{name}: {numbers}, {how}, status {status}")
         self.must_have(f"{name}: the moved file", moved, numbers)
 
     def try_moved_and_made(self) -> None:
-        """A second server makes a new file where the first one's was."""
+        """A second server makes a new file where the first one's was, which ends by itself behind its next change."""
         path = os.path.join(self.fresh(), "journal")
         with self.running(path) as first:
             numbers = [first.change()]
@@ -289,6 +298,8 @@ class Trial:
             with self.running(path) as second:
                 other = [second.change(), second.change(), second.change()]
                 numbers.append(first.change())
+                if not first.ends_itself():
+                    self.faults.append("a server at whose path another one has made a file goes on")
                 self.wants("the second server, at the path of a file that was moved away", second.end(), 0)
             self.wants("the first one, whose file was moved away", first.end(), 0)
         self.must_have("the moved file", f"{path}.away", numbers)

@@ -2,6 +2,7 @@
 ghost use Rattle.std.specs.Prelude.{◌≡◌, IfOk};
 ghost use Rattle.journal_file.specs.History.{opened};
 
+use crate::named_file::NamedFile;
 use crate::stop::Stop;
 use crate::stopping_file::StoppingFile;
 use journal_file::{DiskFault, DiskFile, create, open};
@@ -10,7 +11,8 @@ use std::alloc::Global;
 use std::fs::File;
 use std::rt::{Clock, Files};
 
-/// What gives the files of a system. A file asks for the stop at its first call that fails.
+/// What gives the files of a system. A file asks for the stop at its first call that fails, and where
+/// another one has its path.
 #[derive(Drop)]
 pub struct FileJournals<'a, F> {
     system: F,
@@ -40,10 +42,11 @@ impl<'a, F: Files<File = File> + Clock + Copy + Send> Journals for FileJournals<
         path: &str,
         header: &[u8],
     ) -> Result<(StoppingFile<'a, F>, Vec<u8>), DiskFault> {
-        match open_or_create(&self.system, alloc, path, header) {
-            Ok((file, bytes)) => {
+        match open_named(&self.system, alloc, path, header) {
+            Ok((file, named, bytes)) => {
                 self.trace = self.trace.lent(path, &bytes);
-                Ok((StoppingFile::new(file, self.system, self.stop), bytes))
+                let file = StoppingFile::new(file, named, self.system, self.stop);
+                Ok((file, bytes))
             }
             Err(why) => {
                 self.trace = self.trace.asked(path);
@@ -58,6 +61,20 @@ impl<'a, F: Files<File = File> + Clock + Copy + Send> Journals for FileJournals<
         self.trace = self.trace.back_of_disk(&file);
         drop(file);
     }
+}
+
+/// The file at that path, by its name too.
+fn open_named<F: Files<File = File>>(
+    files: &F,
+    alloc: Global,
+    path: &str,
+    header: &[u8],
+) -> Result<(DiskFile, NamedFile, Vec<u8>), DiskFault>
+    ensures { IfOk result (λ r. r.0 ≡ opened r.2.items) }
+{
+    let name = String::from_str(alloc, path)?;
+    let (file, bytes) = open_or_create(files, alloc, path, header)?;
+    Ok((file, NamedFile::of(files, name), bytes))
 }
 
 /// The file at that path, which is made first where there is none.

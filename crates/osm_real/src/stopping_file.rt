@@ -1,21 +1,24 @@
 //! A file of the disk whose faults end the server.
 ghost use Rattle.std.specs.Prelude.{◌≡◌};
 
+use crate::named_file::NamedFile;
 use crate::stop::Stop;
 use journal_file::{Device, DeviceFailed, DiskFile};
 use std::marker::Model;
-use std::rt::Clock;
+use std::rt::{Clock, Files};
 
-/// A file of the disk that asks for a stop at the first of its calls that fails: what it is to keep can't be told of any more.
-/// Contracts see it as the file.
+/// A file of the disk that asks for a stop at the first of its calls that fails, since what it is to keep
+/// can't be told of any more; and at a sync behind which another file has its path, since another
+/// server may go on from that one. Contracts see it as the file.
 #[derive(Drop)]
-pub struct StoppingFile<'a, C> {
+pub struct StoppingFile<'a, S> {
     file: DiskFile,
-    clock: C,
+    named: NamedFile,
+    system: S,
     stop: &'a Stop,
 }
 
-impl<'a, C> Model for StoppingFile<'a, C> {
+impl<'a, S> Model for StoppingFile<'a, S> {
     ghost use Rattle.journal_file.specs.History.{History};
 
     ghost Value = { History };
@@ -23,23 +26,29 @@ impl<'a, C> Model for StoppingFile<'a, C> {
     ghost view = { λ f. f.file };
 }
 
-impl<'a, C: Clock> StoppingFile<'a, C> {
-    /// The file, which asks for that stop.
-    pub fn new(file: DiskFile, clock: C, stop: &'a Stop) -> StoppingFile<'a, C>
+impl<'a, S: Clock> StoppingFile<'a, S> {
+    /// The file, which was found by that name and asks for that stop.
+    pub fn new(file: DiskFile, named: NamedFile, system: S, stop: &'a Stop) -> StoppingFile<'a, S>
         ensures { result ≡ file }
     {
-        StoppingFile { file, clock, stop }
+        StoppingFile {
+            file,
+            named,
+            system,
+            stop,
+        }
     }
 
     /// The file itself.
     pub fn into_inner(self) -> DiskFile
     where
-        C: Drop,
+        S: Drop,
         ensures { result ≡ self.entry }
     {
         let StoppingFile {
             file,
-            clock: _,
+            named: _,
+            system: _,
             stop: _,
         } = self;
         file
@@ -50,13 +59,13 @@ impl<'a, C: Clock> StoppingFile<'a, C> {
         ensures { result ≡ outcome }
     {
         if outcome.is_err() {
-            self.stop.ask(&self.clock);
+            self.stop.ask(&self.system);
         }
         outcome
     }
 }
 
-impl<'a, C: Clock> Device for StoppingFile<'a, C> {
+impl<'a, S: Clock + Files> Device for StoppingFile<'a, S> {
     ghost use Rattle.std.specs.Prelude.{length};
     ghost use Rattle.journal_file.specs.History.{seen_after, left_after, left_from, faults_in, counts_now, only_now};
 
@@ -84,6 +93,9 @@ impl<'a, C: Clock> Device for StoppingFile<'a, C> {
 
     fn sync(&mut self) -> Result<(), DeviceFailed> {
         let outcome = self.file.sync();
+        if self.named.is_another(&self.system) {
+            self.stop.ask(&self.system);
+        }
         self.told(outcome)
     }
 
