@@ -38,7 +38,6 @@ ROW, VERSION, LISTED, TABLE = 40, 24, 40, 56  # history_store's History; osm_ele
 HELD, SLOT, KEY = 8, 48, 16  # reverse_refs' Held and Slot; osm_base's Key
 TILE, RUN, CHANGESET = 40, 24, 160  # tile_grid's Tile; changeset_core's Run and Changeset
 MEMBER, ENDS, KEPT = 40, 8, 24  # osm_element's Member and Ends; packed_entry's PackedEntry
-ENTRY, OP, NAME = 120, 56, 8  # osm_model's Entry, osm_change's Op and Name: entries that were read and aren't packed yet
 SEGMENT, SHORT = 1024, 4  # FULL of segment_list; SHORT of osm_base, reverse_refs and tile_grid
 APART = 1 << 17
 """From how many bytes on glibc asks the kernel for a block of its own, of which only what was written to takes memory."""
@@ -266,15 +265,6 @@ def text_of(it: Map) -> float:
     return versions + (uploads_of(it) + it.changesets) * (len(LINE) + it.name) + it.changesets * it.note.tags * (6 + it.note.text)
 
 
-def read_of(it: Map) -> Records:
-    """What is there besides the copies when a journal has been read: its text, and the entries that aren't packed yet."""
-    uploads, versions = uploads_of(it), mean_versions(it.versions)
-    tags = sum(kind.count * table_of(kind) for kind in (it.nodes, it.ways, it.relations))
-    opened = it.changesets * (ENTRY + about(it.name) + table_of(it.note))
-    entries = uploads * (ENTRY + about(it.name) + about(OP * it.upload)) + versions * (lists_of(it, NAME) + tags) + opened
-    return {"text of the journal": text_of(it), "entries that were read": entries}
-
-
 def tell(it: Map, name: str, records: Records) -> None:
     total = sum(records.values())
     print(f"{name}: {total / it.nodes.count:,.1f} bytes a node, {total / 1e12:,.4g} TB")
@@ -296,8 +286,8 @@ def mirror_of(it: Map) -> Records:
 
 
 def started_of(it: Map) -> Records:
-    """At its most, before what was read is packed, in the room that it leaves."""
-    return read_of(it) | twice(copy_of(it)) | {"once": ONCE}
+    """At its most, when all of the journal's text was read: the text is still there, and each entry is packed."""
+    return server_of(it) | {"text of the journal": text_of(it)}
 
 
 def filled(nodes: int, versions: float) -> float:

@@ -1,15 +1,16 @@
 -- A text that is taken in part by part.
-use Rattle.std.proofs.Common.{◌≡◌, ℕ, ◌+◌, ◌<◌, true, List, [], ◌∷◌, ◌++◌, length, sym, ap, ◌∙◌, subst, arith, inl, inr, ◌⊎◌, append_assoc, append-nil, length-append}
+use Rattle.std.proofs.Common.{◌≡◌, ℕ, ◌+◌, ◌<◌, true, List, [], ◌∷◌, ◌++◌, length, refl, sym, ap, ◌∙◌, subst, arith, inl, inr, ◌⊎◌, append_assoc, append-nil, length-append}
 use Rattle.std.specs.Prelude.{All, Result, Ok, Err}
 use Rattle.std.specs.Result.{IsErrAnd}
 use Rattle.std.proofs.lemmas.List.Elements.{All-append}
-use Rattle.journal_recovery.specs.Intakes.{AreOfNoLegal, IsTakenIn}
+use Rattle.journal_recovery.specs.Intakes.{AreOfNoLegal, HasFollowed, IsTakenIn}
 use Rattle.journal_recovery.specs.Judged.{IsJudged}
 use Rattle.line_text.specs.Cut.{IsCut}
 use Rattle.line_text.specs.Lines.{lines_of}
 use Rattle.line_text.specs.OneLine.{is_one_line}
 use Rattle.journal_recovery.specs.Parts.{AreOf, AreOfNone}
 use Rattle.journal_recovery.specs.declared.faults.TextFault.{TextFault}
+use Rattle.journal_recovery.specs.declared.intake.Followed.{Followed}
 use Rattle.journal_recovery.specs.declared.faults.TextFault.TheVariants.{NoJournal}
 use Rattle.journal_recovery.proofs.InParts.{lines-append, goes_on, refused_front}
 
@@ -71,6 +72,15 @@ module _ {E : Type 0} (line : E → List ℕ) (lines : List E → List ℕ) (is_
         by : ((more : List E) → is_legal (es ++ more) → ⊥) ⊎ AreOfNone lines is_entry part → ((more : List E) → is_legal (es ++ more) → ⊥) ⊎ AreOfNone lines is_entry rest
         by (inl never) = inl never
         by (inr none) = inr (refused_front line lines is_entry lines_are one rest part behind cut none)
+
+-- entries that were followed are those that are kept
+pub at_rest : {E W K : Type 0} → (keeps : K → List E) (follows : W → List E → Type 0) (followed : Followed W K) (entries : List E)
+    → HasFollowed keeps follows followed entries → HasFollowed keeps follows followed (keeps followed.kept)
+at_rest keeps follows followed entries has = record {
+  kept = refl;
+  first = subst (follows followed.worlds.first) (sym has.kept) has.first;
+  second = subst (follows followed.worlds.second) (sym has.kept) has.second;
+}
 
 -- ---- with a fault that is handed on
 

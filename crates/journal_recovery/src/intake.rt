@@ -1,11 +1,11 @@
-//! Taking in a text part by part: while the worlds of both copies follow the entries of one part, the
-//! next one is read.
-ghost use Rattle.std.specs.Prelude.{◌≡◌, ◌≤◌, List, length, take, IfErr, IfOk, IfSome};
-ghost use Rattle.journal_recovery.specs.Intakes.{IsSoFar, IsNext, IsTakenIn};
+//! Taking in a text part by part: while the worlds of both copies follow the entries of one part, which
+//! are then kept as a journal keeps them, the next one is read. So there are never more than two parts as
+//! they were read.
+ghost use Rattle.std.specs.Prelude.{IfSome};
+ghost use Rattle.journal_recovery.specs.Intakes.{HasFollowed, IsNext, IsTakenIn, entries_in};
 ghost use Rattle.line_text.specs.Cut.{IsCut};
 ghost use Rattle.journal_recovery.specs.Parts.{IsRead};
 ghost use Rattle.journal_recovery.specs.Judged.{IsFollowed, IsJudged};
-ghost use Rattle.journal_recovery.specs.declared.faults.TextFault.{TextFault};
 
 use crate::faults::TextFault;
 use crate::judging::{EntryJudge, Worlds, follow_both};
@@ -23,12 +23,18 @@ const READERS: usize = 2;
 /// than to start the threads for it.
 const PART: usize = 1_048_576;
 
-/// Entries that were read, and the worlds that followed those before a place.
+/// Entries that are kept, and worlds that followed them.
 #[derive(Drop)]
-struct Intake<E, W> {
-    entries: Vec<E>,
-    followed: usize,
+struct Followed<W, K> {
+    kept: K,
     worlds: Worlds<W>,
+}
+
+/// What was followed, and the entries of the part behind it.
+#[derive(Drop)]
+struct Intake<E, W, K> {
+    followed: Followed<W, K>,
+    part: Vec<E>,
 }
 
 /// The first part of a text that is longer than one, and what is behind it.
@@ -41,7 +47,23 @@ fn first_part(text: &[u8]) -> Option<(&[u8], &[u8])>
     cut_behind(text, PART)
 }
 
-/// Has the worlds follow what was read, and reads the next part meanwhile.
+/// Has the worlds follow the part too, and keeps it.
+fn follow_part<R: Threads + Sync, E: Send + Sync + Drop, S: EntryJudge<E> + Send>(
+    rt: &R,
+    alloc: Global,
+    intake: Intake<E, S::World, S::Kept>,
+) -> Result<Followed<S::World, S::Kept>, TextFault>
+    requires { HasFollowed S.keeps S.follows intake.followed (S.keeps intake.followed.kept) }
+    ensures { IsFollowed (HasFollowed S.keeps S.follows) S.is_legal (entries_in S.keeps intake) result }
+{
+    let Intake { followed, part } = intake;
+    let Followed { mut kept, worlds } = followed;
+    let worlds = follow_both::<R, E, S>(rt, alloc, worlds, part.as_slice())?;
+    S::keep(alloc, &mut kept, part)?;
+    Ok(Followed { kept, worlds })
+}
+
+/// Has the part followed and kept, and reads the next one meanwhile.
 fn take_in<
     R: Threads + Sync,
     E: Send + Sync + Drop,
@@ -50,35 +72,23 @@ fn take_in<
 >(
     rt: &R,
     alloc: Global,
-    intake: Intake<E, S::World>,
-    part: &[u8],
-) -> Result<Intake<E, S::World>, TextFault>
-    requires { IsSoFar S.follows intake }
-    ensures { IsNext T.lines T.is_entry S.is_legal S.follows intake.entries.items part.now result }
+    intake: Intake<E, S::World, S::Kept>,
+    text: &[u8],
+) -> Result<Intake<E, S::World, S::Kept>, TextFault>
+    requires { HasFollowed S.keeps S.follows intake.followed (S.keeps intake.followed.kept) }
+    ensures { IsNext T.lines T.is_entry S.is_legal S.keeps S.follows (entries_in S.keeps intake) text.now result }
 {
-    let Intake {
-        mut entries,
-        followed,
-        worlds,
-    } = intake;
-    let read = entries.as_slice();
-    let follow = move || -> Result<Worlds<S::World>, TextFault>
-        requires { (followed ≤ length read.now) × S.follows worlds.first (take followed read.now) × S.follows worlds.second (take followed read.now) }
-        ensures { IsFollowed (λ w es. S.follows w.first es × S.follows w.second es) S.is_legal read.entry.now result }
-    { follow_both::<R, E, S>(rt, alloc, worlds, read, followed) };
-    let read_part = move || -> Result<Vec<E>, TextFault>
-        ensures { IsRead T.lines T.is_entry part.entry.now (λ v. v.items) result }
-    { read_lines::<R, E, T>(rt, alloc, part, READERS) };
-    let (after, more) = join(rt, follow, read_part);
-    let worlds = after?;
-    let mut more = more?;
-    let followed = entries.len();
-    entries.append(&mut more)?;
-    Ok(Intake {
-        entries,
-        followed,
-        worlds,
-    })
+    let follow = move || -> Result<Followed<S::World, S::Kept>, TextFault>
+        requires { HasFollowed S.keeps S.follows intake.followed (S.keeps intake.followed.kept) }
+        ensures { IsFollowed (HasFollowed S.keeps S.follows) S.is_legal (entries_in S.keeps intake) result }
+    { follow_part::<R, E, S>(rt, alloc, intake) };
+    let read_next = move || -> Result<Vec<E>, TextFault>
+        ensures { IsRead T.lines T.is_entry text.entry.now (λ v. v.items) result }
+    { read_lines::<R, E, T>(rt, alloc, text, READERS) };
+    let (after, more) = join(rt, follow, read_next);
+    let followed = after?;
+    let part = more?;
+    Ok(Intake { followed, part })
 }
 
 /// Takes in all of a text, and follows it.
@@ -91,13 +101,14 @@ pub(crate) fn take_in_all<
     ensures { IsTakenIn T.lines T.is_entry S.is_legal S.entries text.now result }
 {
     T::text_law();
+    let worlds = Worlds {
+        first: S::begin(alloc),
+        second: S::begin(alloc),
+    };
+    let kept = S::none(alloc);
     let mut intake = Intake {
-        entries: Vec::new(alloc),
-        followed: 0,
-        worlds: Worlds {
-            first: S::begin(alloc),
-            second: S::begin(alloc),
-        },
+        followed: Followed { kept, worlds },
+        part: Vec::new(alloc),
     };
     let mut rest = text;
     while let Some((part, behind)) = first_part(rest) {
@@ -108,20 +119,16 @@ pub(crate) fn take_in_all<
     judge::<R, E, S>(rt, alloc, intake)
 }
 
-/// The journal of the entries that were read, once the worlds have followed the last of them.
+/// The journal of what was read, once its last part is followed.
 fn judge<R: Threads + Sync, E: Send + Sync + Drop, S: EntryJudge<E> + Send>(
     rt: &R,
     alloc: Global,
-    intake: Intake<E, S::World>,
+    intake: Intake<E, S::World, S::Kept>,
 ) -> Result<S::Journal, TextFault>
-    requires { IsSoFar S.follows intake }
-    ensures { IsJudged S.entries S.is_legal intake.entries.items result }
+    requires { HasFollowed S.keeps S.follows intake.followed (S.keeps intake.followed.kept) }
+    ensures { IsJudged S.entries S.is_legal (entries_in S.keeps intake) result }
 {
-    let Intake {
-        entries,
-        followed,
-        worlds,
-    } = intake;
-    let worlds = follow_both::<R, E, S>(rt, alloc, worlds, entries.as_slice(), followed)?;
-    S::journal_of(alloc, entries, worlds.first, worlds.second)
+    let followed = follow_part::<R, E, S>(rt, alloc, intake)?;
+    let Followed { kept, worlds } = followed;
+    Ok(S::journal_of(kept, worlds.first, worlds.second))
 }

@@ -2,26 +2,32 @@
 //!
 //! A server has two copies of what its entries come to, and each follows and tests every entry. They
 //! do so at the same time, in two threads.
-ghost use Rattle.std.specs.Prelude.{◌≡◌, ◌≤◌, length, take, IfErr, IfOk};
-ghost use Rattle.journal_recovery.specs.Judged.{IsFollowed, IsJudged};
+ghost use Rattle.std.specs.Prelude.{◌≡◌, ◌++◌, List, IfErr, OnOk};
+ghost use Rattle.journal_recovery.specs.Judged.{IsFollowed};
 ghost use Rattle.journal_recovery.specs.declared.faults.TextFault.{TextFault};
 
 use crate::faults::TextFault;
 use std::alloc::Global;
 use std::thread::{Threads, join};
 
-/// Judges entries that were read, each behind those before it.
+/// Judges entries that were read, part by part, each behind those before it.
 pub trait EntryJudge<E> {
     ghost use Rattle.std.specs.Prelude.{List, []};
 
     /// A copy of what entries come to.
     type World: Drop + Send;
 
+    /// The entries so far, as a journal keeps them.
+    type Kept: Drop + Send;
+
     /// A journal, with what it comes to.
     type Journal: Drop + Send;
 
     // The entries of a journal.
     ghost entries: { Self.Journal → List E };
+
+    // The entries that are kept.
+    ghost keeps: { Self.Kept → List E };
 
     // Entries that may follow one another.
     ghost is_legal: { List E → Type 0 };
@@ -33,28 +39,26 @@ pub trait EntryJudge<E> {
     fn begin(alloc: Global) -> Self::World
         ensures { follows result [] };
 
-    /// The world, which followed the entries before this place, once it has followed the others too, each
-    /// of which it tests.
-    fn follow(
-        alloc: Global,
-        world: Self::World,
-        read: &[E],
-        from: usize,
-    ) -> Result<Self::World, TextFault>
-        requires within { from ≤ length read.now }
-        requires followed { follows world (take from read.now) }
-        ensures { IsFollowed follows is_legal read.now result };
+    /// No entries.
+    fn none(alloc: Global) -> Self::Kept
+        ensures { keeps result ≡ [] };
 
-    /// The journal of these entries, with the worlds that followed them.
-    fn journal_of(
-        alloc: Global,
-        read: Vec<E>,
-        first: Self::World,
-        second: Self::World,
-    ) -> Result<Self::Journal, TextFault>
-        requires first { follows first read.items }
-        requires second { follows second read.items }
-        ensures { IsJudged entries is_legal read.items result };
+    /// The world, once it has followed these entries too, each of which it tests.
+    fn follow(alloc: Global, world: Self::World, part: &[E]) -> Result<Self::World, TextFault>
+        ensures { (before : List E) → follows world before → IsFollowed follows is_legal (before ++ part.now) result };
+
+    /// Keeps these entries too, which a world has followed behind those before.
+    fn keep(alloc: Global, kept: &mut Self::Kept, part: Vec<E>) -> Result<(), TextFault>
+        requires { (world : Self.World) × follows world (keeps kept.old ++ part.items) }
+        ensures kept { OnOk result (keeps kept.new ≡ keeps kept.old ++ part.items) }
+        ensures refused { IfErr result (λ fault. fault ≡ TextFault.NoJournal → (more : List E) → is_legal ((keeps kept.old ++ part.items) ++ more) → ⊥) };
+
+    /// The journal of the entries that are kept, with the worlds that followed them.
+    fn journal_of(kept: Self::Kept, first: Self::World, second: Self::World) -> Self::Journal
+        requires first { follows first (keeps kept) }
+        requires second { follows second (keeps kept) }
+        ensures kept { entries result ≡ keeps kept }
+        ensures legal { is_legal (keeps kept) };
 }
 
 /// The worlds of the two copies that a server begins with.
@@ -64,29 +68,24 @@ pub(crate) struct Worlds<W> {
     pub second: W,
 }
 
-/// Both worlds, which followed the entries before this place, once they have followed the others too, at
-/// the same time. Where no thread can be had one follows after the other.
+/// Both worlds, once they have followed these entries too, at the same time. Where no thread can be had
+/// one follows after the other.
 pub(crate) fn follow_both<R: Threads + Sync, E: Send + Sync + Drop, S: EntryJudge<E> + Send>(
     rt: &R,
     alloc: Global,
     worlds: Worlds<S::World>,
-    entries: &[E],
-    from: usize,
+    part: &[E],
 ) -> Result<Worlds<S::World>, TextFault>
-    requires within { from ≤ length entries.now }
-    requires first { S.follows worlds.first (take from entries.now) }
-    requires second { S.follows worlds.second (take from entries.now) }
-    ensures { IsFollowed (λ w es. S.follows w.first es × S.follows w.second es) S.is_legal entries.now result }
+    ensures { (before : List E) → S.follows worlds.first before → S.follows worlds.second before
+        → IsFollowed (λ w es. S.follows w.first es × S.follows w.second es) S.is_legal (before ++ part.now) result }
 {
     let Worlds { first, second } = worlds;
     let follow_first = move || -> Result<S::World, TextFault>
-        requires { (from ≤ length entries.now) × S.follows first (take from entries.now) }
-        ensures { IsFollowed S.follows S.is_legal entries.entry.now result }
-    { S::follow(alloc, first, entries, from) };
+        ensures { (before : List E) → S.follows first before → IsFollowed S.follows S.is_legal (before ++ part.entry.now) result }
+    { S::follow(alloc, first, part) };
     let follow_second = move || -> Result<S::World, TextFault>
-        requires { (from ≤ length entries.now) × S.follows second (take from entries.now) }
-        ensures { IsFollowed S.follows S.is_legal entries.entry.now result }
-    { S::follow(alloc, second, entries, from) };
+        ensures { (before : List E) → S.follows second before → IsFollowed S.follows S.is_legal (before ++ part.entry.now) result }
+    { S::follow(alloc, second, part) };
     let (one, other) = join(rt, follow_first, follow_second);
     let first = match one {
         Ok(world) => world,

@@ -1,6 +1,7 @@
 //! Starts from the file that a crash left, by what a server's start takes its journal up with.
-ghost use Rattle.std.specs.Prelude.{⊤};
-ghost use Rattle.journal_recovery.specs.Judged.{IsJudged};
+ghost use Rattle.std.specs.Prelude.{◌≡◌, ◌++◌, ⊤, List, IfErr, OnOk};
+ghost use Rattle.journal_recovery.specs.declared.faults.TextFault.{TextFault};
+ghost use Rattle.kept_rows.specs.declared.script.ScriptLine.{ScriptLine};
 
 use crate::drawn::left_by;
 use crate::script::{ScriptLine, ScriptText, text_of};
@@ -18,9 +19,13 @@ impl EntryJudge<ScriptLine> for AnyLines {
 
     type World = ();
 
+    type Kept = Vec<ScriptLine>;
+
     type Journal = Vec<ScriptLine>;
 
     ghost entries = { λ lines. lines.items };
+
+    ghost keeps = { λ lines. lines.items };
 
     ghost is_legal = { λ _. ⊤ };
 
@@ -28,24 +33,29 @@ impl EntryJudge<ScriptLine> for AnyLines {
 
     fn begin(_alloc: Global) {}
 
-    fn follow(
-        _alloc: Global,
-        _world: (),
-        _read: &[ScriptLine],
-        _from: usize,
-    ) -> Result<(), TextFault> {
+    fn none(alloc: Global) -> Vec<ScriptLine> {
+        Vec::new(alloc)
+    }
+
+    fn follow(_alloc: Global, _world: (), _part: &[ScriptLine]) -> Result<(), TextFault> {
         Ok(())
     }
 
-    fn journal_of(
+    fn keep(
         _alloc: Global,
-        read: Vec<ScriptLine>,
-        _first: (),
-        _second: (),
-    ) -> Result<Vec<ScriptLine>, TextFault>
-        ensures { IsJudged (λ lines. lines.items) (λ _. ⊤) read.items result }
+        kept: &mut Vec<ScriptLine>,
+        mut part: Vec<ScriptLine>,
+    ) -> Result<(), TextFault>
+        requires { (world : Unit {0}) × ⊤ }
+        ensures kept { OnOk result (kept.new.items ≡ kept.old.items ++ part.items) }
+        ensures refused { IfErr result (λ fault. fault ≡ TextFault.NoJournal → (more : List ScriptLine) → ⊤ → ⊥) }
     {
-        Ok(read)
+        kept.append(&mut part)?;
+        Ok(())
+    }
+
+    fn journal_of(kept: Vec<ScriptLine>, _first: (), _second: ()) -> Vec<ScriptLine> {
+        kept
     }
 }
 

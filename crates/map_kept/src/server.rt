@@ -1,18 +1,21 @@
 //! The map server whose journal is kept in a file, as what a program runs.
-ghost use Rattle.std.specs.Prelude.{◌≡◌, ◌<◌, ◌≤◌, [], length, map, take, vec_len};
+ghost use Rattle.std.specs.Prelude.{◌≡◌, ◌<◌, ◌≤◌, [], ◌++◌, List, length, map, vec_len, IfErr, OnOk};
 ghost use Rattle.osm_base.specs.declared.limits.TheConstants.{SESSION_LIMIT};
 ghost use Rattle.journal_text.specs.Text.{text_of};
 ghost use Rattle.durable_log.specs.Held.{HoldsFrom};
-ghost use Rattle.journal_recovery.specs.Judged.{IsFollowed, IsJudged};
+ghost use Rattle.journal_recovery.specs.Judged.{IsFollowed};
 ghost use Rattle.journal_recovery.specs.declared.faults.TextFault.{TextFault};
 ghost use Rattle.osm_model.specs.Journal.{IsLegal};
+ghost use Rattle.osm_model.specs.declared.commands.Entry.{Entry};
 ghost use Rattle.map_machine.specs.Machine.{map_rules};
 ghost use Rattle.snapshot_hub.specs.Closings.{AreSeated};
 ghost use Rattle.map_kept.specs.Followed.{HasFollowed};
+ghost use Rattle.map_machine.specs.declared.machine.MapWorld.{MapWorld};
 ghost use Rattle.map_kept.specs.Run.{RunsServeKept, ServesFrom};
 
 use crate::ports::serve_kept_ports;
 use entry_file::EntryLines;
+use hub_core::CountedJournal;
 use journal_file::{Device, JournalFile};
 use journal_host::Journals;
 use journal_recovery::{EntryJudge, TextFault};
@@ -25,7 +28,7 @@ use osm_outside::{Host, Link, Outside, Port, PortOutside};
 use recovered_start::{Begun, KeptJournal, begin_kept};
 use server_frame::{Exit, Listening, close_ports};
 use shared_front::Opened;
-use snapshot_hub::{Twins, follow_from, twins_of};
+use snapshot_hub::{Twins, follow_all, push_all};
 use std::alloc::Global;
 use std::marker::Brand;
 use std::sync::Wait;
@@ -41,9 +44,13 @@ impl EntryJudge<Entry> for MapJournal {
 
     type World = MapWorld;
 
+    type Kept = CountedJournal<MapMachine>;
+
     type Journal = Twins<MapMachine>;
 
     ghost entries = { λ twins. twins };
+
+    ghost keeps = { λ journal. journal };
 
     ghost is_legal = { λ entries. IsLegal entries };
 
@@ -55,39 +62,47 @@ impl EntryJudge<Entry> for MapJournal {
         MapMachine::empty(alloc)
     }
 
-    #[tactic(auto, using(crate::proofs::Journals::refused))]
-    fn follow(
-        alloc: Global,
-        world: MapWorld,
-        read: &[Entry],
-        from: usize,
-    ) -> Result<MapWorld, TextFault>
-        requires within { from ≤ length read.now }
-        requires followed { HasFollowed world (take from read.now) }
-        ensures { IsFollowed HasFollowed (λ entries. IsLegal entries) read.now result }
+    fn none(alloc: Global) -> CountedJournal<MapMachine> {
+        CountedJournal::new(alloc)
+    }
+
+    fn follow(alloc: Global, world: MapWorld, part: &[Entry]) -> Result<MapWorld, TextFault>
+        ensures { (before : List Entry) → HasFollowed world before → IsFollowed HasFollowed (λ entries. IsLegal entries) (before ++ part.now) result }
     {
-        match follow_from::<MapMachine>(alloc, world, read, from)? {
+        match follow_all::<MapMachine>(alloc, world, part)? {
             Some(world) => Ok(world),
             None => Err(TextFault::NoJournal),
         }
     }
 
-    #[tactic(auto, using(crate::proofs::Journals::unnumbered))]
+    fn keep(
+        _alloc: Global,
+        kept: &mut CountedJournal<MapMachine>,
+        part: Vec<Entry>,
+    ) -> Result<(), TextFault>
+        requires { (world : MapWorld) × HasFollowed world (kept.old ++ part.items) }
+        ensures kept { OnOk result (kept.new ≡ kept.old ++ part.items) }
+        ensures refused { IfErr result (λ fault. fault ≡ TextFault.NoJournal → (more : List Entry) → IsLegal ((kept.old ++ part.items) ++ more) → ⊥) }
+    {
+        if !push_all(kept, part)? {
+            return Err(TextFault::NoJournal);
+        }
+        Ok(())
+    }
+
     fn journal_of(
-        alloc: Global,
-        read: Vec<Entry>,
+        kept: CountedJournal<MapMachine>,
         first: MapWorld,
         second: MapWorld,
-    ) -> Result<Twins<MapMachine>, TextFault>
-        requires first { HasFollowed first read.items }
-        requires second { HasFollowed second read.items }
-        ensures { IsJudged (λ twins. twins) (λ entries. IsLegal entries) read.items result }
+    ) -> Twins<MapMachine>
+        requires first { HasFollowed first kept }
+        requires second { HasFollowed second kept }
+        ensures kept { result ≡ kept }
+        ensures legal { IsLegal kept }
     {
         journals_are_the_maps();
-        match twins_of::<MapMachine>(alloc, read, first, second)? {
-            Some(twins) => Ok(twins),
-            None => Err(TextFault::NoJournal),
-        }
+        let _entries = kept.journal();
+        Twins::of(kept, first, second)
     }
 }
 

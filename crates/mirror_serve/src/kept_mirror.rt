@@ -1,10 +1,10 @@
 //! A mirror whose entries are kept in a file, as what a program runs.
-ghost use Rattle.std.specs.Prelude.{◌≡◌, length, map, vec_len};
+ghost use Rattle.std.specs.Prelude.{◌≡◌, ◌++◌, ⊤, List, length, map, vec_len, IfErr, OnOk};
 ghost use Rattle.journal_text.specs.Text.{text_of};
 ghost use Rattle.durable_log.specs.Held.{HoldsFrom};
-ghost use Rattle.journal_recovery.specs.Judged.{IsJudged};
 ghost use Rattle.journal_recovery.specs.declared.faults.TextFault.{TextFault};
 ghost use Rattle.osm_model.specs.Journal.{IsLegal};
+ghost use Rattle.osm_model.specs.declared.commands.Entry.{Entry};
 ghost use Rattle.mirror_serve.specs.Mirrors.{MirrorsKeptPorts};
 ghost use Rattle.mirror_serve.specs.Run.{RunsListenKept};
 
@@ -34,12 +34,16 @@ impl EntryJudge<Entry> for MirrorJournal {
     ghost use Rattle.std.specs.Prelude.{⊤};
     ghost use Rattle.osm_model.specs.Journal.{IsLegal};
 
-    /// A mirror has one copy, so nothing follows the entries before it is begun.
+    /// A mirror has one copy, and the keeper that tests the entries is it.
     type World = ();
+
+    type Kept = BookKeeper;
 
     type Journal = Follower;
 
     ghost entries = { λ follower. follower };
+
+    ghost keeps = { λ keeper. keeper };
 
     ghost is_legal = { λ entries. IsLegal entries };
 
@@ -47,23 +51,28 @@ impl EntryJudge<Entry> for MirrorJournal {
 
     fn begin(_alloc: Global) {}
 
-    fn follow(_alloc: Global, _world: (), _read: &[Entry], _from: usize) -> Result<(), TextFault> {
+    fn none(alloc: Global) -> BookKeeper {
+        BookKeeper::new(alloc)
+    }
+
+    fn follow(_alloc: Global, _world: (), _part: &[Entry]) -> Result<(), TextFault> {
         Ok(())
     }
 
-    fn journal_of(
-        alloc: Global,
-        read: Vec<Entry>,
-        _first: (),
-        _second: (),
-    ) -> Result<Follower, TextFault>
-        ensures { IsJudged (λ follower. follower) (λ entries. IsLegal entries) read.items result }
+    fn keep(alloc: Global, kept: &mut BookKeeper, part: Vec<Entry>) -> Result<(), TextFault>
+        requires { (world : Unit {0}) × ⊤ }
+        ensures kept { OnOk result (kept.new ≡ kept.old ++ part.items) }
+        ensures refused { IfErr result (λ fault. fault ≡ TextFault.NoJournal → (more : List Entry) → IsLegal ((kept.old ++ part.items) ++ more) → ⊥) }
     {
-        let mut keeper = BookKeeper::new(alloc);
-        match keep_all(alloc, read, &mut keeper) {
-            Ok(()) => Ok(Follower::of(keeper)),
-            Err(fault) => Err(fault),
-        }
+        keep_all(alloc, part, kept)
+    }
+
+    fn journal_of(kept: BookKeeper, _first: (), _second: ()) -> Follower
+        ensures kept { result ≡ kept }
+        ensures legal { IsLegal kept }
+    {
+        let _book = kept.book();
+        Follower::of(kept)
     }
 }
 

@@ -1,17 +1,20 @@
 //! The server of notes whose journal is kept in a file, as what a program runs.
-ghost use Rattle.std.specs.Prelude.{◌≡◌, ◌<◌, ◌≤◌, [], length, map, take, vec_len};
+ghost use Rattle.std.specs.Prelude.{◌≡◌, ◌<◌, ◌≤◌, [], ◌++◌, List, length, map, vec_len, IfErr, OnOk};
 ghost use Rattle.osm_base.specs.declared.limits.TheConstants.{SESSION_LIMIT};
 ghost use Rattle.durable_log.specs.Held.{HoldsFrom};
-ghost use Rattle.journal_recovery.specs.Judged.{IsFollowed, IsJudged};
+ghost use Rattle.journal_recovery.specs.Judged.{IsFollowed};
 ghost use Rattle.journal_recovery.specs.declared.faults.TextFault.{TextFault};
 ghost use Rattle.notes_text.specs.Text.{text_of, IsLegal};
 ghost use Rattle.notes_core.specs.Machine.{note_rules};
+ghost use Rattle.notes_core.specs.World.{Parts};
+ghost use Rattle.notes_core.specs.declared.commands.NoteEntry.{NoteEntry};
 ghost use Rattle.snapshot_hub.specs.Closings.{AreSeated};
 ghost use Rattle.notes_kept.specs.Followed.{HasFollowed};
 ghost use Rattle.notes_kept.specs.Run.{RunsServeNotesKept, ServesFrom};
 
 use crate::lines::NoteLines;
 use crate::ports::serve_kept_ports;
+use hub_core::CountedJournal;
 use journal_file::{Device, JournalFile};
 use journal_host::Journals;
 use journal_recovery::{EntryJudge, TextFault};
@@ -23,7 +26,7 @@ use osm_outside::{Host, Link, Outside, Port, PortOutside};
 use recovered_start::{Begun, KeptJournal, begin_kept};
 use server_frame::{Exit, Listening, close_ports};
 use shared_front::Opened;
-use snapshot_hub::{Twins, follow_from, twins_of};
+use snapshot_hub::{Twins, follow_all, push_all};
 use std::alloc::Global;
 use std::marker::Brand;
 use std::sync::Wait;
@@ -39,9 +42,13 @@ impl EntryJudge<NoteEntry> for NotesJournal {
 
     type World = NotesWorld;
 
+    type Kept = CountedJournal<NotesMachine>;
+
     type Journal = Twins<NotesMachine>;
 
     ghost entries = { λ twins. twins };
+
+    ghost keeps = { λ journal. journal };
 
     ghost is_legal = { IsLegal };
 
@@ -53,36 +60,46 @@ impl EntryJudge<NoteEntry> for NotesJournal {
         NotesMachine::empty(alloc)
     }
 
-    fn follow(
-        alloc: Global,
-        world: NotesWorld,
-        read: &[NoteEntry],
-        from: usize,
-    ) -> Result<NotesWorld, TextFault>
-        requires within { from ≤ length read.now }
-        requires followed { HasFollowed world (take from read.now) }
-        ensures { IsFollowed HasFollowed IsLegal read.now result }
+    fn none(alloc: Global) -> CountedJournal<NotesMachine> {
+        CountedJournal::new(alloc)
+    }
+
+    fn follow(alloc: Global, world: NotesWorld, part: &[NoteEntry]) -> Result<NotesWorld, TextFault>
+        ensures { (before : List NoteEntry) → HasFollowed world before → IsFollowed HasFollowed IsLegal (before ++ part.now) result }
     {
-        match follow_from::<NotesMachine>(alloc, world, read, from)? {
+        match follow_all::<NotesMachine>(alloc, world, part)? {
             Some(world) => Ok(world),
             None => Err(TextFault::NoJournal),
         }
     }
 
+    fn keep(
+        _alloc: Global,
+        kept: &mut CountedJournal<NotesMachine>,
+        part: Vec<NoteEntry>,
+    ) -> Result<(), TextFault>
+        requires { (world : Parts) × HasFollowed world (kept.old ++ part.items) }
+        ensures kept { OnOk result (kept.new ≡ kept.old ++ part.items) }
+        ensures refused { IfErr result (λ fault. fault ≡ TextFault.NoJournal → (more : List NoteEntry) → IsLegal ((kept.old ++ part.items) ++ more) → ⊥) }
+    {
+        if !push_all(kept, part)? {
+            return Err(TextFault::NoJournal);
+        }
+        Ok(())
+    }
+
     fn journal_of(
-        alloc: Global,
-        read: Vec<NoteEntry>,
+        kept: CountedJournal<NotesMachine>,
         first: NotesWorld,
         second: NotesWorld,
-    ) -> Result<Twins<NotesMachine>, TextFault>
-        requires first { HasFollowed first read.items }
-        requires second { HasFollowed second read.items }
-        ensures { IsJudged (λ twins. twins) IsLegal read.items result }
+    ) -> Twins<NotesMachine>
+        requires first { HasFollowed first kept }
+        requires second { HasFollowed second kept }
+        ensures kept { result ≡ kept }
+        ensures legal { IsLegal kept }
     {
-        match twins_of::<NotesMachine>(alloc, read, first, second)? {
-            Some(twins) => Ok(twins),
-            None => Err(TextFault::NoJournal),
-        }
+        let _entries = kept.journal();
+        Twins::of(kept, first, second)
     }
 }
 

@@ -29,4 +29,4 @@ pub use shown::Shown;
 pub use snapshot::Snapshot;
 pub use standing::Standing;
 pub use step::Step;
-pub use twins::{Twins, follow_from, twins_of};
+pub use twins::{Twins, follow_all, push_all};

@@ -1,7 +1,7 @@
 //! A journal with two worlds after it, of which a hub's two copies begin.
-ghost use Rattle.std.specs.Prelude.{◌≡◌, ◌==◌, ◌+◌, ◌≤◌, ◌++◌, ◌∷◌, [], List, take, length, true, false, IfOk, IsTrue, MatchOption};
-ghost use Rattle.machine_law.specs.Rules.{replay, is_legal};
-ghost use Rattle.hub_core.specs.Journal.{calls_of, is_numbered, IsJournal};
+ghost use Rattle.std.specs.Prelude.{◌≡◌, ◌==◌, ◌+◌, ◌++◌, ◌∷◌, [], fold, true, false, IfOk, IsTrue, MatchOption};
+ghost use Rattle.machine_law.specs.Rules.{replay, is_legal, is_legal_from};
+ghost use Rattle.hub_core.specs.Journal.{calls_of, is_numbered};
 
 use hub_core::CountedJournal;
 use machine_law::Machine;
@@ -65,21 +65,18 @@ impl<M: Machine> Twins<M> {
     }
 }
 
-/// The world, which followed the entries before this place, once it has followed the others too, each of
-/// which it tests and takes by a copy of its own: none exactly where one of them may not come next.
-pub fn follow_from<M: Machine>(
+/// The world, once it has followed these entries too, each of which it tests and takes by a copy of its
+/// own: none exactly where one of them may not come next.
+pub fn follow_all<M: Machine>(
     alloc: Global,
     mut world: M::World,
     entries: &[M::Entry],
-    from: usize,
 ) -> Result<Option<M::World>, Memory>
-    requires within { from ≤ length entries.now }
-    requires legal { is_legal M.rules (take from entries.now) ≡ true }
-    requires followed { M.state world ≡ replay M.rules (take from entries.now) }
-    ensures { IfOk result (λ found. MatchOption found ((more : List M.Entry) → is_legal M.rules (entries.now ++ more) ≡ false)
-        (λ world. (is_legal M.rules entries.now ≡ true) × (M.state world ≡ replay M.rules entries.now))) }
+    ensures { IfOk result (λ found. MatchOption found (is_legal_from M.rules (M.state world) entries.now ≡ false)
+        (λ after. (is_legal_from M.rules (M.state world) entries.now ≡ true)
+        × (M.state after ≡ fold M.rules.after (M.state world) entries.now))) }
 {
-    for place in from..entries.len() {
+    for place in 0..entries.len() {
         let taken = follow_next::<M>(alloc, &mut world, &entries[place])?;
         if !taken {
             return Ok(None);
@@ -106,46 +103,24 @@ fn follow_next<M: Machine>(
     Ok(true)
 }
 
-/// The twins of these entries, which each world followed: none exactly where a call isn't the next one
-/// of its session.
-pub fn twins_of<M: Machine>(
-    alloc: Global,
-    entries: Vec<M::Entry>,
-    first: M::World,
-    second: M::World,
-) -> Result<Option<Twins<M>>, Memory>
-    requires legal { is_legal M.rules entries.items ≡ true }
-    requires first { M.state first ≡ replay M.rules entries.items }
-    requires second { M.state second ≡ replay M.rules entries.items }
-    ensures { IfOk result (λ found. MatchOption found (is_numbered M.rules.tag_of [] entries.items ≡ false)
-        (λ twins. (twins ≡ entries.items) × IsJournal M.rules entries.items)) }
-{
-    match counted::<M>(alloc, entries)? {
-        Some(journal) => {
-            let _entries = journal.journal();
-            Ok(Some(Twins::of(journal, first, second)))
-        }
-        None => Ok(None),
-    }
-}
-
-// The journal of these entries, if each is the next call of its session.
-fn counted<M: Machine>(
-    alloc: Global,
+/// Puts these entries at the end of a journal, each of which may come next there: `false` exactly where
+/// one of them isn't the next call of its session, and then it and those behind it are let go.
+pub fn push_all<M: Machine>(
+    journal: &mut CountedJournal<M>,
     mut entries: Vec<M::Entry>,
-) -> Result<Option<CountedJournal<M>>, Memory>
-    requires { is_legal M.rules entries.items ≡ true }
-    ensures { IfOk result (λ found. MatchOption found (is_numbered M.rules.tag_of [] entries.items ≡ false) (λ journal. journal ≡ entries.items)) }
+) -> Result<bool, Memory>
+    requires { is_legal M.rules (journal.old ++ entries.items) ≡ true }
+    ensures pushed { IfOk result (λ pushed. IsTrue pushed → journal.new ≡ journal.old ++ entries.items) }
+    ensures refused { IfOk result (λ pushed. pushed ≡ false → is_numbered M.rules.tag_of [] (journal.old ++ entries.items) ≡ false) }
 {
-    let mut journal = CountedJournal::new(alloc);
     entries.reverse();
     'entries: while let Some(entry) = entries.pop() {
-        let pushed = push_next::<M>(&mut journal, entry)?;
+        let pushed = push_next::<M>(journal, entry)?;
         if !pushed {
-            return Ok(None);
+            return Ok(false);
         }
     }
-    Ok(Some(journal))
+    Ok(true)
 }
 
 // Puts an entry at the end of a journal, if it is the next call of its session.
