@@ -37,6 +37,7 @@ Records = dict[str, float]
 ROW, VERSION, LISTED, TABLE = 40, 24, 40, 56  # history_store's History; osm_element's Version, Listed and PlacedTable
 HELD, SLOT, KEY = 8, 48, 16  # reverse_refs' Held and Slot; osm_base's Key
 TILE, RUN, CHANGESET = 40, 24, 160  # tile_grid's Tile; changeset_core's Run and Changeset
+FEW = 4  # FEW of changeset_core
 MEMBER, ENDS, KEPT = 40, 8, 24  # osm_element's Member and Ends; packed_entry's PackedEntry
 SEGMENT, SHORT = 1024, 4  # FULL of segment_list; SHORT of osm_base, reverse_refs and tile_grid
 APART = 1 << 17
@@ -179,12 +180,14 @@ def elements_of(it: Map) -> float:
 
 
 def work_of(it: Map) -> float:
-    """The runs of a changeset, which before each upload has room for a run of each of its elements."""
+    """The runs of a changeset. Before each upload it has room for a run of each of its elements; behind it, where more than half is free, no more than it needs."""
     room, used = 0.0, 0.0
     for _ in range(max(1, round(uploads_of(it) / it.changesets))):
         if room - used < it.upload:
             room = max(2 * room, used + it.upload)
         used += it.runs
+        if room // 2 > used + FEW:
+            room = used
     return it.changesets * resident(room, used, RUN)
 
 

@@ -162,10 +162,10 @@ impl Changeset {
     }
 
     /// Takes every promise of room back.
-    pub fn forget(&mut self)
+    pub fn forget(&mut self, alloc: Global)
         ensures { self.new ≡ record self.old { free = 0 } }
     {
-        self.did.forget();
+        self.did.forget(alloc);
     }
 
     /// Enters a version that it made, which counts as one change. It takes no memory.

@@ -11,6 +11,9 @@ use std::marker::Model;
 /// The most versions that there can be. Runs of so many take no memory to speak of.
 const LIMIT: usize = 0x7fff_ffff_ffff_ffff;
 
+/// Free room for twice so many runs is left alone.
+const FEW: usize = 4;
+
 /// Versions of one number, of elements of one kind whose ids follow each other.
 #[derive(Drop)]
 struct Run {
@@ -152,11 +155,15 @@ impl Works {
         Ok(())
     }
 
-    /// Takes every promise back.
-    pub fn forget(&mut self)
+    /// Takes every promise back, and with them the room that was taken for them where more than half of
+    /// it is free. An upload is promised a run for each version, and one run often tells of them all.
+    pub fn forget(&mut self, alloc: Global)
         ensures { self.new ≡ record self.old { free = 0 } }
     {
         self.free = 0;
+        if self.runs.capacity() / 2 > self.runs.len() + FEW {
+            fit(alloc, &mut self.runs);
+        }
     }
 
     /// Adds a version at the end, on promised room.
@@ -167,6 +174,18 @@ impl Works {
         add(&mut self.runs, work);
         self.len += 1;
         self.free -= 1;
+    }
+}
+
+/// Moves runs into a list of just their length, where there is memory for it.
+fn fit(alloc: Global, runs: &mut Vec<Run>)
+    ensures { runs.new.items ≡ runs.old.items }
+{
+    let Ok(mut fitting) = Vec::with_capacity(alloc, runs.len()) else {
+        return;
+    };
+    if fitting.append(runs).is_ok() {
+        *runs = fitting;
     }
 }
 
