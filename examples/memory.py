@@ -1,10 +1,11 @@
 #!/usr/bin/env python3
-"""Bytes a node: examples/memory.py [--program PROGRAM] [--nodes 100000] [--most BOOK,SERVE]
+"""Bytes a node: examples/memory.py [--program PROGRAM] [--nodes 100000] [--most BOOK,SERVE,LARGE]
 
 Fills a map with so many nodes and a way over each ten, ten nodes and their way an upload, and tells the most memory that this took for
 each node: on a book, which is the peak of `PROGRAM measure` less that of a single upload, and by `PROGRAM serve` with four links, which
-is its peak less that before the first upload. With --most the status is 1 where one of them is more than a tenth above the figure
-there. PROGRAM is crates/osm/out/osm where none is named.
+is its peak less that before the first upload. Then the same of a server that takes the nodes alone, 1,000 an upload and a changeset for
+each, less its peak behind the first upload of each link. With --most the status is 1 where one of them is more than a tenth above the
+figure there. PROGRAM is crates/osm/out/osm where none is named.
 """
 
 from __future__ import annotations
@@ -16,7 +17,7 @@ import random
 import subprocess
 import sys
 import time
-from collections.abc import Iterator
+from collections.abc import Callable, Iterator
 from concurrent.futures import ThreadPoolExecutor
 from typing import Any
 
@@ -31,6 +32,8 @@ A_WAY = 10
 MANY = SESSIONS * 909 * A_WAY
 """The most that `measure` makes of them."""
 UPLOADS_A_CHANGESET = 900
+LARGE = 1_000
+"""Nodes of a large upload."""
 MARGIN = 1.1
 
 
@@ -66,52 +69,82 @@ def on_a_book(program: str, nodes: int) -> float:
     return (most - least) / (many - few)
 
 
-def upload(numbers: random.Random) -> dict[str, Any]:
-    """Ten nodes where a drawn number puts each, as in the load of `measure`, and a way over them."""
-    names = [-number for number in range(1, A_WAY + 1)]
-    places = [(480_000_000 + numbers.randrange(1_000_000), 110_000_000 + numbers.randrange(1_000_000)) for _ in names]
-    nodes = [{"type": "node", "id": name, "lat7": lat7, "lon7": lon7} for name, (lat7, lon7) in zip(names, places)]
-    return {"osmChange": [{"create": [*nodes, {"type": "way", "id": -1, "nodes": names}]}]}
+def nodes_at(numbers: random.Random, count: int) -> list[dict[str, Any]]:
+    """New nodes where a drawn number puts each, as in the load of `measure`."""
+    places = [(480_000_000 + numbers.randrange(1_000_000), 110_000_000 + numbers.randrange(1_000_000)) for _ in range(count)]
+    return [{"type": "node", "id": -1 - place, "lat7": lat7, "lon7": lon7} for place, (lat7, lon7) in enumerate(places)]
+
+
+def with_a_way(numbers: random.Random) -> list[dict[str, Any]]:
+    nodes = nodes_at(numbers, A_WAY)
+    return [*nodes, {"type": "way", "id": -1, "nodes": [it["id"] for it in nodes]}]
 
 
 def replies(port: int, seed: int, uploads: int) -> Iterator[int]:
-    """The statuses of so many uploads on one link."""
+    """The statuses of so many uploads of ten nodes and a way on one link."""
     link, numbers = Link(port, "alicetoken"), random.Random(seed)
     for turn in range(uploads):
         if turn % UPLOADS_A_CHANGESET == 0:
             changeset = link.ask("PUT", "changeset/create").body.decode()
-        yield link.ask("POST", f"changeset/{changeset}/upload", upload(numbers)).status
+        yield link.ask("POST", f"changeset/{changeset}/upload", {"osmChange": [{"create": with_a_way(numbers)}]}).status
     link.close()
+
+
+def large_replies(port: int, seed: int, uploads: int) -> Iterator[int]:
+    """The same of large uploads of nodes, a changeset for each."""
+    link, numbers = Link(port, "alicetoken"), random.Random(seed)
+    for _ in range(uploads):
+        changeset = link.ask("PUT", "changeset/create").body.decode()
+        yield link.ask("POST", f"changeset/{changeset}/upload", {"osmChange": [{"create": nodes_at(numbers, LARGE)}]}).status
+        link.ask("PUT", f"changeset/{changeset}/close")
+    link.close()
+
+
+def on_links(server: Server, uploading: Callable[[int, int, int], Iterator[int]], seed: int, uploads: int) -> None:
+    """So many uploads on each of four links."""
+    with ThreadPoolExecutor(LINKS) as pool:
+        statuses = {it for some in pool.map(lambda link: set(uploading(server.port, seed + link, uploads)), range(LINKS)) for it in some}
+    if statuses - {200}:
+        raise SystemExit(f"uploads were answered with {sorted(statuses)}")
 
 
 def by_serve(program: str, nodes: int) -> float:
     share = nodes // A_WAY // LINKS
-    with Server(program, LINKS, USERS) as server, ThreadPoolExecutor(LINKS) as pool:
+    with Server(program, LINKS, USERS) as server:
         before = server.megabytes("VmHWM")
-        statuses = [it for some in pool.map(lambda seed: list(replies(server.port, seed, share)), range(LINKS)) for it in some]
+        on_links(server, replies, 0, share)
         after = server.megabytes("VmHWM")
-    if set(statuses) != {200}:
-        raise SystemExit(f"uploads were answered with {sorted(set(statuses))}")
-    return (after - before) * 1024 * 1024 / (A_WAY * len(statuses))
+    return (after - before) * 1024 * 1024 / (A_WAY * LINKS * share)
 
 
-def figures(text: str) -> tuple[float, float]:
-    book, serve = map(float, text.split(","))
-    return book, serve
+def by_large_uploads(program: str, nodes: int) -> float:
+    share = nodes // LARGE // LINKS
+    with Server(program, LINKS, USERS) as server:
+        on_links(server, large_replies, 0, 1)
+        before = server.megabytes("VmHWM")
+        on_links(server, large_replies, LINKS, share)
+        after = server.megabytes("VmHWM")
+    return (after - before) * 1024 * 1024 / (LARGE * LINKS * share)
+
+
+def figures(text: str) -> tuple[float, ...]:
+    book, serve, large = map(float, text.split(","))
+    return book, serve, large
 
 
 def main() -> int:
     parser = argparse.ArgumentParser(description=(__doc__ or "").split("\n")[0])
     parser.add_argument("--program", default=os.path.join(HERE, "..", "crates", "osm", "out", "osm"))
     parser.add_argument("--nodes", type=int, default=100_000)
-    parser.add_argument("--most", type=figures, default=(float("inf"), float("inf")))
+    parser.add_argument("--most", type=figures, default=(float("inf"),) * 3)
     words = parser.parse_args()
     if not os.access(words.program, os.X_OK):
         parser.error(f"there is no program {words.program}: ./osm build makes it")
-    if not LINKS * A_WAY <= words.nodes <= MANY:
-        parser.error(f"--nodes takes {LINKS * A_WAY} to {MANY}")
+    if not LINKS * LARGE <= words.nodes <= MANY:
+        parser.error(f"--nodes takes {LINKS * LARGE} to {MANY}")
     above = False
-    for name, fill, most in zip(("on a book", "by serve"), (on_a_book, by_serve), words.most):
+    ways_to_fill = (("on a book", on_a_book), ("by serve", by_serve), ("by serve, 1,000 an upload", by_large_uploads))
+    for (name, fill), most in zip(ways_to_fill, words.most):
         came = fill(words.program, words.nodes)
         is_above = came > MARGIN * most
         above = above or is_above
