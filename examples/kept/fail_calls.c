@@ -212,7 +212,7 @@ int open(const char *name, int flags, ...) {
 
 int statx(int fd, const char *restrict name, int flags, unsigned mask, struct statx *restrict it) {
     int counts = *name ? is_file(name) : is_file(name_of(fd));
-    if (counts && fails("statx"))
+    if (counts && fails(*name ? "statx of the path" : "statx"))
         return failed(-1);
     return syscall(SYS_statx, fd, name, flags, mask, it);
 }

@@ -11,9 +11,10 @@ existing  a start on a file with entries; `ungated` on one that lacks its gate, 
 uploads   four links upload, some of it larger than the room that is laid by, and one more reads; from the first call behind the start on
 notes     the same of a server of notes
 
-A start has to end with status 3, and what serves with status 9; behind the call that failed nothing more is asked of the file. A file that was
-there is as it was, byte for byte, or, where it lacks its gate, has the same text. Then the program is started on what is left without the
-library: it may not refuse it, has all of which a reply had told, by the change's own reply or a read, nothing half, and goes on.
+A start has to end with status 3, and what serves with status 9; behind the call that failed nothing more is asked of the file. Where a look at
+which file has the path fails, what serves goes on. A file that was there is as it was, byte for byte, or, where it lacks its gate, has the same
+text. Then the program is started on what is left without the library: it may not refuse it, has all of which a reply had told, by the change's
+own reply or a read, nothing half, and goes on.
 
 Then the same with calls that are interrupted, which may also be tried again; and once with reads and writes that are short, where nothing may
 differ. A read that tells the file's end within a line has the file refused with status 8; what comes of one that tells it between two lines is
@@ -51,6 +52,8 @@ UNOPENED = 3  # the status where the file couldn't be opened or made
 LARGE, MANY = 0.2, 1500  # of uploads that many have so many nodes more
 ERRORS, DONE = (errno.EIO, errno.ENOSPC), 3
 SHORT = 700  # bytes
+LOOK = "statx of the path"
+"""By which a start looks for a file, and what serves tells whether another one has the path: where that fails it isn't known, and it goes on."""
 TRIED_AGAIN = ("read", "write", "pwrite", "fsync", "fdatasync", "ftruncate", "flock", "open", "open of the folder", "fsync of the folder")
 
 
@@ -129,10 +132,11 @@ class Made:
         return next((it.removesuffix(" fails") for it in self.calls() if it.endswith(" fails")), "")
 
     def asked_on(self) -> list[str]:
-        """What wrongly followed the call that failed."""
+        """What wrongly followed the call that failed: any but a look at the path."""
         calls = self.calls()
         at = next(i for i, it in enumerate(calls) if it.endswith(" fails"))
-        return [f"behind {calls[at]} it goes on with {calls[at + 1 :][:5]}"] if calls[at + 1 :] else []
+        behind = [it for it in calls[at + 1 :] if it != LOOK]
+        return [f"behind {calls[at]} it goes on with {behind[:5]}"] if behind else []
 
 
 # ---- a start
@@ -368,9 +372,12 @@ class Trial:
             if not call:
                 break
             counts[status, call] += 1
-            if status == part.ends:
+            goes_on = status in (0, None)
+            if call == LOOK and (goes_on or part.ends == UNKEPT):
+                faults += [] if goes_on else [f"status {status}: it doesn't go on"]
+            elif status == part.ends:
                 faults += self.made.asked_on()
-            elif way.error != errno.EINTR or call not in TRIED_AGAIN or status not in (0, None):
+            elif way.error != errno.EINTR or call not in TRIED_AGAIN or not goes_on:
                 faults.append(f"status {status}, not {part.ends}")
             self.faults += [f"{name}, {fault} ({call}): {it}" for it in faults]
             at += 1
