@@ -162,10 +162,10 @@ impl Changeset {
     }
 
     /// Takes every promise of room back.
-    pub fn forget(&mut self, alloc: Global)
+    pub fn forget(&mut self)
         ensures { self.new ≡ record self.old { free = 0 } }
     {
-        self.did.forget(alloc);
+        self.did.forget();
     }
 
     /// Enters a version that it made, which counts as one change. It takes no memory.

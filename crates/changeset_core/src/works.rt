@@ -157,12 +157,12 @@ impl Works {
 
     /// Takes every promise back, and with them the room that was taken for them where more than half of
     /// it is free. An upload is promised a run for each version, and one run often tells of them all.
-    pub fn forget(&mut self, alloc: Global)
+    pub fn forget(&mut self)
         ensures { self.new ≡ record self.old { free = 0 } }
     {
         self.free = 0;
         if self.runs.capacity() / 2 > self.runs.len() + FEW {
-            fit(alloc, &mut self.runs);
+            self.runs.shrink_to_fit();
         }
     }
 
@@ -174,18 +174,6 @@ impl Works {
         add(&mut self.runs, work);
         self.len += 1;
         self.free -= 1;
-    }
-}
-
-/// Moves runs into a list of just their length, where there is memory for it.
-fn fit(alloc: Global, runs: &mut Vec<Run>)
-    ensures { runs.new.items ≡ runs.old.items }
-{
-    let Ok(mut fitting) = Vec::with_capacity(alloc, runs.len()) else {
-        return;
-    };
-    if fitting.append(runs).is_ok() {
-        *runs = fitting;
     }
 }
 

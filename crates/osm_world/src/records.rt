@@ -116,6 +116,6 @@ pub fn forget_work(alloc: Global, changesets: &mut Roomy<Changeset>, id: u64)
     }
     let place = id as usize - 1;
     let mut kept = changesets.replace(place, vacant(alloc));
-    kept.forget(alloc);
+    kept.forget();
     changesets.set(place, kept);
 }
