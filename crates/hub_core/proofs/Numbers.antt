@@ -17,3 +17,10 @@ module _ {E : Type 0} (tag_of : E → Tag) where
   numbered_push before (x ∷ xs) e h next =
       let p = both_true ((tag_of x).call == calls_of tag_of (tag_of x).session before + 1) (is_numbered tag_of (before ++ x ∷ []) xs) h in
       rw p.0 (numbered_push (before ++ x ∷ []) xs e p.1 (rw append_assoc next))
+
+  -- what is numbered is so wherever it is cut off
+  pub numbered_first : (before es more : List E) → is_numbered tag_of before (es ++ more) ≡ true → is_numbered tag_of before es ≡ true
+  numbered_first before [] more h = refl
+  numbered_first before (e ∷ es) more h =
+      let p = both_true ((tag_of e).call == calls_of tag_of (tag_of e).session before + 1) (is_numbered tag_of (before ++ e ∷ []) (es ++ more)) h in
+      rw p.0 (numbered_first (before ++ e ∷ []) es more p.1)

@@ -2,7 +2,7 @@
 use Rattle.std.proofs.Common.{◌≡◌, ℕ, ◌+◌, ◌&&◌, ◌==◌, Bool, true, false, List, [], ◌∷◌, ◌++◌, sym, refl, ap, ◌∙◌}
 use Rattle.std.proofs.lemmas.Bool.{true≢false}
 use Rattle.hub_core.specs.Journal.{is_numbered as numbered_by}
-use Rattle.hub_core.proofs.Numbers.{both_true}
+use Rattle.hub_core.proofs.Numbers.{numbered_first}
 use Rattle.machine_law.specs.Rules.{is_legal, is_legal_from as legal_by}
 use Rattle.osm_model.specs.Journal.{IsLegal, is_legal_from, is_numbered, takes, after, calls_of}
 use Rattle.osm_model.specs.State.{empty}
@@ -22,12 +22,6 @@ numbered_same before (e ∷ es) = ap (λ (b : Bool). (e.call == calls_of e.sessi
 pub refused : (es : List Entry) → ((more : List Entry) → is_legal map_rules (es ++ more) ≡ false) → (more : List Entry) → IsLegal (es ++ more) → ⊥
 refused es never more legal = true≢false (sym legal.taken ∙ sym (legal_same empty (es ++ more)) ∙ never more)
 
-numbered_first : (before es more : List Entry) → is_numbered before (es ++ more) ≡ true → is_numbered before es ≡ true
-numbered_first before [] more h = refl
-numbered_first before (e ∷ es) more h =
-    let p = both_true (e.call == calls_of e.session before + 1) (is_numbered (before ++ e ∷ []) (es ++ more)) h in
-    rw p.0 (numbered_first (before ++ e ∷ []) es more p.1)
-
 -- nor are entries that are not numbered
 pub unnumbered : (es : List Entry) → numbered_by tag_of [] es ≡ false → (more : List Entry) → IsLegal (es ++ more) → ⊥
-unnumbered es never more legal = true≢false (sym (numbered_first [] es more legal.numbered) ∙ sym (numbered_same [] es) ∙ never)
+unnumbered es never more legal = true≢false (sym (numbered_first tag_of [] es more (numbered_same [] (es ++ more) ∙ legal.numbered)) ∙ never)
