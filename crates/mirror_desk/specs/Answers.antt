@@ -1,5 +1,5 @@
 -- What a mirror answers, from the entries that it has to those that it has then.
-use Rattle.std.specs.Prelude.{◌≡◌, ℕ, ◌+◌, ◌⊎◌, List, [], ◌∷◌, ◌++◌, length, codes, decimal, Option, Some, None}
+use Rattle.std.specs.Prelude.{◌≡◌, ℕ, ◌+◌, ◌⊎◌, Bool, true, false, List, [], ◌∷◌, ◌++◌, length, codes, decimal, Option, Some, None}
 use Rattle.osm_change.specs.declared.answers.Answer.TheVariants as answer
 use Rattle.osm_model.specs.Ask.{ask}
 use Rattle.osm_model.specs.Journal.{IsLegal, replay}
@@ -16,17 +16,22 @@ use Rattle.journal_follower.specs.declared.answers.Taken.TheVariants.{Folded, Ol
 use Rattle.api_desk.specs.Answers.{reply_of as server_reply}
 use Rattle.api_desk.specs.Feed.{fed, says, Told as ServerTold}
 use Rattle.api_desk.specs.declared.feed.FeedCall.TheVariants.{State}
-use Rattle.mirror_desk.specs.Request.{Ask, refuses, forbids, reads, states, takes, request_of}
+use Rattle.mirror_desk.specs.Request.{Ask, refuses, forbids, reads, states, takes, levels, request_of}
+use Rattle.mirror_desk.specs.declared.setting.MirrorSetting.{MirrorSetting}
 
 -- ---- what is told
 
--- what the server tells too, that only reading is allowed, that a body is no piece's text, or what came of a piece
+-- what the server tells too, that only reading is allowed, that a body is no piece's text, what came of a piece, that the mirror isn't known
+-- to be level, or that it counts as level
 pub data Told : Type 0 where
   as_server : ServerTold → Told
   read_only : Told
   not_piece : Told
   -- the number of the piece, and that of the piece that would come next then
   took : ℕ → ℕ → Taken → Told
+  not_level : Told
+  -- the number of the piece that would come next
+  levelled : ℕ → Told
 
 abbrev pub status_taken : Taken → ℕ
 status_taken Folded = 200
@@ -48,6 +53,8 @@ reply_told (as_server told) = server_reply (Some told)
 reply_told read_only = record { status = 403; body = codes "{\"error\":\"read_only\"}" }
 reply_told not_piece = record { status = 400; body = codes "{\"error\":\"not_piece\"}" }
 reply_told (took number next came) = record { status = status_taken came; body = text_taken number next came }
+reply_told not_level = record { status = 503; body = codes "{\"error\":\"not_level\"}" }
+reply_told (levelled next) = record { status = 200; body = codes "{\"level\":true,\"next\":" ++ decimal next ++ codes "}" }
 
 -- the reply that tells it; `None` is want of memory
 abbrev pub reply_of : Option Told → Reply
@@ -69,18 +76,32 @@ pub record TakesNone (old : List Entry) (body : List ℕ) (told : Told) (new : L
   pub told_is : told ≡ not_piece
   pub stays : new ≡ old
 
--- what an ask is told; a piece that is folded is all that changes the entries
-abbrev pub Tells : List Entry → ℕ → Ask → Told → List Entry → Type 0
-Tells old moment (refuses r) told new = (told ≡ as_server (says (answer.Refused r))) × (new ≡ old)
-Tells old moment forbids told new = (told ≡ read_only) × (new ≡ old)
-Tells old moment (reads q) told new = (told ≡ as_server (says (ask (replay old) moment q))) × (new ≡ old)
-Tells old moment states told new = (told ≡ as_server (fed old State)) × (new ≡ old)
-Tells old moment (takes body) told new = TakesPiece old body told new ⊎ TakesNone old body told new
+-- A read with this answer is told it. Where reads are answered only while the mirror is known to be level, it may be told that it isn't: that
+-- goes by who was heard and when, of which the entries tell nothing.
+abbrev pub TellsRead : Bool → ServerTold → Told → Type 0
+TellsRead false answer told = told ≡ as_server answer
+TellsRead true answer told = (told ≡ as_server answer) ⊎ (told ≡ not_level)
 
--- one ask and what it is told; there may be no memory for any, and then nothing is done
-abbrev pub IsRow : List Entry → ℕ → Ask → Option Told → List Entry → Type 0
-IsRow old moment asked None new = new ≡ old
-IsRow old moment asked (Some told) new = Tells old moment asked told new
+-- the same where it is known whether reads are held back
+abbrev pub TellsReadAt : Bool → ServerTold → Told → Type 0
+TellsReadAt false answer told = told ≡ as_server answer
+TellsReadAt true answer told = told ≡ not_level
+
+-- over what a read is told by its answer
+module _ (tells_read : ServerTold → Told → Type 0) where
+  -- what an ask is told; a piece that is folded is all that changes the entries
+  abbrev pub Tells : List Entry → ℕ → Ask → Told → List Entry → Type 0
+  Tells old moment (refuses r) told new = (told ≡ as_server (says (answer.Refused r))) × (new ≡ old)
+  Tells old moment forbids told new = (told ≡ read_only) × (new ≡ old)
+  Tells old moment (reads q) told new = tells_read (says (ask (replay old) moment q)) told × (new ≡ old)
+  Tells old moment states told new = (told ≡ as_server (fed old State)) × (new ≡ old)
+  Tells old moment (takes body) told new = TakesPiece old body told new ⊎ TakesNone old body told new
+  Tells old moment levels told new = (told ≡ levelled (length old + 1)) × (new ≡ old)
+
+  -- one ask and what it is told; there may be no memory for any, and then nothing is done
+  abbrev pub IsRow : List Entry → ℕ → Ask → Option Told → List Entry → Type 0
+  IsRow old moment asked None new = new ≡ old
+  IsRow old moment asked (Some told) new = Tells old moment asked told new
 
 -- one entry more at the end
 pub record HasOneMore (old new : List Entry) : Type 0 where
@@ -88,17 +109,26 @@ pub record HasOneMore (old new : List Entry) : Type 0 where
   pub is : new ≡ old ++ entry ∷ []
 
 -- One message was answered: what it asks has a row on these entries, and the reply tells what the row tells.
-pub record MirrorAnswers (users : Users) (old : List Entry) (message : Message) (moment : ℕ) (reply : Reply) (new : List Entry) : Type 0 where
+pub record AnswersBy (users : Users) (tells_read : ServerTold → Told → Type 0)
+    (old : List Entry) (message : Message) (moment : ℕ) (reply : Reply) (new : List Entry) : Type 0 where
   pub told : Option Told
-  pub row : IsRow old moment (request_of users message) told new
+  pub row : IsRow tells_read old moment (request_of users message) told new
   pub text : reply ≡ reply_of told
   pub grown : (new ≡ old) ⊎ HasOneMore old new
   pub legal : IsLegal old → IsLegal new
 
+-- the same by how the mirror was begun
+abbrev pub MirrorAnswers : MirrorSetting → List Entry → Message → ℕ → Reply → List Entry → Type 0
+MirrorAnswers setting = AnswersBy setting.users (TellsRead setting.only_level)
+
+-- the same, where it is known whether reads are held back
+abbrev pub MirrorAnswersAt : Users → Bool → List Entry → Message → ℕ → Reply → List Entry → Type 0
+MirrorAnswersAt users is_held_back = AnswersBy users (TellsReadAt is_held_back)
+
 -- ---- for private clauses
 
 -- The ask has a row on these entries, and the reply tells what the row tells.
-pub record AnswersAsk (old : List Entry) (moment : ℕ) (asked : Ask) (reply : Reply) (new : List Entry) : Type 0 where
+pub record AnswersAsk (is_held_back : Bool) (old : List Entry) (moment : ℕ) (asked : Ask) (reply : Reply) (new : List Entry) : Type 0 where
   pub told : Option Told
-  pub row : IsRow old moment asked told new
+  pub row : IsRow (TellsReadAt is_held_back) old moment asked told new
   pub text : reply ≡ reply_of told

@@ -11,7 +11,7 @@ use Rattle.replication_feed.specs.declared.pieces.Piece.{Piece}
 use Rattle.journal_follower.specs.Calls.{Agrees}
 use Rattle.journal_follower.specs.declared.answers.Taken.{Taken}
 use Rattle.mirror_desk.specs.Answers.{took, reply_of}
-use Rattle.mirror_desk.specs.Request.{Ask, refuses, forbids, reads, states, takes, request_of}
+use Rattle.mirror_desk.specs.Request.{Ask, refuses, forbids, reads, states, takes, levels, request_of}
 
 -- ---- what is posted
 
@@ -28,6 +28,7 @@ AsksOf journal forbids = ⊤
 AsksOf journal (reads q) = ⊤
 AsksOf journal states = ⊤
 AsksOf journal (takes body) = IsOfJournal journal body
+AsksOf journal levels = ⊤
 
 -- whatever is posted is a piece of this journal: any of them, in any order, some again and some never
 abbrev pub PostsOf : Users → List Entry → List Exchange → Type 0
@@ -56,6 +57,7 @@ IsToldAgreeing journal forbids reply = ⊤
 IsToldAgreeing journal (reads q) reply = ⊤
 IsToldAgreeing journal states reply = ⊤
 IsToldAgreeing journal (takes body) reply = (of : IsOfJournal journal body) × (TellsAgreeing of.piece reply ⊎ (reply ≡ reply_of None))
+IsToldAgreeing journal levels reply = ⊤
 
 -- ---- what comes of it
 

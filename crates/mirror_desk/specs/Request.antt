@@ -20,21 +20,26 @@ use Rattle.api_desk.specs.declared.feed.FeedCall.TheVariants as feed
 use Rattle.api_desk.specs.declared.tasks.Task.{Task}
 use Rattle.api_desk.specs.declared.tasks.Task.TheVariants.{Read, Change, Moderate, Follow}
 use Rattle.mirror_desk.specs.declared.lines.Line.{Line}
-use Rattle.mirror_desk.specs.declared.lines.Line.TheVariants.{Piece, Served}
+use Rattle.mirror_desk.specs.declared.lines.Line.TheVariants.{Piece, Level, Served}
 
--- a refusal, a call that a mirror doesn't take, a query, the state of the feed, or a piece to be taken, by the body that is to be its text
+-- a refusal, a call that a mirror doesn't take, a query, the state of the feed, a piece to be taken, by the body that is to be its text, or
+-- that the mirror counts as level
 pub data Ask : Type 0 where
   refuses : Refusal → Ask
   forbids : Ask
   reads : Query → Ask
   states : Ask
   takes : List ℕ → Ask
+  levels : Ask
 
 -- ---- the request line
 
--- the path of the call that takes a piece; nothing is cut off it, but the query
+-- the path of the call that takes a piece, and that of the one which says that the mirror is level; nothing is cut off them, but the query
 abbrev pub piece_path : List ℕ
 piece_path = codes "/api/0.6/replication"
+
+abbrev pub level_path : List ℕ
+level_path = codes "/api/0.6/replication/level"
 
 abbrev pub before_query : List ℕ → List ℕ
 before_query target = before_first (is_byte question_mark) target
@@ -43,9 +48,16 @@ before_query target = before_first (is_byte question_mark) target
 abbrev pub posted : List ℕ → Result Line Refusal
 posted method = if bytes_eq method (codes "POST") then Ok Piece else Err WrongMethod
 
--- one path is the mirror's own; of every other line the call is that of the server
+-- that the mirror is level is said by this method alone
+abbrev pub put : List ℕ → Result Line Refusal
+put method = if bytes_eq method (codes "PUT") then Ok Level else Err WrongMethod
+
+-- two paths are the mirror's own; of every other line the call is that of the server
 abbrev pub line_of : Message → Result Line Refusal
-line_of m = if bytes_eq (before_query m.target) piece_path then posted m.method else (call_in m >>= λ call. Ok (Served call))
+line_of m =
+    if bytes_eq (before_query m.target) piece_path then posted m.method
+    else (if bytes_eq (before_query m.target) level_path then put m.method
+    else (call_in m >>= λ call. Ok (Served call)))
 
 -- ---- the request
 
@@ -69,8 +81,13 @@ asked_by_task caller (Moderate e) = forbidden_to caller
 abbrev pub piece_from : Option User → List ℕ → Result Ask Refusal
 piece_from caller body = known_moderator caller >>= λ user. Ok (takes body)
 
+-- and say that the mirror is level
+abbrev pub level_from : Option User → Result Ask Refusal
+level_from caller = known_moderator caller >>= λ user. Ok levels
+
 abbrev pub asked_by : Option ℕ → Option User → List ℕ → Line → Result Ask Refusal
 asked_by large_from caller body Piece = piece_from caller body
+asked_by large_from caller body Level = level_from caller
 asked_by large_from caller body (Served call) = asked_by_task caller (task_of (is_moderator caller) large_from call)
 
 -- the request line is looked at first, then whether the body is XML, then the caller; whether the body is a piece comes at last

@@ -5,6 +5,8 @@
 ghost use Rattle.std.specs.Prelude.{◌≡◌, IfOk};
 
 use crate::answers::answer_mirrored;
+use crate::level::Level;
+use crate::setting::MirrorSetting;
 use http_link::{AlwaysTells, Desk, Reply, Withheld};
 use http_wire::Message;
 use journal_follower::Follower;
@@ -13,15 +15,15 @@ use osm_outside::Witness;
 use route_table::Routes;
 use std::alloc::Global;
 use std::marker::Model;
-use user_table::UserTable;
 
-/// Answers messages over a follower that nobody else works on. Contracts see it as the users and the
+/// Answers messages over a follower that nobody else works on. Contracts see it as its setting and the
 /// follower's entries.
 #[derive(Drop)]
 pub struct MirrorDesk<'a> {
     follower: &'a mut Follower,
+    level: Level,
     routes: Routes,
-    users: &'a UserTable,
+    setting: &'a MirrorSetting,
 }
 
 impl<'a> Model for MirrorDesk<'a> {
@@ -29,7 +31,7 @@ impl<'a> Model for MirrorDesk<'a> {
 
     ghost Value = { AtMirror };
 
-    ghost view = { λ d. record { users = d.users.now; entries = d.follower.now } };
+    ghost view = { λ d. record { setting = d.setting.now; entries = d.follower.now } };
 }
 
 impl<'a> MirrorDesk<'a> {
@@ -37,15 +39,17 @@ impl<'a> MirrorDesk<'a> {
     pub fn new(
         alloc: Global,
         follower: &'a mut Follower,
-        users: &'a UserTable,
+        level: Level,
+        setting: &'a MirrorSetting,
     ) -> Result<MirrorDesk<'a>, Memory>
-        ensures { IfOk result (λ desk. desk ≡ record { users = users.now; entries = follower.old }) }
+        ensures { IfOk result (λ desk. desk ≡ record { setting = setting.now; entries = follower.old }) }
     {
         let routes = Routes::new(alloc)?;
         Ok(MirrorDesk {
             follower,
+            level,
             routes,
-            users,
+            setting,
         })
     }
 }
@@ -66,8 +70,9 @@ impl<'a> Desk for MirrorDesk<'a> {
         answer_mirrored(
             alloc,
             &self.routes,
-            self.users,
+            self.setting,
             self.follower,
+            &mut self.level,
             &message,
             moment,
         )

@@ -4,10 +4,10 @@ ghost use mathlib.Core.List.{IsPrefix};
 ghost use Rattle.osm_model.specs.Journal.{IsLegal};
 ghost use Rattle.osm_model.specs.declared.commands.Entry.{Entry};
 ghost use Rattle.http_link.specs.Exchange.{Exchange, Chain};
-ghost use Rattle.user_table.specs.Users.{Users};
 ghost use Rattle.replication_feed.specs.Piece.{IsFeed};
 ghost use Rattle.mirror_desk.specs.Desk.{AtMirror, Allows, MirrorHasServed};
 ghost use Rattle.mirror_desk.specs.Feeds.{PostsOf, FollowsJournal, ReachesPiece};
+ghost use Rattle.mirror_desk.specs.declared.setting.MirrorSetting.{MirrorSetting};
 
 use journal_follower::feeds_are_followed;
 use replication_feed::{pieces_replay, texts_tell_pieces};
@@ -16,17 +16,18 @@ use replication_feed::{pieces_replay, texts_tell_pieces};
 /// the ones before it left.
 pub fn mirror_serves()
     ensures { (old : AtMirror) (exchanges : List Exchange) (new : AtMirror) → Chain Allows old exchanges new
-        → (new.users ≡ old.users) × MirrorHasServed old.users old.entries exchanges new.entries }
+        → (new.setting ≡ old.setting) × MirrorHasServed old.setting old.entries exchanges new.entries }
 {}
 
 /// A mirror on whose link pieces of one legal journal are posted, and no piece of another one, has a
 /// beginning of that journal at last, if it had one at first. Pieces may be lost, come again and come
 /// in any order, and whatever else is asked between them.
 pub fn links_follow_journals()
-    ensures keeps { (users : Users) (journal old : List Entry) (exchanges : List Exchange) (new : List Entry) → IsLegal journal → IsFeed journal
-        → IsPrefix old journal → PostsOf users journal exchanges → MirrorHasServed users old exchanges new → FollowsJournal users journal old exchanges new }
-    ensures reaches { (users : Users) (journal old : List Entry) (exchanges : List Exchange) (new : List Entry) → IsLegal journal → IsFeed journal
-        → MirrorHasServed users old exchanges new → ReachesPiece users journal old exchanges new }
+    ensures keeps { (setting : MirrorSetting) (journal old : List Entry) (exchanges : List Exchange) (new : List Entry) → IsLegal journal → IsFeed journal
+        → IsPrefix old journal → PostsOf setting.users journal exchanges → MirrorHasServed setting old exchanges new
+        → FollowsJournal setting.users journal old exchanges new }
+    ensures reaches { (setting : MirrorSetting) (journal old : List Entry) (exchanges : List Exchange) (new : List Entry) → IsLegal journal → IsFeed journal
+        → MirrorHasServed setting old exchanges new → ReachesPiece setting.users journal old exchanges new }
 {
     feeds_are_followed();
     pieces_replay();

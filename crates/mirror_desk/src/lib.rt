@@ -10,11 +10,15 @@
 mod answers;
 mod desk;
 mod law;
+mod level;
 mod lines;
 mod pieces;
 mod replies;
 mod requests;
+mod setting;
 
 pub use answers::answer_mirrored;
 pub use desk::MirrorDesk;
 pub use law::{links_follow_journals, mirror_serves};
+pub use level::Level;
+pub use setting::MirrorSetting;

@@ -3,7 +3,7 @@
 //! The answer to a piece that is folded is made before the piece is taken, so that none is folded
 //! whose answer would be want of memory. Of a piece that comes to something else this makes one
 //! short text in vain; its own answer is made afterwards, when nothing has changed.
-ghost use Rattle.std.specs.Prelude.{◌≡◌, ℕ, ◌+◌, ◌≤◌, ◌<◌, ◌^◌, length, Some, IfOk, OnOk, OnErr};
+ghost use Rattle.std.specs.Prelude.{◌≡◌, ℕ, ◌+◌, ◌≤◌, ◌<◌, ◌^◌, Bool, length, Some, IfOk, OnOk, OnErr};
 ghost use Rattle.osm_base.specs.Status.{IsStatus};
 ghost use Rattle.http_link.specs.Desk.{counted_reply};
 ghost use Rattle.journal_follower.specs.Taken.{taken, after};
@@ -18,7 +18,7 @@ use replication_feed::{Piece, PieceFault, read_piece};
 use std::alloc::Global;
 
 /// The number of the piece that comes next.
-fn next_number(follower: &Follower) -> u64
+pub(crate) fn next_number(follower: &Follower) -> u64
     ensures next { result ≡ length follower.now + 1 }
     ensures room { result + 1 < 2 ^ 64 }
 {
@@ -50,7 +50,7 @@ pub(crate) fn answer_piece(
     follower: &mut Follower,
     body: &[u8],
 ) -> Result<Reply, Memory>
-    ensures answers { (moment : ℕ) → AnswersAsk follower.old moment (takes body.now) (counted_reply result) follower.new }
+    ensures answers { (is_held_back : Bool) (moment : ℕ) → AnswersAsk is_held_back follower.old moment (takes body.now) (counted_reply result) follower.new }
     ensures status { IfOk result (λ reply. IsStatus reply.status) }
 {
     match read_piece(alloc, body) {

@@ -2,7 +2,7 @@
 ghost use Rattle.std.specs.Prelude.{◌≡◌, ◌+◌, ◌≤◌, ◌++◌, length, decimal, Some, IfOk};
 ghost use Rattle.osm_base.specs.Status.{IsStatus};
 ghost use Rattle.journal_follower.specs.declared.answers.Taken.TheVariants.{Gap};
-ghost use Rattle.mirror_desk.specs.Answers.{read_only, not_piece, took, text_taken, status_taken, reply_of};
+ghost use Rattle.mirror_desk.specs.Answers.{read_only, not_piece, took, not_level, levelled, text_taken, status_taken, reply_of};
 
 use http_link::Reply;
 use itoa::Buffer;
@@ -13,6 +13,8 @@ use std::alloc::Global;
 const READ_ONLY: &[u8] = b"{\"error\":\"read_only\"}";
 
 const NOT_PIECE: &[u8] = b"{\"error\":\"not_piece\"}";
+
+const NOT_LEVEL: &[u8] = b"{\"error\":\"not_level\"}";
 
 // What stands before the first number of a text, between two numbers, and behind the last one.
 const NEXT: &[u8] = b"{\"next\":";
@@ -28,6 +30,8 @@ const GAP: &[u8] = b"{\"error\":\"gap\",\"next\":";
 const NUMBER: &[u8] = b",\"number\":";
 
 const ILLEGAL: &[u8] = b"{\"error\":\"illegal\",\"number\":";
+
+const LEVEL_NEXT: &[u8] = b"{\"level\":true,\"next\":";
 
 const CLOSING: &[u8] = b"}";
 
@@ -118,5 +122,27 @@ pub(crate) fn not_piece(alloc: Global) -> Result<Reply, Memory>
     Ok(Reply {
         status: 400,
         body: Bytes::of(alloc, NOT_PIECE)?,
+    })
+}
+
+/// The reply that tells that the mirror isn't known to be level.
+pub(crate) fn not_level(alloc: Global) -> Result<Reply, Memory>
+    ensures reply { IfOk result (λ reply. reply ≡ reply_of (Some not_level)) }
+    ensures status { IfOk result (λ reply. IsStatus reply.status) }
+{
+    Ok(Reply {
+        status: 503,
+        body: Bytes::of(alloc, NOT_LEVEL)?,
+    })
+}
+
+/// The reply that tells that the mirror counts as level, and which piece would come next.
+pub(crate) fn levelled(alloc: Global, next: u64) -> Result<Reply, Memory>
+    ensures reply { IfOk result (λ reply. reply ≡ reply_of (Some (levelled next))) }
+    ensures status { IfOk result (λ reply. IsStatus reply.status) }
+{
+    Ok(Reply {
+        status: 200,
+        body: numbered(alloc, LEVEL_NEXT, next, CLOSING)?,
     })
 }

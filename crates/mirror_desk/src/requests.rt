@@ -5,7 +5,7 @@
 //! is among them, since whoever posts pieces has them.
 ghost use Rattle.std.specs.Prelude.{ℕ, List, option_copied, IfErr};
 ghost use Rattle.desk_parts.specs.Faults.{HasShownFault};
-ghost use Rattle.mirror_desk.specs.Request.{forbidden_to, followed, asked_by_task, piece_from, asked_by, request_of};
+ghost use Rattle.mirror_desk.specs.Request.{forbidden_to, followed, asked_by_task, piece_from, level_from, asked_by, request_of};
 ghost use Rattle.mirror_desk.specs.Gives.{GivesAsked, GivesAsk};
 
 use crate::lines::{Line, line_of};
@@ -29,6 +29,8 @@ pub enum Request {
     State,
     /// To take the piece whose text the body is.
     Piece,
+    /// To count as level.
+    Level,
 }
 
 /// A call that a mirror doesn't take, where the caller says who it is.
@@ -47,6 +49,15 @@ fn piece_from(caller: Option<&User>) -> Result<Request, RequestFault>
 {
     let _user = known_moderator(caller)?;
     Ok(Request::Piece)
+}
+
+/// To count as level, where the caller is a moderator.
+fn level_from(caller: Option<&User>) -> Result<Request, RequestFault>
+    ensures gives { (body : List ℕ) → GivesAsked (level_from (option_copied caller.entry)) body result }
+    ensures shown { IfErr result HasShownFault }
+{
+    let _user = known_moderator(caller)?;
+    Ok(Request::Level)
 }
 
 /// What a call of the feed asks of a mirror.
@@ -84,6 +95,7 @@ fn asked_by(
 {
     match line {
         Line::Piece => piece_from(caller),
+        Line::Level => level_from(caller),
         Line::Served(call) => {
             let task = task_of(call, is_moderator(caller), large_from);
             asked_by_task(caller, task)

@@ -5,7 +5,8 @@ use denote.Param.Send.{sendable, IsSend}
 use denote.Param.SendFields.{FieldsHave, declared_send, as_row_send}
 use Rattle.route_table.proofs.Sendable.{routes_send}
 use Rattle.journal_follower.proofs.followers.Follower.TheSendSync as OfFollower
+use Rattle.mirror_desk.proofs.level.Level.TheSendSync as OfLevel
 use Rattle.mirror_serve.specs.contracts.one_mirror.Mirror as Mirror
 
 pub mirror_send : IsSend Mirror.the_row
-mirror_send = search (declared_send, as_row_send, OfFollower.the_send, routes_send, sendable) parts 8 depth 60 fits 20000
+mirror_send = search (declared_send, as_row_send, OfFollower.the_send, OfLevel.the_send, routes_send, sendable) parts 8 depth 60 fits 20000

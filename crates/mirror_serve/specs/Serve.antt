@@ -7,12 +7,12 @@ use Rattle.osm_model.specs.Journal.{IsLegal}
 use Rattle.http_link.specs.declared.end.LinkEnd.{LinkEnd}
 use Rattle.http_link.specs.Exchange.{Exchange}
 use Rattle.http_link.specs.Link.{TellsAll}
-use Rattle.user_table.specs.Users.{Users}
 use Rattle.mirror_desk.specs.Desk.{MirrorHasServed}
+use Rattle.mirror_desk.specs.declared.setting.MirrorSetting.{MirrorSetting}
 use Rattle.server_frame.specs.OnLink.{OnLinkWithin}
 
 -- The link was served to that end by a mirror that had no entries at first.
-pub record ServesMirror (users : Users) (before after : Told) (end : LinkEnd) : Type 0 where
+pub record ServesMirror (setting : MirrorSetting) (before after : Told) (end : LinkEnd) : Type 0 where
   -- the messages that were answered, with their moments and replies
   pub exchanges : List Exchange
   pub link : OnLinkWithin PIECE_LIMIT before after exchanges end
@@ -22,4 +22,4 @@ pub record ServesMirror (users : Users) (before after : Told) (end : LinkEnd) : 
   pub entries : List Entry
   pub legal : IsLegal entries
   -- each message was answered on the entries that the ones before it left; only a piece that is folded adds its entry
-  pub served : MirrorHasServed users [] exchanges entries
+  pub served : MirrorHasServed setting [] exchanges entries

@@ -5,8 +5,7 @@ ghost use Rattle.durable_log.specs.Held.{HoldsFrom};
 ghost use Rattle.journal_recovery.specs.declared.faults.TextFault.{TextFault};
 ghost use Rattle.osm_model.specs.Journal.{IsLegal};
 ghost use Rattle.osm_model.specs.declared.commands.Entry.{Entry};
-ghost use Rattle.mirror_serve.specs.Mirrors.{MirrorsKeptPorts};
-ghost use Rattle.mirror_serve.specs.Run.{RunsListenKept};
+ghost use Rattle.mirror_serve.specs.Run.{RunsListenKept, mirrors_kept};
 
 use crate::kept_ports::{Taken, mirror_kept_ports};
 use entry_file::{EntryLines, keep_all};
@@ -16,6 +15,7 @@ use journal_host::Journals;
 use journal_recovery::{EntryJudge, TextFault};
 use link_workers::Outcome;
 use map_machine::BookKeeper;
+use mirror_desk::MirrorSetting;
 use osm_model::Entry;
 use osm_outside::{Host, Link, Outside, Port, PortOutside};
 use recovered_start::{Begun, KeptJournal, begin_kept};
@@ -92,35 +92,48 @@ impl KeptJournal<Entry> for MirrorJournal {
 fn serve_handed<V: Device + Drop + Send, R: Threads + Wait + Sync, P: Port + Drop + Send>(
     rt: &R,
     alloc: Global,
-    users: &UserTable,
+    users: UserTable,
+    until_level: Option<u32>,
     taken: Taken<V>,
     ports: &mut Vec<P>,
 ) -> (Outcome, V)
     requires text { taken.file.text ≡ text_of taken.follower }
     requires holds { HoldsFrom text_of V.left_since taken.file.device (V.moment taken.file.device) (length taken.follower) taken.follower }
     requires fine { V.faults taken.file.device ≡ 0 }
-    ensures serves { MirrorsKeptPorts V.moment V.left_since V.faults taken.follower result.1 users.now
+    ensures serves { mirrors_kept V.moment V.left_since V.faults until_level taken.follower result.1 users
         (map P.told ports.old.items) (map P.told ports.new.items) result.0 }
     ensures count { vec_len ports.new ≡ vec_len ports.old }
 {
+    let setting = MirrorSetting::of(users, until_level);
     let opened = Opened::new();
     let receipts = Opened::new();
-    mirror_kept_ports::<Brand, Brand, V, R, P>(rt, alloc, taken, opened, receipts, users, ports)
+    mirror_kept_ports::<Brand, Brand, V, R, P>(
+        rt,
+        alloc,
+        taken,
+        opened,
+        receipts,
+        &setting,
+        until_level,
+        ports,
+    )
 }
 
 /// Reads the users of the text at their path, takes up the entries in the file at that one, and serves
-/// the links of ports at that address. A reply is sent only once the file holds what it tells of.
+/// the links of ports at that address, with a limit to how long the mirror counts as level, in seconds,
+/// or none. A reply is sent only once the file holds what it tells of.
 pub fn run_listen_kept<H: Host, J: Journals, R: Threads + Wait + Sync, L: Link>(
     rt: &R,
     alloc: Global,
     users: &str,
     listening: Listening<'_>,
     path: &str,
+    until_level: Option<u32>,
     host: &mut H,
     journals: &mut J,
     standard: &L,
 ) -> Exit
-    ensures { RunsListenKept J.File.moment J.File.left_since J.File.faults users.now listening.entry.address.now listening.entry.workers path.now
+    ensures { RunsListenKept J.File.moment J.File.left_since J.File.faults until_level users.now listening.entry.address.now listening.entry.workers path.now
         (J.told journals.old) (J.told journals.new) (H.told host.old) (H.told host.new) (L.told standard.now) (L.told standard.now) result }
 {
     match begin_kept::<R, Entry, MirrorJournal, H, J>(
@@ -137,7 +150,7 @@ pub fn run_listen_kept<H: Host, J: Journals, R: Threads + Wait + Sync, L: Link>(
                 follower: journal,
                 file,
             };
-            let (outcome, device) = serve_handed(rt, alloc, &users, taken, &mut ports);
+            let (outcome, device) = serve_handed(rt, alloc, users, until_level, taken, &mut ports);
             journals.back(device);
             close_ports(host, ports, outcome)
         }

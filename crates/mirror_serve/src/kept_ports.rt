@@ -11,13 +11,13 @@ use journal_file::{Device, JournalFile};
 use journal_follower::Follower;
 use kept_steps::{KeptList, serve_kept_ports};
 use link_workers::Outcome;
+use mirror_desk::MirrorSetting;
 use osm_model::Entry;
 use osm_outside::{Port, PortOutside};
 use shared_front::{HubName, Opened};
 use std::alloc::Global;
 use std::sync::Wait;
 use std::thread::Threads;
-use user_table::UserTable;
 
 /// A follower of the journal, and the file that its entries are kept in.
 #[derive(Drop)]
@@ -27,9 +27,10 @@ pub struct Taken<V: Device> {
 }
 
 /// Serves the links of the ports by a mirror that goes on from the entries of this file, under the names
-/// of its list and of its receipts, one worker a port, each in a thread of its own, until no port has a
-/// link to come or accepting fails. A reply is sent only once the file holds what it tells of. The ports
-/// come back in their order, and the file's device does.
+/// of its list and of its receipts, with a limit to how long it counts as level, in seconds, or none, one
+/// worker a port, each in a thread of its own, until no port has a link to come or accepting fails. A
+/// reply is sent only once the file holds what it tells of. The ports come back in their order, and the
+/// file's device does.
 pub fn mirror_kept_ports<
     N: HubName + Send + Sync,
     K: HubName + Send + Sync,
@@ -42,7 +43,8 @@ pub fn mirror_kept_ports<
     taken: Taken<V>,
     opened: Opened<Entry>,
     receipts: Opened<Receipt>,
-    users: &UserTable,
+    setting: &MirrorSetting,
+    until_level: Option<u32>,
     ports: &mut Vec<P>,
 ) -> (Outcome, V)
     requires named { opened ≡ N.book }
@@ -50,12 +52,12 @@ pub fn mirror_kept_ports<
     requires text { taken.file.text ≡ text_of taken.follower }
     requires holds { HoldsFrom text_of V.left_since taken.file.device (V.moment taken.file.device) (length taken.follower) taken.follower }
     requires fine { V.faults taken.file.device ≡ 0 }
-    ensures serves { MirrorsKeptPorts V.moment V.left_since V.faults taken.follower result.1 users.now
+    ensures serves { MirrorsKeptPorts V.moment V.left_since V.faults taken.follower result.1 setting.now
         (map P.told ports.old.items) (map P.told ports.new.items) result.0 }
     ensures count { vec_len ports.new ≡ vec_len ports.old }
 {
     let Taken { follower, file } = taken;
-    let Ok(mirror) = Mirror::of(alloc, follower) else {
+    let Ok(mirror) = Mirror::of(alloc, follower, until_level) else {
         return (Outcome::LacksMemory, file.into_device());
     };
     let kept = KeptList {
@@ -63,6 +65,6 @@ pub fn mirror_kept_ports<
         file,
     };
     serve_kept_ports::<N, K, Mirror, EntryLines, V, R, P>(
-        rt, alloc, kept, opened, receipts, users, ports,
+        rt, alloc, kept, opened, receipts, setting, ports,
     )
 }

@@ -8,6 +8,7 @@ mod link;
 mod one_mirror;
 mod ports;
 mod serve;
+mod standard;
 mod top;
 
 pub use link::serve_mirror;

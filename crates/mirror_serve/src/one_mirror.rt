@@ -4,35 +4,40 @@ ghost use Rattle.std.specs.Prelude.{◌≡◌, [], IfOk};
 use http_link::Reply;
 use http_wire::Message;
 use journal_follower::Follower;
-use mirror_desk::answer_mirrored;
+use mirror_desk::{Level, MirrorSetting, answer_mirrored};
 use osm_base::Memory;
 use osm_model::Entry;
 use route_table::Routes;
 use std::alloc::Global;
 use step_hub::Stepped;
-use user_table::UserTable;
 
-/// A follower of the journal, with the table of the routes.
+/// A follower of the journal, whether it is known to be level, and the table of the routes.
 #[derive(Drop)]
 pub struct Mirror {
     follower: Follower,
+    level: Level,
     routes: Routes,
 }
 
 impl Mirror {
-    /// A mirror that has no entry yet.
-    pub fn new(alloc: Global) -> Result<Mirror, Memory>
+    /// A mirror that has no entry yet, with a limit to how long it counts as level, in seconds, or none.
+    pub fn new(alloc: Global, until_level: Option<u32>) -> Result<Mirror, Memory>
         ensures { IfOk result (λ mirror. mirror.follower ≡ []) }
     {
-        Mirror::of(alloc, Follower::new(alloc))
+        Mirror::of(alloc, Follower::new(alloc), until_level)
     }
 
     /// A mirror that goes on from the entries of this follower.
-    pub fn of(alloc: Global, follower: Follower) -> Result<Mirror, Memory>
+    pub fn of(alloc: Global, follower: Follower, until_level: Option<u32>) -> Result<Mirror, Memory>
         ensures { IfOk result (λ mirror. mirror.follower ≡ follower) }
     {
+        let level = Level::new(until_level);
         let routes = Routes::new(alloc)?;
-        Ok(Mirror { follower, routes })
+        Ok(Mirror {
+            follower,
+            level,
+            routes,
+        })
     }
 }
 
@@ -44,13 +49,13 @@ impl Stepped for Mirror {
 
     type Entry = Entry;
 
-    type Setting = UserTable;
+    type Setting = MirrorSetting;
 
     ghost list = { λ mirror. mirror.follower };
 
     ghost legal = { λ entries. IsLegal entries };
 
-    ghost steps = { λ users old message moment reply new. MirrorAnswers users old message moment reply new };
+    ghost steps = { λ setting old message moment reply new. MirrorAnswers setting old message moment reply new };
 
     fn len(&self) -> usize {
         self.follower.book().journal().len()
@@ -71,19 +76,20 @@ impl Stepped for Mirror {
     fn answer(
         &mut self,
         alloc: Global,
-        users: &UserTable,
+        setting: &MirrorSetting,
         message: &Message,
         moment: u64,
     ) -> Result<Reply, Memory> {
         answer_mirrored(
             alloc,
             &self.routes,
-            users,
+            setting,
             &mut self.follower,
+            &mut self.level,
             message,
             moment,
         )
     }
 
-    ghost memory_leaves = { λ users entries message moment legal. record { told = None; row = refl; text = refl; grown = inl refl; legal = λ still. still } };
+    ghost memory_leaves = { λ setting entries message moment legal. record { told = None; row = refl; text = refl; grown = inl refl; legal = λ still. still } };
 }

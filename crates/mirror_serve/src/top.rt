@@ -5,11 +5,12 @@ ghost use Rattle.server_frame.specs.Exit.{TellsExit};
 ghost use Rattle.mirror_serve.specs.Run.{ComesTo, Runs};
 
 use crate::kept_mirror::run_listen_kept;
-use crate::serve::{MirrorServer, run_listen};
+use crate::serve::run_listen;
+use crate::standard::run_link;
 use journal_host::{Device, Journals};
 use osm_outside::{Host, Link, Outside};
 use osm_words::{MirrorWords, WordsFault, read_mirror_words};
-use server_frame::{Exit, Listening, run_standard};
+use server_frame::{Exit, Listening};
 use std::alloc::Global;
 use std::sync::Wait;
 use std::thread::Threads;
@@ -27,23 +28,34 @@ fn run_words<H: Host, J: Journals, R: Threads + Wait + Sync, L: Link>(
         (L.told standard.old) (L.told standard.new) result }
 {
     match words {
-        MirrorWords::Standard { users, at } => {
-            run_standard::<MirrorServer, H, R, L>(rt, alloc, users, at, host, standard)
-        }
+        MirrorWords::Standard {
+            users,
+            at,
+            until_level,
+        } => run_link(alloc, users, at, until_level, host, standard),
         MirrorWords::Listen {
             users,
             listen,
             workers,
             journal,
+            until_level,
         } => {
             let listening = Listening {
                 address: listen,
                 workers,
             };
             match journal {
-                None => run_listen(rt, alloc, users, listening, host, standard),
+                None => run_listen(rt, alloc, users, listening, until_level, host, standard),
                 Some(path) => run_listen_kept(
-                    rt, alloc, users, listening, path, host, journals, standard,
+                    rt,
+                    alloc,
+                    users,
+                    listening,
+                    path,
+                    until_level,
+                    host,
+                    journals,
+                    standard,
                 ),
             }
         }

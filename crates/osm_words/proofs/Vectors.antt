@@ -158,16 +158,16 @@ unknown = refl
 
 -- ---- of a mirror
 
-mirrored : mirror_reading_of (codes "osm_mirror" ∷ codes "--users" ∷ codes "u.txt" ∷ codes "--at" ∷ codes "7" ∷ []) ≡ Some (standard (codes "u.txt") (Some 7))
+mirrored : mirror_reading_of (codes "osm_mirror" ∷ codes "--users" ∷ codes "u.txt" ∷ codes "--at" ∷ codes "7" ∷ []) ≡ Some (standard (codes "u.txt") (Some 7) None)
 unfolding clap_on_literals
 mirrored = refl
 
-mirrored_by_the_clock : mirror_reading_of (codes "m" ∷ codes "--users=u" ∷ []) ≡ Some (standard (codes "u") None)
+mirrored_by_the_clock : mirror_reading_of (codes "m" ∷ codes "--users=u" ∷ []) ≡ Some (standard (codes "u") None None)
 unfolding clap_on_literals
 mirrored_by_the_clock = refl
 
 mirrored_at_ports : mirror_reading_of (codes "osm_mirror" ∷ codes "--workers" ∷ codes "8" ∷ codes "--users=u" ∷ codes "--listen=[::1]:0" ∷ [])
-    ≡ Some (listens (codes "u") (codes "[::1]:0") 8 None)
+    ≡ Some (listens (codes "u") (codes "[::1]:0") 8 None None)
 unfolding clap_on_literals
 mirrored_at_ports = refl
 
@@ -192,7 +192,7 @@ unfolding clap_on_literals
 mirror_of_too_many_workers = refl
 
 mirrored_until_the_input_ends : mirror_reading_of (codes "osm_mirror" ∷ codes "--until-input-ends" ∷ codes "--users=u" ∷ codes "--listen=l" ∷ codes "--workers=1" ∷ [])
-    ≡ Some (listens (codes "u") (codes "l") 1 None)
+    ≡ Some (listens (codes "u") (codes "l") 1 None None)
 unfolding clap_on_literals
 mirrored_until_the_input_ends = refl
 
@@ -201,7 +201,7 @@ unfolding clap_on_literals
 mirror_that_ends_anyhow = refl
 
 mirrored_into_a_journal : mirror_reading_of (codes "osm_mirror" ∷ codes "--users=u" ∷ codes "--listen=l" ∷ codes "--workers=1" ∷ codes "--journal" ∷ codes "j" ∷ [])
-    ≡ Some (listens (codes "u") (codes "l") 1 (Some (codes "j")))
+    ≡ Some (listens (codes "u") (codes "l") 1 (Some (codes "j")) None)
 unfolding clap_on_literals
 mirrored_into_a_journal = refl
 
@@ -212,6 +212,32 @@ mirrored_into_no_path = refl
 journal_of_the_standard_link : mirror_reading_of (codes "osm_mirror" ∷ codes "--users=u" ∷ codes "--journal=j" ∷ []) ≡ None
 unfolding clap_on_literals
 journal_of_the_standard_link = refl
+
+mirrored_while_level : mirror_reading_of (codes "osm_mirror" ∷ codes "--users=u" ∷ codes "--listen=l" ∷ codes "--workers=1" ∷ codes "--until-level" ∷ codes "5" ∷ codes "--journal=j" ∷ [])
+    ≡ Some (listens (codes "u") (codes "l") 1 (Some (codes "j")) (Some 5))
+unfolding clap_on_literals
+mirrored_while_level = refl
+
+mirrored_while_level_for_a_day : mirror_reading_of (codes "osm_mirror" ∷ codes "--users=u" ∷ codes "--until-level=086400" ∷ codes "--at=7" ∷ [])
+    ≡ Some (standard (codes "u") (Some 7) (Some 86400))
+unfolding clap_on_literals
+mirrored_while_level_for_a_day = refl
+
+level_for_more_than_a_day : mirror_reading_of (codes "osm_mirror" ∷ codes "--users=u" ∷ codes "--until-level=86401" ∷ []) ≡ None
+unfolding clap_on_literals
+level_for_more_than_a_day = refl
+
+level_for_no_time : mirror_reading_of (codes "osm_mirror" ∷ codes "--users=u" ∷ codes "--listen=l" ∷ codes "--workers=1" ∷ codes "--until-level=0" ∷ []) ≡ None
+unfolding clap_on_literals
+level_for_no_time = refl
+
+level_for_a_word : mirror_reading_of (codes "osm_mirror" ∷ codes "--users=u" ∷ codes "--until-level=5s" ∷ []) ≡ None
+unfolding clap_on_literals
+level_for_a_word = refl
+
+level_twice : mirror_reading_of (codes "osm_mirror" ∷ codes "--users=u" ∷ codes "--until-level=5" ∷ codes "--until-level=5" ∷ []) ≡ None
+unfolding clap_on_literals
+level_twice = refl
 
 mirror_with_a_command : mirror_reading_of (codes "osm_mirror" ∷ codes "pipe" ∷ codes "--users=u" ∷ []) ≡ None
 unfolding clap_on_literals

@@ -41,17 +41,19 @@ load_app name =
     (with_rule (with_rule (plain name) (option (codes "seed") true)) (option (codes "sessions") true))
     (option (codes "uploads") true)
 
--- `osm_mirror --users FILE [--at SECONDS] [--listen ADDRESS] [--workers N] [--until-input-ends] [--journal FILE]`
+-- `osm_mirror --users FILE [--at SECONDS] [--listen ADDRESS] [--workers N] [--until-input-ends] [--journal FILE] [--until-level SECONDS]`
 abbrev pub mirror_app : App
 mirror_app =
     with_rule
+    (with_rule
     (ending
     (with_rule
     (with_rule
     (with_rule (with_rule (plain (codes "osm_mirror")) (option (codes "users") true)) (option (codes "at") false))
     (option (codes "listen") false))
     (option (codes "workers") false)))
-    (option (codes "journal") false)
+    (option (codes "journal") false))
+    (option (codes "until-level") false)
 
 -- the matches, where there is no fault
 abbrev pub unless_faulty : Kinds → List Row → Option (List Row)

@@ -5,7 +5,7 @@ use Rattle.std.specs.List.{list_any}
 use Rattle.std.specs.Str.{bytes_eq}
 use Rattle.clap.specs.Words.{Row, Text, first_of}
 use Rattle.osm_base.specs.declared.limits.TheConstants.{SESSION_LIMIT}
-use Rattle.osm_words.specs.declared.words.TheConstants.{UPLOAD_LIMIT}
+use Rattle.osm_words.specs.declared.words.TheConstants.{UPLOAD_LIMIT, LEVEL_LIMIT}
 use Rattle.osm_words.specs.declared.words.LoadOptions.{LoadOptions}
 use Rattle.osm_words.specs.declared.words.Words.{Words}
 use Rattle.osm_words.specs.declared.words.Words.TheVariants.{Pipe, Serve, Measure, Export, Replay, Notes, ServeNotes}
@@ -126,40 +126,51 @@ reading_of words = if has_end_mark words then None else named_reading words
 
 -- what a mirror is to do, with its options
 pub data MirrorReading : Type 0 where
-  -- the path of the users text, and the moment at which the clock is fixed
-  standard : Text → Option ℕ → MirrorReading
-  -- the path of the users text, the address where links come, the number of workers, and the path of the journal
-  listens : Text → Text → ℕ → Option Text → MirrorReading
+  -- the path of the users text, the moment at which the clock is fixed, and for how many seconds it counts as level
+  standard : Text → Option ℕ → Option ℕ → MirrorReading
+  -- the path of the users text, the address where links come, the number of workers, the path of the journal, and for how many seconds it
+  -- counts as level
+  listens : Text → Text → ℕ → Option Text → Option ℕ → MirrorReading
 
 -- what was read, without where it lies in memory
 abbrev pub shown_mirror : MirrorWords → MirrorReading
-shown_mirror (Standard users at) = standard users.now at
-shown_mirror (Listen users listen workers journal) = listens users.now listen.now workers (option_map (λ path. path.now) journal)
+shown_mirror (Standard users at until_level) = standard users.now at until_level
+shown_mirror (Listen users listen workers journal until_level) =
+    listens users.now listen.now workers (option_map (λ path. path.now) journal) until_level
 
 -- the path of the journal may be missing, and has to be one where it isn't
-abbrev pub listens_with : Text → Text → ℕ → Option Text → Option MirrorReading
-listens_with users listen workers None = Some (listens users listen workers None)
-listens_with users listen workers (Some text) = option_map (λ path. listens users listen workers (Some path)) (text_of text)
+abbrev pub listens_with : Option ℕ → Text → Text → ℕ → Option Text → Option MirrorReading
+listens_with until_level users listen workers None = Some (listens users listen workers None until_level)
+listens_with until_level users listen workers (Some text) = option_map (λ path. listens users listen workers (Some path) until_level) (text_of text)
 
 -- The moment, the address, the workers and the journal: without the last three it is the standard link, with an address and workers and
 -- without a moment it listens.
-abbrev pub mirror_by : Text → Option Text → Option Text → Option Text → Option Text → Option MirrorReading
-mirror_by users None None None None = Some (standard users None)
-mirror_by users (Some text) None None None = option_map (λ at. standard users (Some at)) (whole_of text)
-mirror_by users None (Some address) (Some count) journal =
-    option_and_then (λ listen. option_and_then (λ workers. listens_with users listen workers journal) (number_in 1 SESSION_LIMIT count)) (text_of address)
-mirror_by users _ _ _ _ = None
+abbrev pub mirror_by : Option ℕ → Text → Option Text → Option Text → Option Text → Option Text → Option MirrorReading
+mirror_by until_level users None None None None = Some (standard users None until_level)
+mirror_by until_level users (Some text) None None None = option_map (λ at. standard users (Some at) until_level) (whole_of text)
+mirror_by until_level users None (Some address) (Some count) journal =
+    option_and_then (λ listen. option_and_then (λ workers. listens_with until_level users listen workers journal) (number_in 1 SESSION_LIMIT count)) (text_of address)
+mirror_by until_level users _ _ _ _ = None
 
 -- What doesn't listen isn't told to end with its input: it does so anyhow.
-abbrev pub mirror_until : Bool → Text → Option Text → Option Text → Option Text → Option Text → Option MirrorReading
-mirror_until true users at None workers journal = None
-mirror_until true users at (Some address) workers journal = mirror_by users at (Some address) workers journal
-mirror_until false users at listen workers journal = mirror_by users at listen workers journal
+abbrev pub mirror_until : Bool → Option ℕ → Text → Option Text → Option Text → Option Text → Option Text → Option MirrorReading
+mirror_until true until_level users at None workers journal = None
+mirror_until true until_level users at (Some address) workers journal = mirror_by until_level users at (Some address) workers journal
+mirror_until false until_level users at listen workers journal = mirror_by until_level users at listen workers journal
+
+-- For how many seconds a mirror counts as level may be missing, and is at most a day where it isn't.
+abbrev pub level_by : Option Text → Option (Option ℕ)
+level_by None = Some None
+level_by (Some text) = option_map (λ seconds. Some seconds) (number_in 1 LEVEL_LIMIT text)
+
+abbrev pub mirror_with : List Row → Option ℕ → Text → Option MirrorReading
+mirror_with rows until_level users =
+    mirror_until (is_set (first_of (codes "until-input-ends") rows)) until_level users (first_of (codes "at") rows) (first_of (codes "listen") rows)
+    (first_of (codes "workers") rows) (first_of (codes "journal") rows)
 
 abbrev pub mirror_of : List Row → Option MirrorReading
 mirror_of rows =
-    option_and_then (λ users. mirror_until (is_set (first_of (codes "until-input-ends") rows)) users (first_of (codes "at") rows) (first_of (codes "listen") rows)
-    (first_of (codes "workers") rows) (first_of (codes "journal") rows))
+    option_and_then (λ users. option_and_then (λ until_level. mirror_with rows until_level users) (level_by (first_of (codes "until-level") rows)))
     (option_and_then text_of (first_of (codes "users") rows))
 
 -- the reading of a mirror's words, the program's name first, whatever it is
@@ -204,5 +215,5 @@ HaveSessions other = ⊤
 
 -- the same of a mirror's workers, where there are any
 abbrev pub HaveWorkers : MirrorWords → Type 0
-HaveWorkers (Standard users at) = ⊤
-HaveWorkers (Listen users listen workers journal) = HasWorkers workers
+HaveWorkers (Standard users at until_level) = ⊤
+HaveWorkers (Listen users listen workers journal until_level) = HasWorkers workers

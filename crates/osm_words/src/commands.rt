@@ -85,8 +85,8 @@ pub fn load<'a>(alloc: Global, name: &'a str) -> Result<Command<'a>, AllocError>
     with_option(alloc, shared, "uploads", true)
 }
 
-/// `osm_mirror --users FILE`, and what a mirror may be told besides: `--at SECONDS`, or
-/// `--listen ADDRESS --workers N [--until-input-ends] [--journal FILE]`.
+/// `osm_mirror --users FILE [--until-level SECONDS]`, and what a mirror may be told besides:
+/// `--at SECONDS`, or `--listen ADDRESS --workers N [--until-input-ends] [--journal FILE]`.
 pub fn mirror<'a>(alloc: Global) -> Result<Command<'a>, AllocError>
     ensures { IfOk result (λ command. app_of command ≡ mirror_app) }
 {
@@ -95,7 +95,8 @@ pub fn mirror<'a>(alloc: Global) -> Result<Command<'a>, AllocError>
     let placed = with_option(alloc, timed, "listen", false)?;
     let manned = with_option(alloc, placed, "workers", false)?;
     let ending = with_flag(alloc, manned, "until-input-ends")?;
-    with_option(alloc, ending, "journal", false)
+    let kept = with_option(alloc, ending, "journal", false)?;
+    with_option(alloc, kept, "until-level", false)
 }
 
 /// Words that are refused have no reading, but for want of memory.

@@ -11,4 +11,6 @@ mod words;
 
 pub use given::{is_until_input_ends, words_of};
 pub use reading::{read_mirror_words, read_words};
-pub use words::{LoadOptions, MirrorWords, UPLOAD_LIMIT, UPLOADS_A_SESSION, Words, WordsFault};
+pub use words::{
+    LEVEL_LIMIT, LoadOptions, MirrorWords, UPLOAD_LIMIT, UPLOADS_A_SESSION, Words, WordsFault,
+};

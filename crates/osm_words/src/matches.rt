@@ -2,16 +2,17 @@
 //!
 //! A mirror's words have no command, and the address and the workers tell that it listens: both or
 //! none, and with them no moment, as the server's `serve` has none; only what listens may be told to
-//! end with its input, and may keep a journal. `clap` is told all six
-//! options of one simple command, and which of them stand together is looked at behind it.
-ghost use Rattle.std.specs.Prelude.{◌≡◌, ◌≤◌, IfSome, Some, None, option_map, option_and_then};
+//! end with its input, and may keep a journal. For how long it counts as level either may be told.
+//! `clap` is told all seven options of one simple command, and which of them stand together is looked
+//! at behind it.
+ghost use Rattle.std.specs.Prelude.{◌≡◌, ◌≤◌, IfSome, Some, None, codes, option_map, option_and_then};
 ghost use Rattle.clap.specs.Words.{first_of, found_of, rows_of};
 ghost use Rattle.osm_words.specs.Values.{is_set, text_of, number_in};
 ghost use Rattle.osm_base.specs.Number.{whole_of};
-ghost use Rattle.osm_words.specs.Words.{HasSessions, HaveSessions, HaveWorkers, shown, shown_mirror, pipe_of, serve_of, load_of, mirror_by, mirror_of};
+ghost use Rattle.osm_words.specs.Words.{HasSessions, HaveSessions, HaveWorkers, shown, shown_mirror, pipe_of, serve_of, load_of, level_by, mirror_by, mirror_of};
 
 use crate::values::{checked, fitting, is_text};
-use crate::words::{LoadOptions, MirrorWords, UPLOAD_LIMIT, Words};
+use crate::words::{LEVEL_LIMIT, LoadOptions, MirrorWords, UPLOAD_LIMIT, Words};
 use clap::ArgMatches;
 use osm_base::{SESSION_LIMIT, whole_number};
 
@@ -103,12 +104,26 @@ pub fn load_of(matches: &ArgMatches<'_>) -> Option<LoadOptions>
     fitting(seed, sessions, uploads)
 }
 
-fn standard_at<'a>(users: &'a str, at: &str) -> Option<MirrorWords<'a>>
-    ensures value { option_map shown_mirror result ≡ mirror_by users.entry.now (Some at.now) None None None }
+/// For how many seconds a mirror counts as level, where the option is given.
+fn level_at(matches: &ArgMatches<'_>) -> Option<Option<u32>>
+    ensures { result ≡ level_by (first_of (codes "until-level") (rows_of (found_of matches.now))) }
+{
+    match value_of(matches, "until-level") {
+        Some(text) => Some(Some(checked(whole_number(text)?, 1, LEVEL_LIMIT)?)),
+        None => Some(None),
+    }
+}
+
+fn standard_at<'a>(users: &'a str, at: &str, until_level: Option<u32>) -> Option<MirrorWords<'a>>
+    ensures value { option_map shown_mirror result ≡ mirror_by until_level users.entry.now (Some at.now) None None None }
     ensures workers { IfSome result HaveWorkers }
 {
     let at = Some(whole_number(at)?);
-    Some(MirrorWords::Standard { users, at })
+    Some(MirrorWords::Standard {
+        users,
+        at,
+        until_level,
+    })
 }
 
 fn listen_at<'a>(
@@ -116,9 +131,10 @@ fn listen_at<'a>(
     listen: &'a str,
     count: &str,
     journal: Option<&'a str>,
+    until_level: Option<u32>,
 ) -> Option<MirrorWords<'a>>
     ensures value { option_map shown_mirror result
-        ≡ mirror_by users.entry.now None (Some listen.entry.now) (Some count.now) (option_map (λ path. path.now) journal.entry) }
+        ≡ mirror_by until_level users.entry.now None (Some listen.entry.now) (Some count.now) (option_map (λ path. path.now) journal.entry) }
     ensures workers { IfSome result HaveWorkers }
 {
     if !is_text(listen) {
@@ -134,6 +150,7 @@ fn listen_at<'a>(
         listen,
         workers,
         journal,
+        until_level,
     })
 }
 
@@ -143,6 +160,7 @@ pub fn mirror_of<'a>(matches: &ArgMatches<'a>) -> Option<MirrorWords<'a>>
     ensures workers { IfSome result HaveWorkers }
 {
     let users = text_at(matches, "users")?;
+    let until_level = level_at(matches)?;
     let at = value_of(matches, "at");
     let listen = value_of(matches, "listen");
     let workers = value_of(matches, "workers");
@@ -151,9 +169,15 @@ pub fn mirror_of<'a>(matches: &ArgMatches<'a>) -> Option<MirrorWords<'a>>
     }
     let journal = value_of(matches, "journal");
     match (at, listen, workers, journal) {
-        (None, None, None, None) => Some(MirrorWords::Standard { users, at: None }),
-        (Some(at), None, None, None) => standard_at(users, at),
-        (None, Some(listen), Some(count), journal) => listen_at(users, listen, count, journal),
+        (None, None, None, None) => Some(MirrorWords::Standard {
+            users,
+            at: None,
+            until_level,
+        }),
+        (Some(at), None, None, None) => standard_at(users, at, until_level),
+        (None, Some(listen), Some(count), journal) => {
+            listen_at(users, listen, count, journal, until_level)
+        }
         _ => None,
     }
 }

@@ -9,7 +9,12 @@ pub const UPLOADS_A_SESSION: u32 = 909;
 /// The most uploads of a generated load.
 pub const UPLOAD_LIMIT: u32 = 58_176;
 
+/// The most seconds for which a mirror counts as level without a word: a day.
+pub const LEVEL_LIMIT: u32 = 86_400;
+
 // A limit that is changed by mistake is refused here.
+const _: () = prove!(LEVEL_LIMIT == 86_400);
+
 const _: () = prove!(UPLOADS_A_SESSION == 909);
 
 const _: () = prove!(UPLOAD_LIMIT == SESSION_LIMIT * UPLOADS_A_SESSION);
@@ -61,13 +66,16 @@ pub enum Words<'a> {
     },
 }
 
-/// What a mirror is to do.
+/// What a mirror is to do. Where it is given for how many seconds it counts as level, from 1 to
+/// `LEVEL_LIMIT`, reads are answered only from the moment on that it is said to be level, and as long
+/// as no more seconds go by without a word of whoever may post pieces.
 #[derive(Clone, Copy)]
 pub enum MirrorWords<'a> {
     /// To serve the standard link, as `Words::Pipe`.
     Standard {
         users: &'a str,
         at: Option<u64>,
+        until_level: Option<u32>,
     },
     /// To serve the links that come to an address, as `Words::Serve`. Where there is a path of a
     /// journal, the mirror goes on from the entries that this file tells of, and each entry that it
@@ -77,6 +85,7 @@ pub enum MirrorWords<'a> {
         listen: &'a str,
         workers: u32,
         journal: Option<&'a str>,
+        until_level: Option<u32>,
     },
 }
 

@@ -2,8 +2,9 @@ use Rattle.mirror_desk.proofs.Rows.{piece_taken, none_taken}
 use Rattle.mirror_desk.proofs.pieces.answer_piece.Goals as goal
 
 pub returns-in-Ok-clause-answers : goal.returns-in-Ok-clause-answers
-returns-in-Ok-clause-answers c = λ moment.
+returns-in-Ok-clause-answers c = λ is_held_back moment.
     piece_taken
+    is_held_back
     c.args.follower.now
     moment
     c.args.body.now
@@ -16,5 +17,5 @@ returns-in-Ok-clause-answers c = λ moment.
     c.take_piece.ensures.memory
 
 pub returns-in-Err-NotPiece-clause-answers : goal.returns-in-Err-NotPiece-clause-answers
-returns-in-Err-NotPiece-clause-answers c = λ moment.
-    none_taken c.args.follower.now moment c.args.body.now c.not_piece.result (rw c.in-Err-NotPiece.field-0-is at c.in-Err-NotPiece.ensures.all) c.not_piece.ensures.reply
+returns-in-Err-NotPiece-clause-answers c = λ is_held_back moment.
+    none_taken is_held_back c.args.follower.now moment c.args.body.now c.not_piece.result (rw c.in-Err-NotPiece.field-0-is at c.in-Err-NotPiece.ensures.all) c.not_piece.ensures.reply

@@ -16,7 +16,7 @@ returns-clause-serves g c =
     let V = g.V.Device in
     let told = g.P.PortOutside.told in
     subst
-    (λ (journal : List Entry). MirrorsKeptPorts V.moment V.left_since V.faults journal c.serve_kept_ports.result.1 c.args.users.now
+    (λ (journal : List Entry). MirrorsKeptPorts V.moment V.left_since V.faults journal c.serve_kept_ports.result.1 c.args.setting.now
     (map told c.args.ports.now.items) (map told c.serve_kept_ports.new.ports.items) c.serve_kept_ports.result.0)
     c.in-Ok.ensures c.serve_kept_ports.ensures.serves
 
