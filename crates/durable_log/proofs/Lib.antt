@@ -1,2 +1,3 @@
 mod Holding
+mod LineEach
 mod ReceiptLemmas

@@ -1,8 +1,17 @@
 -- What a file holds of a list of entries that only grows.
-use Rattle.std.specs.Prelude.{◌≡◌, ℕ, ◌≤◌, List, length, take}
+use Rattle.std.specs.Prelude.{◌≡◌, ℕ, ◌≤◌, List, ◌∷◌, ◌++◌, length, take}
+use Rattle.std.specs.List.{AllByRecursion}
 use mathlib.Core.List.{IsPrefix}
 use Rattle.journal_file.specs.Settled.{IsDamaged}
-use Rattle.journal_file.specs.Whole.{text_of}
+use Rattle.journal_file.specs.Whole.{text_of, AreLines, IsOneLine}
+
+-- Each of these entries has a line that begins with `{`, and has no byte 10 or 0 in it.
+abbrev pub HaveOneLine : {E : Type 0} → (E → List ℕ) → List E → Type 0
+HaveOneLine line entries = AllByRecursion (λ e. (rest : List ℕ) × (line e ≡ 123 ∷ rest) × IsOneLine rest) entries
+
+-- A front of whole lines of these entries is the lines of the first of them: each has one line.
+abbrev pub HaveALineEach : {E : Type 0} → (List E → List ℕ) → List E → Type 0
+HaveALineEach lines entries = (some rest : List ℕ) → AreLines some → lines entries ≡ some ++ rest → (count : ℕ) × (count ≤ length entries) × (some ≡ lines (take count entries))
 
 -- over how a journal is written
 module _ {E : Type 0} (text : List E → List ℕ) where

@@ -1,10 +1,11 @@
 //! Entries that a file gets behind those that it holds.
-ghost use Rattle.std.specs.Prelude.{◌≡◌, ◌≤◌, ◌+◌, ◌^◌, ◌++◌, ℕ, true, false, List, length, OnOk, IsErrOf};
-ghost use Rattle.durable_log.specs.Held.{HoldsFrom};
+ghost use Rattle.std.specs.Prelude.{◌≡◌, ◌≤◌, ◌+◌, ◌^◌, ◌++◌, ℕ, true, false, List, length, IfOk, OnOk, IsErrOf};
+ghost use Rattle.durable_log.specs.Held.{HaveALineEach, HoldsFrom};
 ghost use Rattle.durable_log.specs.declared.keeping.KeepFault.{KeepFault};
+ghost use Rattle.journal_file.specs.Whole.{whole, IsBatch};
 
 use crate::writing::Lines;
-use journal_file::{AppendFault, Device, JournalFile};
+use journal_file::{AppendFault, Device, JournalFile, batch_law};
 use osm_base::Memory;
 use std::alloc::Global;
 
@@ -34,6 +35,18 @@ impl From<Memory> for KeepFault {
     }
 }
 
+/// The lines of the entries, and an empty one behind them.
+fn batch_of<E, T: Lines<E>>(alloc: Global, entries: &[E]) -> Result<Vec<u8>, Memory>
+    ensures batch { IfOk result (λ batch. IsBatch batch.items) }
+    ensures lines { IfOk result (λ batch. whole batch.items ≡ T.lines entries.now) }
+    ensures each { OnOk result (HaveALineEach T.lines entries.now) }
+{
+    batch_law();
+    let mut batch = T::lines_behind(Vec::new(alloc), entries)?;
+    batch.push(b'\n')?;
+    Ok(batch)
+}
+
 /// Has the file hold these entries behind those that it holds. At `Ok` every crash from then on
 /// leaves all of them. At each moment before, and after a fault too, a crash leaves a beginning of
 /// them that has at least what each moment before promised.
@@ -50,12 +63,12 @@ pub fn keep<E, T: Lines<E>, D: Device>(
     ensures time { D.moment file.old.device ≤ D.moment file.new.device }
     ensures going { OnOk result ((file.old.broken ≡ false) × (file.new.broken ≡ false)) }
     ensures memory { IsErrOf result KeepFault.Memory → file.new ≡ file.old }
-    ensures full { IsErrOf result KeepFault.Full → (file.new ≡ file.old) × (2 ^ 62 ≤ length file.old.text) }
+    ensures full { IsErrOf result KeepFault.Full → (file.new ≡ file.old) × (2 ^ 62 ≤ length (D.seen file.old.device)) }
     ensures matched { IsErrOf result KeepFault.Mismatched → ⊥ }
     ensures failed { IsErrOf result KeepFault.File → file.new.broken ≡ true }
 {
-    let lines = T::lines_behind(Vec::new(alloc), entries)?;
-    match file.append(&lines) {
+    let batch = batch_of::<E, T>(alloc, entries)?;
+    match file.append(&batch) {
         Ok(()) => {
             file.law();
             Ok(())

@@ -4,12 +4,14 @@
 
 mod board;
 mod keeping;
+mod laws;
 mod shelf;
 mod told;
 mod writing;
 
 pub use board::{Behind, Board, SourceFault, receipts_for};
 pub use keeping::{KeepFault, keep};
+pub use laws::lines_law;
 pub use receipts::{Moment, Receipt};
 pub use shelf::{Shelf, receipts_stay};
 pub use told::Told;

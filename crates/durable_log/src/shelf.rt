@@ -4,11 +4,12 @@ ghost use mathlib.Core.List.{IsPrefix};
 ghost use Rattle.durable_log.specs.Held.{HoldsFrom};
 ghost use Rattle.durable_log.specs.Receipts.{AreKept, last_count, shelved};
 ghost use Rattle.durable_log.specs.declared.keeping.KeepFault.{KeepFault};
+ghost use Rattle.journal_file.specs.Settled.{IsSealed};
 ghost use Rattle.receipts.specs.declared.receipt.Receipt.{Receipt};
 
 use crate::keeping::{KeepFault, keep};
 use crate::writing::Lines;
-use journal_file::{Device, JournalFile};
+use journal_file::{AppendFault, Device, JournalFile};
 use receipts::{Moment, Receipt};
 use shared_front::{Front, HubName, Tail};
 use std::alloc::Global;
@@ -143,7 +144,7 @@ impl<N: HubName, K: HubName, E, T: Lines<E>, D: Device> Shelf<N, K, E, T, D> {
         ensures entries { IsPrefix self.old.entries self.new.entries }
         ensures memory { IsErrOf result KeepFault.Memory → self.new ≡ self.old }
         ensures full { IsErrOf result KeepFault.Full → (self.new ≡ self.old)
-            × ((2 ^ 61 ≤ length self.old.receipts) ⊎ (2 ^ 62 ≤ length (T.text self.old.entries))) }
+            × ((2 ^ 61 ≤ length self.old.receipts) ⊎ (2 ^ 62 ≤ length (D.seen self.old.device))) }
         ensures failed { IsErrOf result KeepFault.File → self.new.broken ≡ true }
         // What every crash left of the list from a moment on, it leaves from then on still.
         ensures time { D.moment self.old.device ≤ D.moment self.new.device }
@@ -173,6 +174,30 @@ impl<N: HubName, K: HubName, E, T: Lines<E>, D: Device> Shelf<N, K, E, T, D> {
                 self.front = longer;
                 Err(KeepFault::File)
             }
+        }
+    }
+
+    /// Has the file tell from now on where a byte of its last batch is lost, by two empty lines behind it.
+    /// A stop does so as the last thing. Where a call of the device fails, the shelf is broken.
+    pub fn seal(&mut self) -> Result<(), KeepFault>
+        ensures sealed { OnOk result (IsSealed (T.text self.old.entries) (D.seen self.old.device) (D.seen self.new.device)) }
+        ensures entries { self.new.entries ≡ self.old.entries }
+        ensures receipts { self.new.receipts ≡ self.old.receipts }
+        ensures going { OnOk result (self.new.broken ≡ false) }
+        ensures full { IsErrOf result KeepFault.Full → (self.new ≡ self.old) × (2 ^ 62 ≤ length (D.seen self.old.device)) }
+        ensures failed { IsErrOf result KeepFault.File → self.new.broken ≡ true }
+        // What every crash left of the list from a moment on, it leaves from then on still.
+        ensures time { D.moment self.old.device ≤ D.moment self.new.device }
+        ensures stays { (t k : ℕ) → k ≤ length self.old.entries → t ≤ D.moment self.old.device → HoldsFrom T.text D.left_since self.old.device t k self.old.entries
+            → HoldsFrom T.text D.left_since self.new.device t k self.old.entries }
+    {
+        if self.file.is_broken() {
+            return Err(KeepFault::File);
+        }
+        match self.file.seal() {
+            Ok(()) => Ok(()),
+            Err(AppendFault::Full) => Err(KeepFault::Full),
+            Err(AppendFault::Failed) => Err(KeepFault::File),
         }
     }
 

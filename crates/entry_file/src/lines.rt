@@ -1,5 +1,5 @@
 //! How the entries of the map's journal are written.
-use durable_log::Lines;
+use durable_log::{Lines, lines_law};
 use journal_text::{lines_are_plain, lines_behind};
 use osm_base::Memory;
 use osm_model::Entry;
@@ -17,6 +17,7 @@ impl Lines<Entry> for EntryLines {
 
     fn lines_behind(bytes: Vec<u8>, entries: &[Entry]) -> Result<Vec<u8>, Memory> {
         lines_are_plain();
+        lines_law::<Entry>();
         let longer = lines_behind(bytes, entries)?;
         Ok(longer)
     }

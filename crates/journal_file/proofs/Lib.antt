@@ -1,7 +1,9 @@
-mod Behind
+mod Crashes
 mod Cuts
-mod Gates
+mod Ends
+mod Lines
+mod Lost
+mod Mixes
 mod Moments
-mod Quiet
-mod Repair
-mod WholeLines
+mod OneLine
+mod Scans

@@ -1,18 +1,21 @@
 -- What the calls of a device do to its file, and what a crash may do between two syncs.
-use Rattle.std.specs.Prelude.{◌<◌, ◌≡◌, ◌⊎◌, ℕ, ◌+◌, ◌≤◌, max, List, ◌++◌, length, take, drop, get_or, Result, IsErr, OnOk}
+use Rattle.std.specs.Prelude.{◌<◌, ◌≡◌, ◌⊎◌, ℕ, ◌+◌, ◌-◌, ◌≤◌, List, ◌++◌, length, get_or, take, drop, replicate, Result, IsErr, OnOk}
 use Rattle.journal_file.specs.declared.device.DeviceFailed.{DeviceFailed}
 
 -- new is old with these bytes from this place on
 abbrev pub Holds : List ℕ → ℕ → List ℕ → List ℕ → Type 0
 Holds old at bytes new = new ≡ take at old ++ bytes ++ drop (at + length bytes) old
 
--- after a write of these bytes that a crash cuts short: any bytes in its range and past the old end, the same elsewhere; but where one byte
--- alone was written over another, the old one or the new one
-pub record Torn (at : ℕ) (bytes old new : List ℕ) : Type 0 where
-  pub no_shorter : length old ≤ length new
-  pub no_longer : length new ≤ max (length old) (at + length bytes)
-  pub outside : (i : ℕ) → i < length old → (i < at) ⊎ (at + length bytes ≤ i) → get_or new i 0 ≡ get_or old i 0
-  pub alone : length bytes ≡ 1 → at < length old → (get_or new at 0 ≡ get_or old at 0) ⊎ (get_or new at 0 ≡ get_or bytes 0 0)
+-- after a write of these bytes that a crash cuts short: at each of its places the old byte or the written one, the same elsewhere
+pub record Mixed (at : ℕ) (bytes old new : List ℕ) : Type 0 where
+  pub size : length new ≡ length old
+  pub each : (i : ℕ) → (get_or new i 0 ≡ get_or old i 0) ⊎ ((at ≤ i) × (i < at + length bytes) × (get_or new i 0 ≡ get_or bytes (i - at) 0))
+
+-- after so many zeros were laid by, which a crash cuts short: some of them, behind what was there
+pub record Laid (count : ℕ) (old new : List ℕ) : Type 0 where
+  pub some : ℕ
+  pub within : some ≤ count
+  pub is : new ≡ old ++ replicate some 0
 
 -- after a cut: some length between
 pub record Cut (n : ℕ) (old new : List ℕ) : Type 0 where

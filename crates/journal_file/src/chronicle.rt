@@ -1,7 +1,7 @@
 //! What was asked of a file, for contracts alone.
 ghost use Rattle.std.specs.Prelude.{◌≡◌};
 ghost use Rattle.std.specs.Borrow.{ftrue};
-ghost use Rattle.journal_file.specs.History.{History, Wrote, TriedToWrite, CutTo, TriedToCut, Synced, TriedToSync, opened, called};
+ghost use Rattle.journal_file.specs.History.{History, Wrote, TriedToWrite, LaidBy, TriedToLayBy, CutTo, TriedToCut, Synced, TriedToSync, opened, called};
 
 use std::marker::{Model, Send};
 
@@ -63,6 +63,20 @@ impl Chronicle {
         ensures { result.history ≡ called self.now.history (TriedToWrite at bytes.now) }
     {
         self.beside(at, bytes)
+    }
+
+    /// And then so many zeros were laid by.
+    pub(crate) fn laid_by(&self, count: usize) -> Chronicle
+        ensures { result.history ≡ called self.now.history (LaidBy count) }
+    {
+        self.beside(count, &[])
+    }
+
+    /// And then laying by so many zeros failed.
+    pub(crate) fn tried_to_lay_by(&self, count: usize) -> Chronicle
+        ensures { result.history ≡ called self.now.history (TriedToLayBy count) }
+    {
+        self.beside(count, &[])
     }
 
     /// And then the file was cut to that length.

@@ -1,16 +1,16 @@
 //! A file as its writer sees it: what a read would return, and what a crash may leave.
-ghost use Rattle.std.specs.Prelude.{◌≡◌, ◌≤◌, List, ℕ, length, take, OnOk};
-ghost use Rattle.journal_file.specs.Device.{Only, Follows, Torn, Cut, Holds, Elapses, HasCause};
+ghost use Rattle.std.specs.Prelude.{◌≡◌, ◌≤◌, ◌+◌, ◌++◌, List, ℕ, length, take, replicate, OnOk};
+ghost use Rattle.journal_file.specs.Device.{Only, Follows, Mixed, Laid, Cut, Holds, Elapses, HasCause};
 
 /// A call of the device failed. What it did to the file is unknown.
 #[derive(Clone, Copy, PartialEq, Eq)]
 pub struct DeviceFailed;
 
 /// A file that one writer has open. Its calls change it at once for readers, and for good with the
-/// next `sync`; until then a crash may leave anything in what they touch.
+/// next `sync`; until then a crash may leave of each what its clause `crash` says.
 pub trait Device {
-    /// How many bytes of room are laid by at once behind the closed gate, or 0: none. Where a write goes
-    /// past the end of a file, each sync has to put its new length on the disk too.
+    /// How many zeros are laid by at once beyond what is asked for. Where a write goes past the end of a
+    /// file, each sync has to put its new length on the disk too.
     const ROOM: usize;
 
     // The bytes that a read would return.
@@ -28,14 +28,23 @@ pub trait Device {
     // How often a call has failed.
     ghost faults: { Self → ℕ };
 
-    /// Writes over what is there, and past the end. Until a sync, a crash may leave any bytes in the
-    /// range; but where one byte alone was written over another, it leaves the old one or the new one. It
-    /// leaves the bytes before and behind the range, also where they share a sector: a disk has to put
-    /// back what it rewrites. No room between lines could do without that, since the text has none.
+    /// Writes over what is there. Until a sync, a crash may leave at each place of the range the byte that
+    /// was there or the one that was written, in any mixture, and the same bytes before and behind it,
+    /// also where they share a sector. Nothing is said of a write past what each crash leaves.
     fn write_at(&mut self, at: usize, bytes: &[u8]) -> Result<(), DeviceFailed>
-        requires { at ≤ length (seen self.old) }
+        requires inside { at + length bytes.now ≤ length (seen self.old) }
+        requires on_disk { (c : List ℕ) → may_leave self.old c → at + length bytes.now ≤ length c }
         ensures written { OnOk result (Holds (seen self.old) at bytes.now (seen self.new)) }
-        ensures crash { Follows (Torn at bytes.now) (may_leave self.old) (may_leave self.new) }
+        ensures crash { Follows (Mixed at bytes.now) (may_leave self.old) (may_leave self.new) }
+        ensures time { Elapses (moment self.old) (moment self.new) (left_since self.old) (left_since self.new) (may_leave self.new) }
+        ensures cause { HasCause (faults self.old) (faults self.new) result };
+
+    /// Lays by so many zeros behind the end. Until a sync, a crash may leave some of them: the file has any
+    /// length between, and zeros where it is longer.
+    fn lay_by(&mut self, end: usize, count: usize) -> Result<(), DeviceFailed>
+        requires { end ≡ length (seen self.old) }
+        ensures laid { OnOk result (seen self.new ≡ seen self.old ++ replicate count 0) }
+        ensures crash { Follows (Laid count) (may_leave self.old) (may_leave self.new) }
         ensures time { Elapses (moment self.old) (moment self.new) (left_since self.old) (left_since self.new) (may_leave self.new) }
         ensures cause { HasCause (faults self.old) (faults self.new) result };
 

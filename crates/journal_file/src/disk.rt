@@ -1,10 +1,9 @@
 //! A file of the system, as a device.
 ghost use Rattle.std.specs.Prelude.{◌≡◌, IfOk};
-ghost use Rattle.journal_file.specs.History.{opened, called, Wrote, TriedToWrite, CutTo, TriedToCut, Synced, TriedToSync};
+ghost use Rattle.journal_file.specs.History.{opened, called, Wrote, TriedToWrite, LaidBy, TriedToLayBy, CutTo, TriedToCut, Synced, TriedToSync};
 
 use crate::chronicle::Chronicle;
 use crate::device::{Device, DeviceFailed};
-use crate::text::CLOSED;
 use std::alloc::{AllocError, Global};
 use std::fs::{self, File, OpenOptions};
 use std::io::{self, ErrorKind, Read, Write};
@@ -90,6 +89,19 @@ impl Device for DiskFile {
         }
     }
 
+    fn lay_by(&mut self, end: usize, count: usize) -> Result<(), DeviceFailed> {
+        match write_zeros(&self.file, end, count) {
+            Ok(()) => {
+                self.chronicle = self.chronicle.laid_by(count);
+                Ok(())
+            }
+            Err(_) => {
+                self.chronicle = self.chronicle.tried_to_lay_by(count);
+                Err(DeviceFailed)
+            }
+        }
+    }
+
     fn cut(&mut self, len: usize) -> Result<(), DeviceFailed> {
         match self.file.set_len(len as u64) {
             Ok(()) => {
@@ -119,6 +131,23 @@ impl Device for DiskFile {
     ghost counts_now = { λ h t c le left. counts_now h.first h.calls t c left };
 
     ghost only_now = { λ h c left. only_now h.first h.calls c left };
+}
+
+/// What is written in one call where zeros are laid by.
+static ZEROS: [u8; 65_536] = [0; 65_536];
+
+/// Writes so many zeros from a place on. A file that were only made longer would have its blocks given
+/// by the syncs of later batches, which then cost as much as if it grew.
+fn write_zeros(file: &File, from: usize, count: usize) -> Result<(), io::Error> {
+    let mut at = from;
+    let mut left = count;
+    'laying: while left > 0 {
+        let block = ZEROS.len().min(left);
+        file.write_all_at(&ZEROS[..block], at as u64)?;
+        at = at.saturating_add(block);
+        left -= block;
+    }
+    Ok(())
 }
 
 /// Has what a read returns be what is on the disk: syncs the file, and drops the kernel's copies of
@@ -155,10 +184,10 @@ pub fn open<F: Files<File = File>>(
     Ok((DiskFile { file, chronicle }, bytes))
 }
 
-/// Makes a file at this path, where there is none, with this header and a closed gate. It is written
-/// under another name, with `.new` behind it, and gets its own once it is on the disk: a crash leaves
-/// a whole file or none. A file that has the name already stays, and so it does where two make it at
-/// once: a link doesn't replace a name, as renaming would.
+/// Makes a file at this path, where there is none, with this header. It is written under another name,
+/// with `.new` behind it, and gets its own once it is on the disk: a crash leaves a whole file or none.
+/// A file that has the name already stays, and so it does where two make it at once: a link doesn't
+/// replace a name, as renaming would.
 pub fn create<F: Files<File = File>>(
     files: &F,
     alloc: Global,
@@ -200,17 +229,15 @@ fn leave<F: Files<File = File>>(files: &F, file: &File, new: &str) -> Result<(),
     Ok(())
 }
 
-/// Writes the header and a closed gate in place of what a creation that was cut short left, and has
-/// them be on the disk.
+/// Writes the header in place of what a creation that was cut short left, and has it be on the disk.
 fn begin(file: &mut File, header: &[u8]) -> Result<(), DiskFault> {
-    // No such creation leaves more. It is somebody's file, or the second name of a journal that was
-    // moved away.
+    // No such creation leaves more, and one of an older version a byte `#` more. It is somebody's file,
+    // or the second name of a journal that was moved away.
     if file.metadata()?.len() > header.len() as u64 + 1 {
         return Err(DiskFault::Unfit);
     }
     file.set_len(0)?;
     file.write_all(header)?;
-    file.write_all(&[CLOSED])?;
     file.sync_all()?;
     Ok(())
 }

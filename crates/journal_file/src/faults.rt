@@ -4,7 +4,7 @@
 pub enum AppendFault {
     /// A call of the device has failed, now or before. Nothing more is written until the file is opened again.
     Failed,
-    /// The text has 2^62 bytes or more.
+    /// The file has 2^62 bytes or more.
     Full,
 }
 

@@ -1,19 +1,18 @@
 //! A file that is open to append.
 ghost use Rattle.std.specs.Prelude.{◌≡◌, ◌⊎◌, ◌<◌, ◌≤◌, ◌^◌, ◌++◌, List, ℕ, true, false, length, Err, IfOk, IfErr, OnOk, IsErrOf};
 ghost use Rattle.journal_file.specs.Device.{Only, LeavesOnly};
-ghost use Rattle.journal_file.specs.Whole.{text_of, IsText, AreLines, BeginsWith};
-ghost use Rattle.journal_file.specs.Settled.{IsBeforeOrAfter, IsDamaged, Keeps, kept};
+ghost use Rattle.journal_file.specs.Whole.{text_of, whole, IsText, IsBatch, BeginsWith};
+ghost use Rattle.journal_file.specs.Settled.{HasSome, IsDamaged, IsSealed, Keeps, Stands, kept};
 ghost use Rattle.journal_file.specs.declared.faults.AppendFault.{AppendFault};
 ghost use Rattle.journal_file.specs.declared.faults.OpenFault.{OpenFault};
 
 use crate::device::{Device, DeviceFailed};
 use crate::faults::{AppendFault, OpenFault};
-use crate::room::add_lines;
-use crate::text::begins_with;
-use crate::write::repair;
+use crate::text::{begins_with, raw_len};
+use crate::write::{add_batch, repair, seal_at};
 use std::marker::Model;
 
-/// The most bytes that a text has when lines are added to it.
+/// The most bytes that stand for a text when more are added to them.
 const MOST: usize = 1 << 62;
 
 /// A file that is open to append. Contracts see it as its device, the text that it stands for, and
@@ -21,9 +20,9 @@ const MOST: usize = 1 << 62;
 #[derive(Drop)]
 pub struct JournalFile<D: Device> {
     device: D,
-    /// Where the gate stands, closed: the length of the text.
-    gate: usize,
-    /// Up to where room was laid by, as far as this file knows. A hint alone: no fact rests on it.
+    /// Where the bytes end that stand for the text.
+    end: usize,
+    /// Where the zeros end that were laid by behind them: the length of the file.
     laid: usize,
     /// Whether a call of the device has failed. No call follows it: a sync that failed is never made
     /// again as if it could still succeed.
@@ -31,7 +30,7 @@ pub struct JournalFile<D: Device> {
 }
 
 impl<D: Device> Model for JournalFile<D> {
-    ghost use Rattle.std.specs.Prelude.{◌≡◌, ◌<◌, true, false};
+    ghost use Rattle.std.specs.Prelude.{◌≡◌, ◌<◌, true, false, length};
     ghost use Rattle.journal_file.specs.Whole.{text_of};
     ghost use Rattle.journal_file.specs.Settled.{Kept, kept, IsSettled};
 
@@ -39,7 +38,8 @@ impl<D: Device> Model for JournalFile<D> {
 
     ghost view = { λ f. kept f.device (text_of (D.seen f.device)) f.broken };
 
-    ghost invariant = { λ f. (f.broken ≡ false → IsSettled (D.seen f.device) (D.may_leave f.device) f.gate (text_of (D.seen f.device)) × (D.faults f.device ≡ 0))
+    ghost invariant = { λ f. (f.broken ≡ false → IsSettled (D.seen f.device) (D.may_leave f.device) f.end (text_of (D.seen f.device))
+        × (f.laid ≡ length (D.seen f.device)) × (D.faults f.device ≡ 0))
         × (f.broken ≡ true → 0 < D.faults f.device) };
 }
 
@@ -62,42 +62,77 @@ impl<D: Device> JournalFile<D> {
         if !begins_with(file, header) {
             return Err((OpenFault::Foreign, device));
         }
-        match repair(&mut device, file) {
-            Ok(gate) => Ok(JournalFile {
+        let end = raw_len(file);
+        match repair(&mut device, file, end) {
+            Ok(laid) => Ok(JournalFile {
                 device,
-                gate,
-                laid: gate,
+                end,
+                laid,
                 broken: false,
             }),
             Err(DeviceFailed) => Err((OpenFault::Failed, device)),
         }
     }
 
-    /// Adds whole lines. At `Ok` they stand: every crash from then on leaves them. A crash at any
-    /// moment of the call leaves the text with all of them, or with none, in a file that isn't damaged.
-    pub fn append(&mut self, lines: &[u8]) -> Result<(), AppendFault>
-        requires { AreLines lines.now }
-        ensures ok { OnOk result ((self.new.text ≡ self.old.text ++ lines.now) × (self.new.broken ≡ false)) }
+    /// Adds a batch: whole lines, and an empty one that ends them. At `Ok` they stand: every crash from
+    /// then on leaves them. A crash at any moment of the call leaves the text and a beginning of the
+    /// lines, the first of them, each whole, in a file that isn't damaged. A batch of no lines is passed
+    /// over.
+    pub fn append(&mut self, batch: &[u8]) -> Result<(), AppendFault>
+        requires { IsBatch batch.now }
+        ensures ok { OnOk result ((self.new.text ≡ self.old.text ++ whole batch.now) × (self.new.broken ≡ false)) }
         ensures any_moment { self.old.broken ≡ false
-            → LeavesOnly D.moment D.left_since self.old.device self.new.device (IsBeforeOrAfter self.old.text lines.now) }
+            → LeavesOnly D.moment D.left_since self.old.device self.new.device (HasSome self.old.text (whole batch.now)) }
         ensures failed { IsErrOf result AppendFault.Failed → (self.new.broken ≡ true)
             × ((self.old.broken ≡ true) ⊎ (D.faults self.old.device < D.faults self.new.device)) }
         // Nothing is asked of a device that has failed.
         ensures broken { self.old.broken ≡ true → (result ≡ Err AppendFault.Failed) × (self.new ≡ self.old) }
-        ensures full { IsErrOf result AppendFault.Full → (self.new ≡ self.old) × (2 ^ 62 ≤ length self.old.text) }
+        ensures full { IsErrOf result AppendFault.Full → (self.new ≡ self.old) × (2 ^ 62 ≤ length (D.seen self.old.device)) }
     {
         if self.broken {
             return Err(AppendFault::Failed);
         }
-        if self.gate >= MOST {
-            return Err(AppendFault::Full);
-        }
-        if lines.is_empty() {
+        if batch.len() < 2 {
             return Ok(());
         }
-        match add_lines(&mut self.device, self.gate, self.laid, lines) {
+        if self.end >= MOST {
+            return Err(AppendFault::Full);
+        }
+        match add_batch(&mut self.device, self.end, self.laid, batch) {
             Ok(laid) => {
-                self.gate += lines.len();
+                self.end += batch.len();
+                self.laid = laid;
+                Ok(())
+            }
+            Err(DeviceFailed) => {
+                self.broken = true;
+                Err(AppendFault::Failed)
+            }
+        }
+    }
+
+    /// Adds two empty lines, which don't count. Where a byte of the last batch is lost later, what stands
+    /// behind it tells that now, and such a file is damaged. So a start does this before it goes on, and
+    /// a stop does it as the last thing.
+    pub fn seal(&mut self) -> Result<(), AppendFault>
+        ensures ok { OnOk result ((self.new.text ≡ self.old.text) × (self.new.broken ≡ false)) }
+        ensures sealed { OnOk result (IsSealed self.old.text (D.seen self.old.device) (D.seen self.new.device)) }
+        ensures any_moment { self.old.broken ≡ false
+            → LeavesOnly D.moment D.left_since self.old.device self.new.device (Stands self.old.text) }
+        ensures failed { IsErrOf result AppendFault.Failed → (self.new.broken ≡ true)
+            × ((self.old.broken ≡ true) ⊎ (D.faults self.old.device < D.faults self.new.device)) }
+        ensures broken { self.old.broken ≡ true → (result ≡ Err AppendFault.Failed) × (self.new ≡ self.old) }
+        ensures full { IsErrOf result AppendFault.Full → (self.new ≡ self.old) × (2 ^ 62 ≤ length (D.seen self.old.device)) }
+    {
+        if self.broken {
+            return Err(AppendFault::Failed);
+        }
+        if self.end >= MOST {
+            return Err(AppendFault::Full);
+        }
+        match seal_at(&mut self.device, self.end, self.laid) {
+            Ok(laid) => {
+                self.end += 2;
                 self.laid = laid;
                 Ok(())
             }
@@ -121,18 +156,11 @@ impl<D: Device> JournalFile<D> {
     {
         let JournalFile {
             device,
-            gate: _,
+            end: _,
             laid: _,
             broken: _,
         } = self;
         device
-    }
-
-    /// How many bytes its text has.
-    pub fn len(&self) -> usize
-        ensures { self.now.broken ≡ false → result ≡ length self.now.text }
-    {
-        self.gate
     }
 
     /// Whether a call of the device has failed.
@@ -151,6 +179,6 @@ impl<D: Device> JournalFile<D> {
         ensures sound { self.now.broken ≡ false → (c : List ℕ) → D.may_leave self.now.device c → IsDamaged c → ⊥ }
         ensures text { self.now.broken ≡ false → IsText self.now.text }
     {
-        let _gate = self.gate;
+        let _end = self.end;
     }
 }

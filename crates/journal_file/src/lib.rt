@@ -1,11 +1,13 @@
 //! The file in which a journal's text is kept: lines are on the disk before `append` answers, a crash
-//! at any moment leaves the text with all lines of the last call or with none, and opening finds it.
+//! at any moment leaves the text and a beginning of the last call's lines, each whole or not there, and
+//! opening finds it.
 //!
-//! A file is a header line, whole lines that each begin with `{`, and a closed gate: the byte `#` where
-//! the next line's `{` will be. What stands behind the gate doesn't count. Lines are added behind it,
-//! all but their first byte, with another closed gate behind them; once they are on the disk, that one
-//! byte opens the gate to all of them at once. So room may be laid by there: zeros, which later lines
-//! are written over.
+//! A file is a header line, whole lines that each begin with `{`, with empty lines among them, and zeros,
+//! which are laid by and synced before anything is written over them. The lines of a call and an empty one
+//! behind them are a batch: one write and one sync. A write that a crash cuts short leaves at each place
+//! the zero or the byte that was written, and a line with a zero in it doesn't count, nor what stands
+//! behind it. Two bytes 10 stand side by side at the end of each batch and nowhere else. So where they
+//! stand behind the text, and something is written behind them, no crash has left that: the file is damaged.
 #![tactic(auto)]
 
 mod chronicle;
@@ -14,8 +16,8 @@ mod device;
 mod disk;
 mod faults;
 mod file;
+mod laws;
 mod memory;
-mod room;
 mod text;
 mod write;
 
@@ -24,5 +26,6 @@ pub use device::{Device, DeviceFailed};
 pub use disk::{DiskFault, DiskFile, create, open};
 pub use faults::{AppendFault, OpenFault};
 pub use file::JournalFile;
+pub use laws::{batch_law, lost_bytes_are_told};
 pub use memory::{Deed, MemFile};
-pub use text::{kept_text, text_len};
+pub use text::raw_text;

@@ -1,6 +1,6 @@
 //! A file in memory.
-ghost use Rattle.std.specs.Prelude.{◌≡◌, ◌∷◌, ◌++◌, ◌+◌, ◌≤◌, length, take, drop, IfOk};
-ghost use Rattle.journal_file.specs.History.{opened, called, seen_after, Wrote, TriedToWrite, CutTo, TriedToCut, Synced, TriedToSync};
+ghost use Rattle.std.specs.Prelude.{◌≡◌, ◌∷◌, ◌++◌, ◌+◌, ◌≤◌, length, take, drop, replicate, IfOk};
+ghost use Rattle.journal_file.specs.History.{opened, called, seen_after, Wrote, TriedToWrite, LaidBy, TriedToLayBy, CutTo, TriedToCut, Synced, TriedToSync};
 
 use crate::chronicle::Chronicle;
 use crate::device::{Device, DeviceFailed};
@@ -11,6 +11,7 @@ use std::marker::Model;
 #[derive(Drop)]
 pub enum Deed {
     Wrote { at: usize, bytes: Vec<u8> },
+    LaidBy { count: usize },
     CutTo { len: usize },
     Synced,
 }
@@ -78,7 +79,7 @@ impl MemFile {
 
     /// What stands there after one more write, which is kept.
     fn next_write(&mut self, at: usize, bytes: &[u8]) -> Result<Vec<u8>, AllocError>
-        requires { at ≤ length (seen_after self.old.first self.old.calls) }
+        requires { at + length bytes.now ≤ length (seen_after self.old.first self.old.calls) }
         ensures same { self.new ≡ self.old }
         ensures next { IfOk result (λ v. v.items ≡ seen_after self.old.first (Wrote at bytes.now ∷ self.old.calls)) }
     {
@@ -90,18 +91,31 @@ impl MemFile {
             Err(AllocError)
         }
     }
+
+    /// What stands there with so many zeros more, which is kept.
+    fn next_longer(&mut self, count: usize) -> Result<Vec<u8>, AllocError>
+        ensures same { self.new ≡ self.old }
+        ensures next { IfOk result (λ v. v.items ≡ seen_after self.old.first (LaidBy count ∷ self.old.calls)) }
+    {
+        let mut next = self.bytes.to_vec(self.alloc)?;
+        let zeros = vec![in self.alloc; 0_u8; count]?;
+        next.extend_from_slice(&zeros)?;
+        if self.does(Deed::LaidBy { count }) {
+            Ok(next)
+        } else {
+            Err(AllocError)
+        }
+    }
 }
 
 /// The bytes with others written over them from a place on.
 fn written(alloc: Global, old: &[u8], at: usize, bytes: &[u8]) -> Result<Vec<u8>, AllocError>
-    requires { at ≤ length old.now }
+    requires { at + length bytes.now ≤ length old.now }
     ensures { IfOk result (λ v. v.items ≡ take at old.now ++ bytes.now ++ drop (at + length bytes.now) old.now) }
 {
     let mut next = old[..at].to_vec(alloc)?;
     next.extend_from_slice(bytes)?;
-    if bytes.len() < old.len() - at {
-        next.extend_from_slice(&old[at + bytes.len()..])?;
-    }
+    next.extend_from_slice(&old[at + bytes.len()..])?;
     Ok(next)
 }
 
@@ -130,6 +144,20 @@ impl Device for MemFile {
             }
             Err(_) => {
                 self.chronicle = self.chronicle.tried_to_write(at, bytes);
+                Err(DeviceFailed)
+            }
+        }
+    }
+
+    fn lay_by(&mut self, _end: usize, count: usize) -> Result<(), DeviceFailed> {
+        match self.next_longer(count) {
+            Ok(next) => {
+                self.bytes = next;
+                self.chronicle = self.chronicle.laid_by(count);
+                Ok(())
+            }
+            Err(_) => {
+                self.chronicle = self.chronicle.tried_to_lay_by(count);
                 Err(DeviceFailed)
             }
         }

@@ -16,7 +16,7 @@ pub trait Journals {
     ghost told: { Self → JournalsTold Self.File };
 
     /// The file at that path, opened for this caller alone, and the bytes that it has, which are on
-    /// the disk then. Where there is none, one is made with this header and a closed gate.
+    /// the disk then. Where there is none, one is made with this header.
     fn lend(
         &mut self,
         alloc: Global,

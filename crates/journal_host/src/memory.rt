@@ -8,9 +8,6 @@ use crate::trace::JournalTrace;
 use journal_file::{DiskFault, MemFile};
 use std::alloc::Global;
 
-/// A closed gate, as it stands behind the text of a file.
-const CLOSED: u8 = b'#';
-
 /// What gives files in memory. Whatever the path, each has the same bytes, or is a new one where there
 /// are none, and fails after so many calls. The last that came back is kept.
 #[derive(Drop)]
@@ -41,11 +38,7 @@ impl MemJournals {
     fn bytes(&self, alloc: Global, header: &[u8]) -> Result<Vec<u8>, DiskFault> {
         match &self.file {
             Some(file) => Ok(file.to_vec(alloc)?),
-            None => {
-                let mut bytes = header.to_vec(alloc)?;
-                bytes.extend_from_slice(&[CLOSED])?;
-                Ok(bytes)
-            }
+            None => Ok(header.to_vec(alloc)?),
         }
     }
 

@@ -1,7 +1,7 @@
 -- The entries of a text that is read in parts.
-use Rattle.std.proofs.Common.{◌≡◌, ℕ, true, false, List, [], ◌∷◌, ◌++◌, length, Some, None, sym, ap, ◌∙◌, subst, arith, inl, inr, ◌⊎◌, append_assoc, append-nil, length-append}
+use Rattle.std.proofs.Common.{◌≡◌, ℕ, true, false, List, [], ◌∷◌, ◌++◌, length, Some, None, refl, sym, ap, ◌∙◌, subst, arith, inl, inr, ◌⊎◌, append_assoc, length-append}
 use Rattle.std.specs.Prelude.{All, ◌==◌}
-use Rattle.std.proofs.lemmas.Bool.{true≢false}
+use Rattle.std.proofs.lemmas.Bool.{true≢false, eqb-true}
 use Rattle.std.proofs.lemmas.List.Elements.{All-head, All-tail, All-nil, All-cons, All-append}
 use Rattle.osm_base.specs.Parts.{parted}
 use Rattle.line_text.specs.Cut.{IsCut}
@@ -14,6 +14,10 @@ use Rattle.journal_recovery.specs.Parts.{AreOf, AreOfNone}
 -- whether anything is left
 pub some_rest : (rest : List ℕ) → (length rest == 0) ≡ false → rest ≡ [] → ⊥
 some_rest rest e none = true≢false (sym (ap (λ (xs : List ℕ). length xs == 0) none) ∙ e)
+
+pub no_rest : (rest : List ℕ) → (length rest == 0) ≡ true → rest ≡ []
+no_rest [] e = refl
+no_rest (b ∷ rest) e = absurd (omega (arith, eqb-true (length (b ∷ rest)) 0 e))
 
 -- over the line of an entry, those of entries, and what the fields of an entry allow
 module _ {E : Type 0} (line : E → List ℕ) (lines : List E → List ℕ) (is_entry : E → Type 0) (lines_are : (es : List E) → lines es ≡ lines_of line es) where

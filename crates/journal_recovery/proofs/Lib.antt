@@ -3,5 +3,6 @@ mod Causes
 mod Exits
 mod InParts
 mod Moments
+mod Packed
 mod TakenIn
 pub mod WholeEntries

@@ -1,5 +1,5 @@
 -- What a crash leaves of a file that came back.
-use Rattle.std.proofs.Common.{inr, ⊎_elim, inl, ℕ, ◌≤◌, List}
+use Rattle.std.proofs.Common.{◌≡◌, ◌∙◌, inr, ⊎_elim, inl, ℕ, ◌≤◌, List, arith}
 use Rattle.journal_file.specs.Device.{LeavesOnly}
 use Rattle.journal_file.specs.Settled.{IsDamaged, Stands, Keeps}
 use Rattle.journal_file.specs.Whole.{text_of}
@@ -23,3 +23,15 @@ module _ {D : Type 0} (moment : D → ℕ) (left_since : D → ℕ → List ℕ 
     where
       so : (c : List ℕ) → Keeps file c → Stands (text_of file) c
       so c keeps = record { is = keeps.is; sound = λ damaged. sound (keeps.sound damaged) }
+
+  -- a file that keeps another stays so where it stands for that text from then on
+  pub then_sealed : (old mid new : D) (file text : List ℕ) → text ≡ text_of file → LeavesOnly moment left_since old mid (Keeps file) → LeavesOnly moment left_since mid new (Stands text)
+      → LeavesOnly moment left_since old new (Keeps file)
+  then_sealed old mid new file text same first on = record {
+    later = omega (arith, first.later, on.later);
+    each = λ c left. ⊎_elim (λ past. first.each c past) (λ stands. so c stands) (on.before (moment old) c first.later left);
+    before = λ t c le left. ⊎_elim (λ past. first.before t c le past) (λ stands. inr (so c stands)) (on.before t c (omega (arith, le, first.later)) left);
+  }
+    where
+      so : (c : List ℕ) → Stands text c → Keeps file c
+      so c stands = record { is = stands.is ∙ same; sound = λ damaged. absurd (stands.sound damaged) }

@@ -12,10 +12,7 @@ use Rattle.journal_recovery.specs.Parts.{AreOf, AreOfNone}
 use Rattle.journal_recovery.specs.declared.faults.TextFault.{TextFault}
 use Rattle.journal_recovery.specs.declared.intake.Followed.{Followed}
 use Rattle.journal_recovery.specs.declared.faults.TextFault.TheVariants.{NoJournal}
-use Rattle.journal_recovery.proofs.InParts.{lines-append, goes_on, refused_front}
-
-cut_joined : (text front back : List ℕ) → IsCut text front back → text ≡ front ++ back
-cut_joined text front back cut = cut.is ∙ sym (append_assoc cut.before (10 ∷ []) back) ∙ ap (λ (l : List ℕ). l ++ back) (sym cut.front_is)
+use Rattle.journal_recovery.proofs.InParts.{lines-append, goes_on}
 
 -- what is behind a cut is shorter
 pub shorter : (text front back : List ℕ) → IsCut text front back → length back < length text
@@ -37,9 +34,9 @@ module _ {E : Type 0} (line : E → List ℕ) (lines : List E → List ℕ) (is_
   typed_all part es more all typed read same = subst (All is_entry) (sym same) (All-append is_entry es more typed read.typed)
 
   -- a part more was read
-  pub read_part : (text rest part behind : List ℕ) (es more all : List E) → text ≡ lines es ++ rest → IsCut rest part behind → AreOf lines is_entry part more
+  pub read_part : (text rest part behind : List ℕ) (es more all : List E) → text ≡ lines es ++ rest → rest ≡ part ++ behind → AreOf lines is_entry part more
       → all ≡ es ++ more → text ≡ lines all ++ behind
-  read_part text rest part behind es more all is cut = more_lines text part behind es more all (is ∙ ap (λ (l : List ℕ). lines es ++ l) (cut_joined rest part behind cut))
+  read_part text rest part behind es more all is both = more_lines text part behind es more all (is ∙ ap (λ (l : List ℕ). lines es ++ l) both)
 
   -- the rest was read
   pub read_rest : (text rest : List ℕ) (es more all : List E) → text ≡ lines es ++ rest → All is_entry es → AreOf lines is_entry rest more → all ≡ es ++ more
@@ -64,14 +61,14 @@ module _ {E : Type 0} (line : E → List ℕ) (lines : List E → List ℕ) (is_
         by (inl never) more same read = never more (subst is_legal same legal)
         by (inr none) more same read = none more read
 
-    -- the same of a part that was cut off
-    pub no_part : (text rest part behind : List ℕ) (es : List E) → text ≡ lines es ++ rest → All is_entry es → IsCut rest part behind
+    -- the same of a part, where the rest is the lines of none if that is
+    pub no_part : (text rest part : List ℕ) (es : List E) → text ≡ lines es ++ rest → All is_entry es → (AreOfNone lines is_entry part → AreOfNone lines is_entry rest)
         → ((more : List E) → is_legal (es ++ more) → ⊥) ⊎ AreOfNone lines is_entry part → AreOfNoLegal lines is_entry is_legal text
-    no_part text rest part behind es is typed cut cause = no_rest text rest es is typed (by cause)
+    no_part text rest part es is typed refused cause = no_rest text rest es is typed (by cause)
       where
         by : ((more : List E) → is_legal (es ++ more) → ⊥) ⊎ AreOfNone lines is_entry part → ((more : List E) → is_legal (es ++ more) → ⊥) ⊎ AreOfNone lines is_entry rest
         by (inl never) = inl never
-        by (inr none) = inr (refused_front line lines is_entry lines_are one rest part behind cut none)
+        by (inr none) = inr (refused none)
 
 -- entries that were followed are those that are kept
 pub at_rest : {E W K : Type 0} → (keeps : K → List E) (follows : W → List E → Type 0) (followed : Followed W K) (entries : List E)

@@ -1,3 +1,4 @@
+pub mod Header
 pub mod Intakes
 pub mod Judged
 pub mod Parts

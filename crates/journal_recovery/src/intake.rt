@@ -3,6 +3,7 @@
 //! they were read.
 ghost use Rattle.std.specs.Prelude.{IfSome};
 ghost use Rattle.journal_recovery.specs.Intakes.{HasFollowed, IsNext, IsTakenIn, entries_in};
+ghost use Rattle.journal_file.specs.Whole.{packed};
 ghost use Rattle.line_text.specs.Cut.{IsCut};
 ghost use Rattle.journal_recovery.specs.Parts.{IsRead};
 ghost use Rattle.journal_recovery.specs.Judged.{IsFollowed, IsJudged};
@@ -76,14 +77,14 @@ fn take_in<
     text: &[u8],
 ) -> Result<Intake<E, S::World, S::Kept>, TextFault>
     requires { HasFollowed S.keeps S.follows intake.followed (S.keeps intake.followed.kept) }
-    ensures { IsNext T.lines T.is_entry S.is_legal S.keeps S.follows (entries_in S.keeps intake) text.now result }
+    ensures { IsNext T.lines T.is_entry S.is_legal S.keeps S.follows (entries_in S.keeps intake) (packed text.now) result }
 {
     let follow = move || -> Result<Followed<S::World, S::Kept>, TextFault>
         requires { HasFollowed S.keeps S.follows intake.followed (S.keeps intake.followed.kept) }
         ensures { IsFollowed (HasFollowed S.keeps S.follows) S.is_legal (entries_in S.keeps intake) result }
     { follow_part::<R, E, S>(rt, alloc, intake) };
     let read_next = move || -> Result<Vec<E>, TextFault>
-        ensures { IsRead T.lines T.is_entry text.entry.now (λ v. v.items) result }
+        ensures { IsRead T.lines T.is_entry (packed text.entry.now) (λ v. v.items) result }
     { read_lines::<R, E, T>(rt, alloc, text, READERS) };
     let (after, more) = join(rt, follow, read_next);
     let followed = after?;
@@ -98,7 +99,7 @@ pub(crate) fn take_in_all<
     T: KeptText<E> + Send,
     S: EntryJudge<E> + Send,
 >(rt: &R, alloc: Global, text: &[u8]) -> Result<S::Journal, TextFault>
-    ensures { IsTakenIn T.lines T.is_entry S.is_legal S.entries text.now result }
+    ensures { IsTakenIn T.lines T.is_entry S.is_legal S.entries (packed text.now) result }
 {
     T::text_law();
     let worlds = Worlds {

@@ -1,9 +1,10 @@
 //! Reading the lines of a text, in several threads at once.
 //!
 //! The text is cut behind the byte 10 of a line, so each part has lines of its own, and the entries of
-//! the parts are put together in their order. Nothing is copied.
+//! the parts are put together in their order. Empty lines are passed over. Nothing is copied.
 ghost use Rattle.std.specs.Prelude.{◌≡◌, ◌++◌, IfOk, OnErr, Err};
 ghost use denote.Param.Send.{IsSync, IsSend};
+ghost use Rattle.journal_file.specs.Whole.{packed};
 ghost use Rattle.journal_recovery.specs.Parts.{IsRead};
 ghost use Rattle.journal_recovery.specs.declared.faults.TextFault.{TextFault};
 
@@ -25,7 +26,7 @@ pub(crate) fn read_lines<R: Threads + Sync, E: Send + Drop, T: KeptText<E> + Sen
     text: &[u8],
     threads: usize,
 ) -> Result<Vec<E>, TextFault>
-    ensures { IsRead T.lines T.is_entry text.now (λ v. v.items) result }
+    ensures { IsRead T.lines T.is_entry (packed text.now) (λ v. v.items) result }
 {
     T::text_law();
     if threads < 2 || text.len() < SMALL_TEXT {
@@ -38,11 +39,11 @@ pub(crate) fn read_lines<R: Threads + Sync, E: Send + Drop, T: KeptText<E> + Sen
     let others = threads - few;
     let read_front = move || -> Result<Vec<E>, TextFault>
         requires { IsSync R.row × IsSend E.row × IsSend T.row }
-        ensures { IsRead T.lines T.is_entry front.entry.now (λ v. v.items) result }
+        ensures { IsRead T.lines T.is_entry (packed front.entry.now) (λ v. v.items) result }
     { read_lines::<R, E, T>(rt, alloc, front, few) };
     let read_back = move || -> Result<Vec<E>, TextFault>
         requires { IsSync R.row × IsSend E.row × IsSend T.row }
-        ensures { IsRead T.lines T.is_entry back.entry.now (λ v. v.items) result }
+        ensures { IsRead T.lines T.is_entry (packed back.entry.now) (λ v. v.items) result }
     { read_lines::<R, E, T>(rt, alloc, back, others) };
     let (first, second) = join(rt, read_front, read_back);
     let entries = first?;
@@ -50,9 +51,9 @@ pub(crate) fn read_lines<R: Threads + Sync, E: Send + Drop, T: KeptText<E> + Sen
     together(entries, rest)
 }
 
-/// Reads the lines of a text one after another.
+/// Reads the lines of a text one after another, but for the empty ones.
 fn read_in_turn<E: Drop, T: KeptText<E>>(alloc: Global, text: &[u8]) -> Result<Vec<E>, TextFault>
-    ensures { IsRead T.lines T.is_entry text.now (λ v. v.items) result }
+    ensures { IsRead T.lines T.is_entry (packed text.now) (λ v. v.items) result }
 {
     T::text_law();
     let mut entries = Vec::new(alloc);
@@ -61,6 +62,10 @@ fn read_in_turn<E: Drop, T: KeptText<E>>(alloc: Global, text: &[u8]) -> Result<V
         let Some((line, behind)) = split_once(rest, b'\n') else {
             return Err(TextFault::NoJournal);
         };
+        if line.is_empty() {
+            rest = behind;
+            continue;
+        }
         let entry = T::read_line(alloc, line)?;
         entries.push(entry)?;
         rest = behind;

@@ -1,6 +1,7 @@
 //! How the text of a journal is read again.
 ghost use Rattle.std.specs.Prelude.{◌≡◌, true, ◌++◌, List, IfErr, IfOk};
 ghost use Rattle.journal_file.specs.Whole.{IsText};
+ghost use Rattle.journal_recovery.specs.Header.{is_header};
 ghost use Rattle.line_text.specs.Lines.{lines_of};
 ghost use Rattle.line_text.specs.OneLine.{is_one_line};
 ghost use Rattle.journal_recovery.specs.declared.faults.TextFault.{TextFault};
@@ -25,7 +26,8 @@ pub trait KeptText<E>: Lines<E> {
     /// The first line of each text, with the byte 10 that ends it.
     fn header() -> &'static [u8]
         ensures header { result.now ≡ header }
-        ensures text { IsText header };
+        ensures text { IsText header }
+        ensures one { is_header header ≡ true };
 
     /// The entry whose line this is.
     fn read_line(alloc: Global, bytes: &[u8]) -> Result<E, TextFault>

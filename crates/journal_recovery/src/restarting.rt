@@ -2,9 +2,10 @@
 //!
 //! Nothing goes on from a file before its whole text was judged anew. What is no journal's text is
 //! left untouched, and so is what no crash leaves.
-ghost use Rattle.std.specs.Prelude.{◌≡◌, ◌<◌, ℕ, List, All, IfOk, IfErr, OnOk, MatchResult, vec_len};
+ghost use Rattle.std.specs.Prelude.{◌≡◌, ◌<◌, ℕ, false, List, All, IfOk, IfErr, OnOk, MatchResult, vec_len};
 ghost use Rattle.journal_file.specs.Device.{Only, LeavesOnly};
-ghost use Rattle.journal_file.specs.Whole.{text_of};
+ghost use Rattle.journal_file.specs.Whole.{text_of, IsText, BeginsWith};
+ghost use Rattle.journal_file.specs.declared.faults.OpenFault.{OpenFault};
 ghost use Rattle.journal_file.specs.Settled.{IsDamaged, Stands, Keeps};
 ghost use Rattle.journal_recovery.specs.Restarts.{IsCause, StandsFor, LeavesSound};
 ghost use Rattle.journal_recovery.specs.declared.restarting.RestartFault.{RestartFault};
@@ -13,14 +14,14 @@ use crate::faults::TextFault;
 use crate::intake::take_in_all;
 use crate::judging::EntryJudge;
 use crate::reading::KeptText;
-use journal_file::{Device, JournalFile, OpenFault, is_damaged, kept_text};
+use journal_file::{AppendFault, Device, JournalFile, OpenFault, is_damaged, raw_text};
 use std::alloc::Global;
 use std::thread::Threads;
 
 /// Why a file was not taken up again. All but a fault of its device leave it untouched.
 #[derive(Clone, Copy, PartialEq, Eq)]
 pub enum RestartFault {
-    /// More than one byte stands behind its text, and the first is no closed gate: no crash leaves that.
+    /// What stands behind its text is none that a crash leaves.
     Damaged,
     /// Its text is that of no journal.
     NoJournal,
@@ -51,6 +52,7 @@ fn read_text<
     S: EntryJudge<E> + Send,
 >(rt: &R, alloc: Global, file: &[u8]) -> Result<S::Journal, RestartFault>
     ensures sound { OnOk result (IsDamaged file.now → ⊥) }
+    ensures begins { OnOk result (BeginsWith T.header file.now) }
     ensures text { IfOk result (λ journal. text_of file.now ≡ T.text (S.entries journal)) }
     ensures legal { IfOk result (λ journal. S.is_legal (S.entries journal)) }
     ensures only { IfOk result (λ journal. (entries : List E) → All T.is_entry entries → text_of file.now ≡ T.text entries → S.entries journal ≡ entries) }
@@ -60,15 +62,47 @@ fn read_text<
     if is_damaged(file) {
         return Err(RestartFault::Damaged);
     }
-    let Some(lines) = kept_text(file).strip_prefix(T::header()) else {
+    let Some(lines) = raw_text(file).strip_prefix(T::header()) else {
         return Err(RestartFault::NoJournal);
     };
     let journal = take_in_all::<R, E, T, S>(rt, alloc, lines)?;
     Ok(journal)
 }
 
+/// Opens the file that these bytes were read from, and seals it, so that it tells from then on where a
+/// byte of its last batch is lost. One that is full goes on without.
+fn open_sealed<D: Device>(
+    device: D,
+    file: &[u8],
+    header: &[u8],
+) -> Result<JournalFile<D>, (OpenFault, D)>
+    requires read { file.now ≡ D.seen device }
+    requires durable { Only (D.seen device) (D.may_leave device) }
+    requires fine { D.faults device ≡ 0 }
+    requires header { IsText header.now }
+    ensures text { IfOk result (λ f. (f.text ≡ text_of file.now) × (f.broken ≡ false)) }
+    ensures any_moment { IfOk result (λ f. LeavesOnly D.moment D.left_since device f.device (Keeps file.now)) }
+    ensures any_moment_err { IfErr result (λ e. LeavesOnly D.moment D.left_since device e.1 (Keeps file.now)) }
+    ensures foreign { IfErr result (λ e. e.0 ≡ OpenFault.Foreign → (e.1 ≡ device) × (BeginsWith header.now file.now → ⊥)) }
+    ensures failed { IfErr result (λ e. e.0 ≡ OpenFault.Failed → D.faults device < D.faults e.1) }
+{
+    let mut open = match JournalFile::open(device, file, header) {
+        Ok(open) => open,
+        Err(refused) => return Err(refused),
+    };
+    match open.seal() {
+        Ok(()) => Ok(open),
+        Err(AppendFault::Full) => Ok(open),
+        Err(AppendFault::Failed) => {
+            open.law();
+            Err((OpenFault::Failed, open.into_device()))
+        }
+    }
+}
+
 /// Takes up the file that these bytes were read from, as a crash may have left it: its entries are
-/// read and judged anew, and the file is open to append behind them. An `Err` hands the device back.
+/// read and judged anew, and the file is sealed and open to append behind them. An `Err` hands the
+/// device back.
 pub fn restart<
     R: Threads + Sync,
     D: Device,
@@ -108,7 +142,7 @@ pub fn restart<
         Ok(journal) => journal,
         Err(fault) => return Err((fault, device)),
     };
-    match JournalFile::open(device, file, T::header()) {
+    match open_sealed(device, file, T::header()) {
         Ok(open) => {
             open.law();
             Ok((journal, open))

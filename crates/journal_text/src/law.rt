@@ -2,6 +2,7 @@
 ghost use Rattle.std.specs.Prelude.{◌≡◌, ◌+◌, ℕ, true, List, [], ◌∷◌, ◌++◌, length, All, None, Some};
 ghost use Rattle.osm_base.specs.Parts.{parted};
 ghost use Rattle.line_text.specs.OneLine.{is_one_line};
+ghost use Rattle.osm_json.specs.Again.{has_no_zero};
 ghost use Rattle.osm_model.specs.Journal.{IsLegal};
 ghost use Rattle.osm_model.specs.declared.commands.Entry.{Entry};
 ghost use Rattle.journal_text.specs.Faults.{BeginsWithLine};
@@ -35,10 +36,11 @@ pub fn lines_tell_entries()
     changes_are_read_again();
 }
 
-/// The line of an entry begins with `{`, and no byte 10 stands in it.
+/// The line of an entry begins with `{`, and neither a byte 10 nor a byte 0 stands in it.
 pub fn lines_are_plain()
     ensures begins { (entry : Entry) → (rest : List ℕ) × (line entry ≡ 123 ∷ rest) }
     ensures one { (entry : Entry) → IsEntry entry → is_one_line (line entry) ≡ true }
+    ensures full { (entry : Entry) → IsEntry entry → has_no_zero (line entry) ≡ true }
 {
     texts_are_read_again();
     parts_are_read_again();

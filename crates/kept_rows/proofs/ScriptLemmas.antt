@@ -1,20 +1,13 @@
--- The lines of the script are whole lines, and each tells what it is.
-use Rattle.std.proofs.Common.{◌≡◌, ℕ, true, List, [], ◌∷◌, ◌++◌, refl, sym, ap, ◌∙◌, append_assoc}
-use Rattle.std.specs.Prelude.{◌==◌, if◌then◌else◌}
-use Rattle.journal_file.specs.Whole.{AreLines}
+-- The lines of the script: each is one, and tells what it is.
+use Rattle.std.proofs.Common.{◌≡◌, ℕ, true, List, [], ◌∷◌, ◌++◌, drop, not, refl, sym, ap, ◌∙◌, append_assoc}
+use Rattle.std.specs.List.{list_all}
+use Rattle.std.specs.Prelude.{⊤, All, ◌==◌, if◌then◌else◌}
+use Rattle.std.proofs.lemmas.List.Elements.{All-nil, All-cons}
 use Rattle.line_text.specs.Lines.{lines_of}
 use Rattle.line_text.specs.OneLine.{is_one_line}
 use Rattle.kept_rows.specs.Script.{script_line, ended_line, script_lines}
 use Rattle.kept_rows.specs.declared.script.ScriptLine.{ScriptLine}
 use Rattle.kept_rows.specs.declared.script.ScriptLine.TheVariants.{Number, Array, Object, Empty, Gate}
-
-pub are_lines : (lines : List ScriptLine) → AreLines (script_lines lines)
-are_lines [] = refl
-are_lines (Number ∷ lines) = ap (λ (l : List ℕ). ended_line Number ++ l) (are_lines lines)
-are_lines (Array ∷ lines) = ap (λ (l : List ℕ). ended_line Array ++ l) (are_lines lines)
-are_lines (Object ∷ lines) = ap (λ (l : List ℕ). ended_line Object ++ l) (are_lines lines)
-are_lines (Empty ∷ lines) = ap (λ (l : List ℕ). ended_line Empty ++ l) (are_lines lines)
-are_lines (Gate ∷ lines) = ap (λ (l : List ℕ). ended_line Gate ++ l) (are_lines lines)
 
 pub lines_are : (lines : List ScriptLine) → script_lines lines ≡ lines_of script_line lines
 lines_are [] = refl
@@ -26,6 +19,27 @@ one_line Array = refl
 one_line Object = refl
 one_line Empty = refl
 one_line Gate = refl
+
+pub full : (line : ScriptLine) → list_all (λ b. not (b == 0)) (script_line line) ≡ true
+full Number = refl
+full Array = refl
+full Object = refl
+full Empty = refl
+full Gate = refl
+
+pub begins : (line : ScriptLine) → (rest : List ℕ) × (script_line line ≡ 123 ∷ rest)
+begins Number = (drop 1 (script_line Number), refl)
+begins Array = (drop 1 (script_line Array), refl)
+begins Object = (drop 1 (script_line Object), refl)
+begins Empty = (drop 1 (script_line Empty), refl)
+begins Gate = (drop 1 (script_line Gate), refl)
+
+pub more : (line : ScriptLine) (lines : List ScriptLine) → script_lines (line ∷ lines) ≡ script_line line ++ 10 ∷ script_lines lines
+more line lines = append_assoc (script_line line) (10 ∷ []) (script_lines lines)
+
+pub all_typed : (lines : List ScriptLine) → All (λ _. ⊤) lines
+all_typed [] = All-nil (λ _. ⊤)
+all_typed (line ∷ lines) = All-cons (λ _. ⊤) line lines tt (all_typed lines)
 
 -- a line by its third byte
 abbrev by_letter : List ℕ → ScriptLine

@@ -2,8 +2,8 @@
 use crate::drawn::left_by;
 use crate::roomy::RoomyFile;
 use crate::starts::{found_in, recovers_after};
-use crate::texts::{FIRST, HEADER, SECOND, THIRD, joined};
-use journal_file::{AppendFault, Device, JournalFile, MemFile, kept_text};
+use crate::texts::{FIRST, HEADER, SECOND, THIRD, packed, text_in};
+use journal_file::{AppendFault, Device, JournalFile, MemFile};
 use osm_base::Memory;
 use row_lines::Tally;
 use std::alloc::Global;
@@ -21,7 +21,7 @@ fn recovers<R: Threads + Sync>(
     text: &[u8],
     seed: u64,
 ) -> Result<bool, Memory> {
-    for left in 0..6_u64 {
+    for left in 0..11_u64 {
         if !recovers_after(rt, alloc, file, text, left, seed)? {
             return Ok(false);
         }
@@ -44,7 +44,7 @@ fn is_done_with<D: Device>(file: &mut JournalFile<D>) -> bool {
     file.is_broken() && file.append(FIRST) == Err(AppendFault::Failed)
 }
 
-/// The text of the lines that were acknowledged, and the same with those that were added last.
+/// The text of the batches that were acknowledged, and the same with the one that was added last.
 #[derive(Drop)]
 struct Script {
     before: Vec<u8>,
@@ -60,25 +60,32 @@ impl Script {
         })
     }
 
-    /// Adds lines until a call fails. Whether a file that failed takes no lines any more.
-    fn play<D: Device>(&mut self, file: &mut JournalFile<D>) -> Result<bool, Memory> {
-        for lines in [FIRST, SECOND, THIRD] {
-            self.after.extend_from_slice(lines)?;
-            if file.append(lines).is_err() {
+    /// Adds batches until a call fails. Whether a file that failed takes no lines any more.
+    fn play<D: Device>(
+        &mut self,
+        alloc: Global,
+        file: &mut JournalFile<D>,
+    ) -> Result<bool, Memory> {
+        for batch in [FIRST, SECOND, THIRD] {
+            let lines = packed(alloc, batch)?;
+            self.after.extend_from_slice(&lines)?;
+            if file.append(batch).is_err() {
                 return Ok(is_done_with(file));
             }
-            self.before.extend_from_slice(lines)?;
+            self.before.extend_from_slice(&lines)?;
         }
         Ok(true)
     }
 
+    /// Whether this is the text of what was acknowledged and a beginning of the lines behind it.
     fn has(&self, found: &[u8]) -> bool {
-        found == self.before.as_slice() || found == self.after.as_slice()
+        let all = self.after.as_slice();
+        found.starts_with(&self.before) && all.starts_with(found) && found.ends_with(b"\n")
     }
 }
 
 /// Whether a start takes up what a crash left, finds the lines that were acknowledged and of the next
-/// ones all or none, and finds the same where it crashes itself.
+/// ones the first, each whole, and finds the same where it crashes itself.
 fn stands<R: Threads + Sync>(
     rt: &R,
     alloc: Global,
@@ -89,7 +96,8 @@ fn stands<R: Threads + Sync>(
     let Some(found) = found_in(rt, alloc, crashed)? else {
         return Ok(false);
     };
-    let is_known = script.has(&found) && kept_text(crashed) == found.as_slice();
+    let stands = text_in(alloc, crashed)?;
+    let is_known = script.has(&found) && stands.as_slice() == found.as_slice();
     Ok(is_known && recovers(rt, alloc, crashed, &found, seed.wrapping_add(1))?)
 }
 
@@ -102,7 +110,7 @@ fn crash<R: Threads + Sync, const ROOM: usize>(
     seed: u64,
 ) -> Result<bool, Memory> {
     let mut script = Script::new(alloc)?;
-    if !script.play(file)? {
+    if !script.play(alloc, file)? {
         return Ok(false);
     }
     let crashed = left_by(alloc, first, file.device().file().deeds(), seed)?;
@@ -110,16 +118,15 @@ fn crash<R: Threads + Sync, const ROOM: usize>(
 }
 
 /// The lines of the script are added to a file in memory that fails from a call on: what a crash may
-/// leave then has the lines that were acknowledged, and of the next ones all or none.
+/// leave then has the lines that were acknowledged, and of the next ones the first, each whole.
 fn script_crashes<R: Threads + Sync, const ROOM: usize>(
     rt: &R,
     alloc: Global,
     left: u64,
     seed: u64,
 ) -> Result<bool, Memory> {
-    let first = joined(alloc, &[HEADER, b"#"])?;
-    match fresh::<ROOM>(alloc, &first, left)? {
-        Some(mut file) => crash(rt, alloc, &first, &mut file, seed),
+    match fresh::<ROOM>(alloc, HEADER, left)? {
+        Some(mut file) => crash(rt, alloc, HEADER, &mut file, seed),
         None => Ok(false),
     }
 }
@@ -166,9 +173,9 @@ fn note_crashes<R: Threads + Sync + Print, const ROOM: usize>(
     }
 }
 
-/// The script has fifteen calls: five for each of its three appends. Where room is laid by sixteen bytes
-/// at a time, the first two have two more.
+/// The script has twelve calls: four for each of its three appends, of which two lay room by. Where
+/// sixteen bytes more are laid by at a time, the last has two fewer.
 pub fn play<R: Threads + Sync + Print>(rt: &R, alloc: Global, tally: &mut Tally) {
-    note_crashes::<R, 0>(rt, alloc, tally, 16);
-    note_crashes::<R, 16>(rt, alloc, tally, 20);
+    note_crashes::<R, 0>(rt, alloc, tally, 13);
+    note_crashes::<R, 16>(rt, alloc, tally, 11);
 }

@@ -1,5 +1,5 @@
 //! Files of the system, in the folder for temporary ones.
-ghost use Rattle.journal_file.specs.Whole.{AreLines};
+ghost use Rattle.journal_file.specs.Whole.{IsBatch};
 
 use crate::texts::{FIRST, HEADER, SCRIPT, SECOND, joined};
 use journal_file::{Device, DiskFault, DiskFile, JournalFile, OpenFault, create, is_damaged, open};
@@ -16,15 +16,15 @@ fn path_of(rt: HostRuntime, name: &str) -> Result<String, DiskFault> {
     Ok(path)
 }
 
-/// Opens the file at this path as a journal, and adds the lines.
-fn add(rt: HostRuntime, path: &str, lines: &[u8]) -> Result<JournalFile<DiskFile>, DiskFault>
-    requires { AreLines lines.now }
+/// Opens the file at this path as a journal, and adds the batch.
+fn add(rt: HostRuntime, path: &str, batch: &[u8]) -> Result<JournalFile<DiskFile>, DiskFault>
+    requires { IsBatch batch.now }
 {
     let (device, bytes) = open(&rt, rt.alloc(), path)?;
     let Ok(mut file) = JournalFile::open(device, &bytes, HEADER) else {
         return Err(DiskFault::Unfit);
     };
-    if file.append(lines).is_err() {
+    if file.append(batch).is_err() {
         return Err(DiskFault::Failed);
     }
     Ok(file)
@@ -43,7 +43,8 @@ fn has(rt: HostRuntime, path: &str, parts: &[&[u8]]) -> Result<bool, DiskFault> 
 
 /// Whether the file has these parts and as much room behind them as the first lines had laid by.
 fn has_room(rt: HostRuntime, path: &str, parts: &[&[u8]]) -> Result<bool, DiskFault> {
-    let room = fs::metadata(&rt, path)?.len() == (HEADER.len() + 1 + DiskFile::ROOM) as u64;
+    let room = fs::metadata(&rt, path)?.len()
+        == (HEADER.len() + FIRST.len() + DiskFile::ROOM) as u64;
     Ok(room && has(rt, path, parts)?)
 }
 
@@ -55,10 +56,10 @@ fn made(rt: HostRuntime, path: &str) -> Result<bool, DiskFault> {
     let file = add(rt, path, FIRST)?;
     let busy = matches!(open(&rt, alloc, path), Err(DiskFault::Busy));
     drop(file);
-    let room = has_room(rt, path, &[HEADER, FIRST, b"#"])?;
+    let room = has_room(rt, path, &[HEADER, FIRST])?;
     create(&rt, alloc, path, HEADER)?;
     drop(add(rt, path, SECOND)?);
-    Ok(missing && busy && room && has(rt, path, &[HEADER, FIRST, SECOND, b"#"])?)
+    Ok(missing && busy && room && has(rt, path, &[HEADER, FIRST, SECOND])?)
 }
 
 /// What a crash left behind the last whole line is cut, and the next lines stand in its place.
@@ -66,12 +67,12 @@ fn mended(rt: HostRuntime, path: &str) -> Result<bool, DiskFault> {
     let left = joined(rt.alloc(), &[HEADER, FIRST, b"{\"half"])?;
     fs::write(&rt, path, left.as_slice())?;
     drop(add(rt, path, SECOND)?);
-    has(rt, path, &[HEADER, FIRST, SECOND, b"#"])
+    has(rt, path, &[HEADER, FIRST, SECOND])
 }
 
 /// A byte went bad amid the lines: no crash leaves that, and it can be told before anything is cut.
 fn damaged(rt: HostRuntime, path: &str) -> Result<bool, DiskFault> {
-    let parts: [&[u8]; 4] = [HEADER, FIRST, b"?\"b\":[]}\n", b"#"];
+    let parts: [&[u8]; 3] = [HEADER, FIRST, b"?\"b\":[]}\n\n"];
     let bad = joined(rt.alloc(), &parts)?;
     fs::write(&rt, path, bad.as_slice())?;
     let (_device, bytes) = open(&rt, rt.alloc(), path)?;
@@ -105,7 +106,7 @@ fn beside(rt: HostRuntime, path: &str, new: &str) -> Result<bool, DiskFault> {
     let kept = fs::read(&rt, new)?.len() > HEADER.len() && !fs::exists(&rt, path)?;
     fs::write(&rt, new, "osm-jou")?;
     create(&rt, alloc, path, HEADER)?;
-    let is_made = has(rt, path, &[HEADER, b"#"])? && !fs::exists(&rt, new)?;
+    let is_made = has(rt, path, &[HEADER])? && !fs::exists(&rt, new)?;
     Ok(refused && kept && is_made)
 }
 

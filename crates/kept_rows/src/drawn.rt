@@ -10,42 +10,22 @@ fn drawn(seed: u64) -> u64 {
     x ^ (x >> 31)
 }
 
-/// A byte that a torn write may leave where this one was to be. One that was written alone over another
-/// is trusted to be the old one or the new one: it is how a gate is opened.
-fn torn_byte(old: Option<u8>, new: u8, is_alone: bool, draw: u64) -> u8 {
-    let choices = if is_alone && old.is_some() { 4 } else { 8 };
-    match draw % choices {
-        0 | 1 => old.unwrap_or(0),
-        2 | 3 => new,
-        4 => b'{',
-        5 => b'\n',
-        6 => b'#',
-        _ => ((draw >> 8) % 256) as u8,
-    }
-}
-
-/// What a torn write may leave.
-fn torn(
+/// What a write that a crash cuts short may leave: at each place the byte that was there or the one that
+/// was written, by a share that is drawn too.
+fn mixed(
     alloc: Global,
     old: &[u8],
     at: usize,
     bytes: &[u8],
     seed: u64,
 ) -> Result<Vec<u8>, AllocError> {
-    let end = at.saturating_add(bytes.len());
-    let most = end.max(old.len());
-    let more = (most - old.len()) as u64;
-    let len = old
-        .len()
-        .saturating_add((drawn(seed) % more.saturating_add(1)) as usize);
-    let is_alone = bytes.len() == 1;
+    let share = drawn(seed) % 9;
     let mut left = Vec::new(alloc);
-    for i in 0..len {
-        let was = old.get(i).copied();
-        let draw = drawn(seed.wrapping_add(i as u64).wrapping_mul(7));
+    for (i, was) in old.iter().enumerate() {
+        let draw = drawn(seed.wrapping_add(i as u64).wrapping_mul(7)) % 8;
         let byte = match bytes.get(i.saturating_sub(at)).copied() {
-            Some(new) if i >= at => torn_byte(was, new, is_alone, draw),
-            _ => was.unwrap_or((draw % 256) as u8),
+            Some(new) if i >= at && draw < share => new,
+            _ => *was,
         };
         left.push(byte)?;
     }
@@ -77,8 +57,7 @@ fn settled(deeds: &[Deed]) -> usize {
     last
 }
 
-/// What a crash may leave after these calls: what was synced, and of the rest anything, but for a byte
-/// that was written alone over another.
+/// What a crash may leave after these calls: what was synced, and of the rest what the device allows.
 pub fn left_by(
     alloc: Global,
     first: &[u8],
@@ -94,8 +73,18 @@ pub fn left_by(
                 file = if i < sure || draw % 5 == 0 {
                     put(alloc, &file, *at, bytes)?
                 } else {
-                    torn(alloc, &file, *at, bytes, draw)?
+                    mixed(alloc, &file, *at, bytes, draw)?
                 };
+            }
+            Deed::LaidBy { count } => {
+                let more = if i < sure {
+                    *count
+                } else {
+                    (draw % (*count as u64).saturating_add(1)) as usize
+                };
+                for _ in 0..more {
+                    file.push(0)?;
+                }
             }
             Deed::CutTo { len } => {
                 let more = file.len().saturating_sub(*len) as u64;

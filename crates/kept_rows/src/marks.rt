@@ -2,7 +2,7 @@
 ghost use Rattle.std.specs.Prelude.{◌≡◌, ◌++◌, IfOk, OnOk};
 ghost use Rattle.kept_rows.specs.Marks.{mark_line};
 
-use durable_log::{Behind, Lines, Shelf, SourceFault};
+use durable_log::{Behind, Lines, Shelf, SourceFault, lines_law};
 use journal_file::MemFile;
 use osm_base::Memory;
 use shared_front::{Front, HubName, Tail};
@@ -40,6 +40,7 @@ impl Lines<bool> for MarkLines {
     ghost text = { mark_text };
 
     fn lines_behind(bytes: Vec<u8>, entries: &[bool]) -> Result<Vec<u8>, Memory> {
+        lines_law::<bool>();
         let mut longer = bytes;
         'marks: for mark in entries {
             put(&mut longer, *mark)?;

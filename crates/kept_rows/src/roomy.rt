@@ -51,6 +51,10 @@ impl<const ROOM: usize> Device for RoomyFile<ROOM> {
         self.file.write_at(at, bytes)
     }
 
+    fn lay_by(&mut self, end: usize, count: usize) -> Result<(), DeviceFailed> {
+        self.file.lay_by(end, count)
+    }
+
     fn cut(&mut self, len: usize) -> Result<(), DeviceFailed> {
         self.file.cut(len)
     }

@@ -4,7 +4,7 @@ ghost use Rattle.std.specs.Bool.{Decides};
 ghost use Rattle.kept_rows.specs.Script.{script_line, ended_line};
 
 use crate::texts::HEADER;
-use durable_log::Lines;
+use durable_log::{Lines, lines_law};
 use journal_recovery::{KeptText, TextFault};
 use osm_base::Memory;
 use std::alloc::Global;
@@ -16,7 +16,7 @@ pub enum ScriptLine {
     Array,
     Object,
     Empty,
-    /// A closed gate's byte, as text.
+    /// A byte `#`, as text.
     Gate,
 }
 
@@ -60,6 +60,7 @@ impl Lines<ScriptLine> for ScriptText {
     ghost text = { script_text };
 
     fn lines_behind(bytes: Vec<u8>, entries: &[ScriptLine]) -> Result<Vec<u8>, Memory> {
+        lines_law::<ScriptLine>();
         let mut longer = bytes;
         'lines: for line in entries {
             put(&mut longer, *line)?;

@@ -2,8 +2,9 @@
 ghost use Rattle.std.specs.Prelude.{◌≡◌, []};
 
 use crate::marks::{HEADER, MARKS, MarkShelf, Marks, Source, text_of};
+use crate::texts::text_in;
 use durable_log::{Board, KeepFault, Receipt, Shelf, Told, receipts_for};
-use journal_file::{Deed, JournalFile, MemFile, kept_text};
+use journal_file::{Deed, JournalFile, MemFile};
 use osm_base::Memory;
 use row_lines::Tally;
 use shared_front::{Front, HubName, Opened, Tail};
@@ -23,7 +24,7 @@ fn empty<N: HubName, K: HubName>(
     requires marks { front ≡ [] }
     requires receipts { receipts ≡ [] }
 {
-    let bytes = b"m\n#".to_vec(alloc).map_err(Memory::from)?;
+    let bytes = b"m\n".to_vec(alloc).map_err(Memory::from)?;
     let device = MemFile::new(alloc, bytes.to_vec(alloc).map_err(Memory::from)?, left);
     match JournalFile::open(device, &bytes, &HEADER) {
         Ok(file) => Ok(Shelf::new(file, front, tail, receipts)),
@@ -69,7 +70,7 @@ fn has_all<N: HubName, K: HubName>(
 ) -> Result<bool, Memory> {
     let file = shelf.device();
     let all = marks.marks.as_slice();
-    let whole = kept_text(file.bytes()) == text_of(alloc, all)?.as_slice();
+    let whole = text_in(alloc, file.bytes())?.as_slice() == text_of(alloc, all)?.as_slice();
     let yes = all.iter().filter(|mark| **mark).count();
     let counted = all.len() == 2 * MARKS && yes == MARKS;
     let given = shelf.receipts().len();

@@ -5,7 +5,8 @@ ghost use Rattle.kept_rows.specs.declared.script.ScriptLine.{ScriptLine};
 
 use crate::drawn::left_by;
 use crate::script::{ScriptLine, ScriptText, text_of};
-use journal_file::{Deed, JournalFile, MemFile, kept_text};
+use crate::texts::text_in;
+use journal_file::{Deed, JournalFile, MemFile};
 use journal_recovery::{EntryJudge, RestartFault, TextFault, restart};
 use osm_base::Memory;
 use std::alloc::Global;
@@ -94,7 +95,10 @@ fn finds<R: Threads + Sync>(
     text: &[u8],
 ) -> Result<bool, Memory> {
     let found = found_in(rt, alloc, file)?;
-    Ok(kept_text(file) == text && found.is_some_and(|found| found.as_slice() == text))
+    Ok(
+        text_in(alloc, file)?.as_slice() == text
+            && found.is_some_and(|found| found.as_slice() == text),
+    )
 }
 
 /// Whether a start finds this text in what a crash leaves of the file after these calls.
@@ -118,8 +122,8 @@ fn has_text(
     text: &[u8],
 ) -> Result<bool, Memory> {
     let found = text_of(alloc, lines)?;
-    let stands = kept_text(open.device().bytes()) == text && open.len() == text.len();
-    Ok(stands && found.as_slice() == text)
+    let stands = text_in(alloc, open.device().bytes())?;
+    Ok(stands.as_slice() == text && found.as_slice() == text)
 }
 
 /// Whether a start from what a crash left finds this text, where so many calls are done and then it

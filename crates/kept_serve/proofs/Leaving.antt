@@ -1,6 +1,8 @@
 -- What a file leaves by which nobody was served.
-use Rattle.std.proofs.Common.{◌≡◌, ℕ, List, [], length, sym, ap, ◌∙◌, subst, append-nil}
-use Rattle.durable_log.specs.Held.{HoldsFrom, LeavesAll}
+use Rattle.std.proofs.Common.{◌≡◌, ◌≤◌, ℕ, List, [], ◌∷◌, length, sym, ap, ◌∙◌, subst, append-nil}
+use mathlib.Core.List.{IsPrefix}
+use Rattle.durable_log.specs.Held.{Holds as HoldsSome, HoldsFrom, LeavesAll}
+use Rattle.durable_log.specs.Receipts.{Receipt, IsKept, AreKept}
 
 module _ {E D : Type 0} (text : List E → List ℕ) (moment : D → ℕ) (left_since : D → ℕ → List ℕ → Type 0) (faults : D → ℕ) where
   -- every crash from now on leaves just these entries
@@ -30,3 +32,18 @@ module _ {E D : Type 0} (text : List E → List ℕ) (moment : D → ℕ) (left_
   -- a device that leaves such a front
   pub left_front : (device : D) (J front : List E) → front ≡ J → LeavesAll text moment left_since device front → faults device ≡ 0 → Left device J
   left_front device J front same all fine = (subst (λ (l : List E). LeavesAll text moment left_since device l) same all, fine)
+
+  -- a device whose shelf has given one receipt, which is for all of these
+  pub kept_all : (may_leave : D → List ℕ → Type 0)
+      → ((d : D) (t : ℕ) (c : List ℕ) → t ≤ moment d → may_leave d c → left_since d t c)
+      → ((d : D) (c : List ℕ) → left_since d (moment d) c → may_leave d c)
+      → (old new : D) (entries first : List E) (receipts : List Receipt) (r : Receipt) → new ≡ old → receipts ≡ r ∷ [] → r.count ≡ length first → IsPrefix first entries
+      → AreKept text moment left_since old entries receipts → LeavesAll text moment left_since new first
+  kept_all may_leave counts only old new entries first receipts r same one count begins kept =
+      let all = subst (λ (l : List Receipt). AreKept text moment left_since old entries l) one kept in
+      let is : IsKept text moment left_since old entries r = all.0 in
+      subst (λ (d : D). LeavesAll text moment left_since d first) (sym same) (record {
+        list = entries;
+        begins = begins;
+        holds = λ c left. subst (λ (n : ℕ). HoldsSome text n entries c) count (is.holds c (counts old r.moment.at c is.come (only old c left)));
+      })

@@ -11,5 +11,5 @@ mod workers;
 pub use makers::KeptMaker;
 pub use matching::{are_given, ended, outcome_of};
 pub use seats::{has_seats, seats_for};
-pub use shelving::{leave_shelf, shelve};
+pub use shelving::{leave_shelf, seal_shelf, shelve};
 pub use workers::{KeptBack, serve_kept_by};

@@ -79,3 +79,15 @@ pub fn leave_shelf<N: HubName, K: HubName, E, T: Lines<E>, V: Device, W: Wait>(
     }
     unreachable!()
 }
+
+/// The shelf, sealed, as a stop leaves it. Where a call of its device fails, the shelf is broken.
+pub fn seal_shelf<N: HubName, K: HubName, E, T: Lines<E>, V: Device>(
+    shelf: Shelf<N, K, E, T, V>,
+) -> Shelf<N, K, E, T, V>
+    ensures entries { result.entries ≡ shelf.entries }
+    ensures receipts { result.receipts ≡ shelf.receipts }
+{
+    let mut shelf = shelf;
+    let _sealed = shelf.seal();
+    shelf
+}

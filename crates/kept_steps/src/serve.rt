@@ -8,7 +8,7 @@ ghost use Rattle.kept_steps.specs.KeptPorts.{AreMatched, ServesKeptPorts};
 use crate::ports::{KeptBack, KeptDesks, serve_by};
 use durable_log::{Board, Lines, Receipt, Shelf, Told, receipts_stay};
 use journal_file::{Device, JournalFile};
-use kept_serve::{are_given, ended, leave_shelf, shelve};
+use kept_serve::{are_given, ended, leave_shelf, seal_shelf, shelve};
 use link_workers::Outcome;
 use osm_outside::{Port, PortOutside};
 use shared_front::{Front, HubName, Opened};
@@ -133,6 +133,7 @@ where
     let Ok(back) = served else {
         return (Outcome::LacksMemory, leave_shelf(rt, &first, &had, shelf));
     };
+    let shelf = seal_shelf(shelf);
     shelf.law();
     let outcome = outcome_of(rt, &had, &back, &shelf);
     (outcome, shelf.into_device())

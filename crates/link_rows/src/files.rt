@@ -9,8 +9,11 @@ use std::{env, fs, io, process};
 
 const HEADER: &[u8] = b"osm-journal 2\n";
 
-/// A new journal's file: the header and a closed gate.
-const NEW: &[u8] = b"osm-journal 2\n#";
+/// A new journal's file: the header alone.
+const NEW: &[u8] = b"osm-journal 2\n";
+
+/// A file of an older version, whose text ends with its first line where a byte became 0.
+const LOST: &[u8] = b"osm-journal 2\n{}\n\0}\n#";
 
 fn text_at(rt: HostRuntime, path: &str) -> Result<Bytes, HostFault> {
     FileHost::new(rt, &Stop::new()).users(rt.alloc(), path)
@@ -73,6 +76,22 @@ fn a_journal_without_a_folder_is_missing(rt: HostRuntime) -> bool {
     matches!(outcome, Err(DiskFault::Missing))
 }
 
+/// What a journal's file with these bytes is refused for, if it is.
+fn refused(rt: HostRuntime, path: &str, file: &[u8]) -> io::Result<Option<DiskFault>> {
+    fs::write(&rt, path, file)?;
+    let stop = Stop::new();
+    let outcome = FileJournals::new(rt, &stop).lend(rt.alloc(), path, HEADER);
+    let _ = fs::remove_file(&rt, path);
+    Ok(outcome.err())
+}
+
+fn a_file_that_lost_lines_is_unfit(rt: HostRuntime) -> bool {
+    let Ok(path) = journal_path(rt) else {
+        return false;
+    };
+    matches!(refused(rt, path.as_str(), LOST), Ok(Some(DiskFault::Unfit)))
+}
+
 pub fn play(rt: HostRuntime, tally: &mut Tally) {
     tally.note(&rt, "a file gives its text", a_file_gives_its_text(rt));
     tally.note(
@@ -89,5 +108,10 @@ pub fn play(rt: HostRuntime, tally: &mut Tally) {
         &rt,
         "a journal without a folder is missing",
         Ok(a_journal_without_a_folder_is_missing(rt)),
+    );
+    tally.note(
+        &rt,
+        "a file that lost lines is unfit",
+        Ok(a_file_that_lost_lines_is_unfit(rt)),
     );
 }

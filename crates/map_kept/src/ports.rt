@@ -28,7 +28,7 @@ use entry_file::EntryLines;
 use http_link::LinkEnd;
 use journal_file::{Device, JournalFile};
 use kept_desk::{Keeper, KeptSession};
-use kept_serve::{KeptBack, leave_shelf, outcome_of, shelve};
+use kept_serve::{KeptBack, leave_shelf, outcome_of, seal_shelf, shelve};
 use link_workers::{Outcome, Service, Worker, any_failed, seat_all, serve_all, unseat_all};
 use map_machine::MapMachine;
 use osm_base::Memory;
@@ -320,6 +320,7 @@ pub fn serve_kept_ports<
     let Ok(back) = served else {
         return (Outcome::LacksMemory, leave_shelf(rt, &front, &had, shelf));
     };
+    let shelf = seal_shelf(shelf);
     shelf.law();
     let outcome = outcome_of(rt, &back, &shelf);
     hub.close_with_spare(rt, &back.sessions, &spare);

@@ -1,5 +1,5 @@
 //! How the entries of the notes' journal are written, and read again.
-use durable_log::Lines;
+use durable_log::{Lines, lines_law};
 use journal_recovery::{KeptText, TextFault};
 use line_text::LineFault;
 use notes_core::NoteEntry;
@@ -20,6 +20,7 @@ impl Lines<NoteEntry> for NoteLines {
 
     fn lines_behind(bytes: Vec<u8>, entries: &[NoteEntry]) -> Result<Vec<u8>, Memory> {
         lines_are_plain();
+        lines_law::<NoteEntry>();
         let longer = lines_behind(bytes, entries)?;
         Ok(longer)
     }

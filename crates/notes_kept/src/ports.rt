@@ -18,7 +18,7 @@ use crate::makers::NotesKeptDesks;
 use desk_serve::points_are_consistent;
 use durable_log::{Board, Lines, Receipt, Told, receipts_stay};
 use journal_file::{Device, JournalFile};
-use kept_serve::{KeptBack, leave_shelf, outcome_of, serve_kept_by, shelve};
+use kept_serve::{KeptBack, leave_shelf, outcome_of, seal_shelf, serve_kept_by, shelve};
 use link_workers::Outcome;
 use notes_core::{NoteEntry, NotesMachine};
 use notes_desk::{NotesHub, NotesSession};
@@ -137,6 +137,7 @@ pub fn serve_kept_ports<
     let Ok(back) = served else {
         return (Outcome::LacksMemory, leave_shelf(rt, &front, &had, shelf));
     };
+    let shelf = seal_shelf(shelf);
     shelf.law();
     let outcome = outcome_of(rt, &back, &shelf);
     hub.close_with_spare(rt, &back.sessions, &spare);

@@ -4,6 +4,7 @@ pub mod Documents
 pub mod Each
 pub mod Entered
 pub mod Firsts
+pub mod FullData
 pub mod Gathered
 pub mod Given
 pub mod Grouped

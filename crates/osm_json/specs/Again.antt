@@ -47,6 +47,10 @@ abbrev mutual
 abbrev pub is_one_line : List ℕ → Bool
 is_one_line text = list_all (λ b. not (b == 10)) text
 
+-- no byte 0 stands in it
+abbrev pub has_no_zero : List ℕ → Bool
+has_no_zero text = list_all (λ b. not (b == 0)) text
+
 -- ---- parts of a text that is read token by token
 
 -- what begins the tokens, read, and the tokens behind it

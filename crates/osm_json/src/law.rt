@@ -9,7 +9,7 @@ ghost use Rattle.osm_base.specs.declared.keys.Kind.{Kind};
 ghost use Rattle.osm_element.specs.Tags.{Tag, KeysRise};
 ghost use Rattle.osm_change.specs.Document.{document_of};
 ghost use Rattle.osm_change.specs.declared.operations.Op.{Op};
-ghost use Rattle.osm_json.specs.Again.{IsPlainData, is_one_line, natural_of, next_as, ops_of};
+ghost use Rattle.osm_json.specs.Again.{IsPlainData, has_no_zero, is_one_line, natural_of, next_as, ops_of};
 ghost use Rattle.osm_json.specs.Reading.{kind_of, tags_of};
 ghost use Rattle.osm_json.specs.Rows.{tags as tags_data};
 ghost use Rattle.osm_json.specs.Sent.{tokens_of};
@@ -19,10 +19,11 @@ ghost use Rattle.osm_json.specs.Uploads.{IsChange, change};
 use osm_change::changes_are_read_again;
 
 /// The tokens of the compact text of plain data are those that were written for it, and the text
-/// is one line: no byte 10 stands in it.
+/// is one line: no byte 10 stands in it, and no byte 0 either.
 pub fn texts_are_read_again()
     ensures tokens { (d : Data) → IsPlainData d → tokens (compact_text d) ≡ tokens_of d }
     ensures line { (d : Data) → IsPlainData d → is_one_line (compact_text d) ≡ true }
+    ensures full { (d : Data) → IsPlainData d → has_no_zero (compact_text d) ≡ true }
 {}
 
 /// What is written for tags and for a change is plain, and is read as those tags and as the

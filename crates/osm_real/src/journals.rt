@@ -3,6 +3,7 @@ ghost use Rattle.std.specs.Prelude.{◌≡◌, IfOk};
 ghost use Rattle.journal_file.specs.History.{opened};
 
 use crate::named_file::NamedFile;
+use crate::older_file::has_lost_lines;
 use crate::stop::Stop;
 use crate::stopping_file::StoppingFile;
 use journal_file::{DiskFault, DiskFile, create, open};
@@ -63,7 +64,8 @@ impl<'a, F: Files<File = File> + Clock + Copy + Send> Journals for FileJournals<
     }
 }
 
-/// The file at that path, by its name too.
+/// The file at that path, by its name too. `Failed` where fewer bytes were read than it has, and `Unfit`
+/// where it is of an older version and has lost lines.
 fn open_named<F: Files<File = File>>(
     files: &F,
     alloc: Global,
@@ -74,7 +76,14 @@ fn open_named<F: Files<File = File>>(
 {
     let name = String::from_str(alloc, path)?;
     let (file, bytes) = open_or_create(files, alloc, path, header)?;
-    Ok((file, NamedFile::of(files, name), bytes))
+    let named = NamedFile::of(files, name);
+    if !named.was_read(files, bytes.len()) {
+        return Err(DiskFault::Failed);
+    }
+    if has_lost_lines(&bytes, header) {
+        return Err(DiskFault::Unfit);
+    }
+    Ok((file, named, bytes))
 }
 
 /// The file at that path, which is made first where there is none.

@@ -8,6 +8,7 @@ mod host;
 mod journals;
 mod listen;
 mod named_file;
+mod older_file;
 mod patient;
 mod stop;
 mod stopping_file;

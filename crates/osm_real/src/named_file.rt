@@ -18,6 +18,14 @@ impl NamedFile {
         NamedFile { path, file }
     }
 
+    /// Whether these many bytes are all that the file at this path has. Where that can't be told, they are.
+    pub fn was_read<F: Files>(&self, files: &F, count: usize) -> bool {
+        match fs::metadata(files, self.path.as_str()) {
+            Ok(found) => found.len() == count as u64,
+            Err(_) => true,
+        }
+    }
+
     /// Whether another file has the path by now. Where none has it any more, or that can't be told,
     /// there is no other.
     pub fn is_another<F: Files>(&self, files: &F) -> bool {

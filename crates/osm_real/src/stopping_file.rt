@@ -86,6 +86,11 @@ impl<'a, S: Clock + Files> Device for StoppingFile<'a, S> {
         self.told(outcome)
     }
 
+    fn lay_by(&mut self, end: usize, count: usize) -> Result<(), DeviceFailed> {
+        let outcome = self.file.lay_by(end, count);
+        self.told(outcome)
+    }
+
     fn cut(&mut self, len: usize) -> Result<(), DeviceFailed> {
         let outcome = self.file.cut(len);
         self.told(outcome)

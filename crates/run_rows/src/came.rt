@@ -1,7 +1,7 @@
 //! A run, and what came of it.
 use crate::given::Given;
 use crate::ports::ports_of;
-use journal_file::{MemFile, kept_text};
+use journal_file::{MemFile, raw_text};
 use journal_host::MemJournals;
 use mirror_serve::mirror;
 use osm_base::{Bytes, Memory};
@@ -133,9 +133,24 @@ impl Came {
         }
     }
 
-    /// What the file holds that came back.
-    pub fn text(&self) -> &[u8] {
-        kept_text(self.file())
+    /// What the file holds that came back, without the empty lines among its lines.
+    pub fn text(&self, alloc: Global) -> Result<Vec<u8>, Memory> {
+        let mut text = Vec::new(alloc);
+        let mut before = b'\n';
+        for byte in raw_text(self.file()) {
+            if *byte != b'\n' || before != b'\n' {
+                text.push(*byte)?;
+            }
+            before = *byte;
+        }
+        Ok(text)
+    }
+
+    /// Whether two empty lines stand behind what it holds, and nothing but zeros behind those.
+    pub fn is_sealed(&self) -> bool {
+        let raw = raw_text(self.file());
+        let behind = self.file().get(raw.len()..).unwrap_or(&[]);
+        raw.ends_with(b"\n\n\n") && behind.iter().all(|byte| *byte == 0)
     }
 
     /// Whether a file came back that had no call.

@@ -137,9 +137,9 @@ impl Played {
             Check::Places => Ok(self.has_places(mixed)),
             Check::Last => self.has_last(alloc, rest),
             Check::Found => self.has_found(rest),
-            Check::Holds => Ok(self.came.text() == text),
-            Check::Closed => Ok(self.is_closed()),
-            Check::Mixed => self.is_mixed(mixed, text),
+            Check::Holds => Ok(self.came.text(alloc)?.as_slice() == text),
+            Check::Sealed => Ok(self.came.is_sealed()),
+            Check::Mixed => self.is_mixed(alloc, mixed, text),
             Check::State => self.has_state(alloc, mixed, rest),
             Check::Untouched => Ok(self.came.is_untouched()),
             Check::Same => Ok(self.is_same(given)),
@@ -244,17 +244,10 @@ impl Played {
         }
     }
 
-    /// Whether the gate behind the lines is closed.
-    fn is_closed(&self) -> bool {
-        match self.came.file().strip_prefix(self.came.text()) {
-            Some(behind) => behind.first().copied() == Some(b'#'),
-            None => false,
-        }
-    }
-
     /// Whether the file has this header, and behind it lines of the sessions.
-    fn is_mixed(&self, mixed: &mut Mixed, header: &[u8]) -> Result<bool, RowFault> {
-        match self.came.text().strip_prefix(header) {
+    fn is_mixed(&self, alloc: Global, mixed: &mut Mixed, header: &[u8]) -> Result<bool, RowFault> {
+        let text = self.came.text(alloc)?;
+        match text.strip_prefix(header) {
             Some(lines) => mixed.read(str::from_utf8(lines).unwrap_or("?")),
             None => Ok(false),
         }

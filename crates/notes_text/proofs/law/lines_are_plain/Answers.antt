@@ -7,3 +7,6 @@ returns-clause-begins c = begins
 
 pub returns-clause-one : goal.returns-clause-one
 returns-clause-one c = λ e is. c.texts_are_read_again.ensures.line (line_data e) (line_plain e is)
+
+pub returns-clause-full : goal.returns-clause-full
+returns-clause-full c = λ e is. c.texts_are_read_again.ensures.full (line_data e) (line_plain e is)

@@ -1,4 +1,4 @@
-use Rattle.std.proofs.Common.{◌≡◌, ◌++◌, ℕ, length, refl, sym, ◌∙◌, ap, subst, arith, length-append}
+use Rattle.std.proofs.Common.{◌≡◌, ◌≤◌, ◌++◌, ℕ, length, refl, sym, ◌∙◌, ap, subst, arith, length-append}
 use Rattle.std.proofs.lemmas.Bool.{both_ways}
 use Rattle.durable_log.specs.Held.{HoldsFrom}
 use Rattle.durable_log.specs.Receipts.{AreKept}
@@ -68,3 +68,27 @@ pub returns-in-Err-Full-clause-stays : goal.returns-in-Err-Full-clause-stays
 returns-in-Err-Full-clause-stays g c t k enough come =
     stays_longer g.T.Lines.text g.D.Device.left_since c.args.self.now.device c.keep.new.file.device t k c.args.self.now.entries c.args.entries.now c.args.longer
     (ap (λ f. f.device) ((c.in-Err-Full.ensures.full (rw c.in-Err-Full.field-0-is refl)).0) ∙ ap (λ s. s.device) c.self.view_is) c.requires
+
+pub returns-after-give-clause-stays : goal.returns-after-give-clause-stays
+returns-after-give-clause-stays g c t k =
+    let d = g.D.Device in
+    let text = g.T.Lines.text in
+    let held = c.self.inside.front in
+    let entries = c.args.entries.now in
+    let device = c.keep.new.file.device in
+    let all : held ++ entries ≡ c.args.longer = ap (λ l. l ++ entries) (ap (λ s. s.entries) c.self.view_is) ∙ sym c.requires in
+    let was : c.self.inside.file.text ≡ text held = c.self.invariant.0 (sym c.is_broken.ensures ∙ c.if-is_broken.false) in
+    subst (λ s. k ≤ length s.entries → t ≤ d.moment s.device → HoldsFrom text d.left_since s.device t k s.entries → HoldsFrom text d.left_since device t k c.args.longer) c.self.view_is
+    (λ enough come holds. subst (λ l. HoldsFrom text d.left_since device t k l) all (c.in-Ok.ensures.each held t k was enough come holds))
+
+pub returns-in-Err-File-clause-stays : goal.returns-in-Err-File-clause-stays
+returns-in-Err-File-clause-stays g c t k =
+    let d = g.D.Device in
+    let text = g.T.Lines.text in
+    let held = c.self.inside.front in
+    let entries = c.args.entries.now in
+    let device = c.keep.new.file.device in
+    let all : held ++ entries ≡ c.args.longer = ap (λ l. l ++ entries) (ap (λ s. s.entries) c.self.view_is) ∙ sym c.requires in
+    let was : c.self.inside.file.text ≡ text held = c.self.invariant.0 (sym c.is_broken.ensures ∙ c.if-is_broken.false) in
+    subst (λ s. k ≤ length s.entries → t ≤ d.moment s.device → HoldsFrom text d.left_since s.device t k s.entries → HoldsFrom text d.left_since device t k c.args.longer) c.self.view_is
+    (λ enough come holds. subst (λ l. HoldsFrom text d.left_since device t k l) all (c.in-Err-File.ensures.each held t k was enough come holds))

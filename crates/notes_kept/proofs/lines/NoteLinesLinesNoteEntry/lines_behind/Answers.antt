@@ -1,6 +1,17 @@
-use Rattle.journal_recovery.proofs.WholeEntries.{are_lines}
+use Rattle.std.proofs.Common.{refl}
+use Rattle.journal_recovery.proofs.WholeEntries.{have_one}
+use Rattle.line_text.specs.Lines.{lines_of}
 use Rattle.notes_text.specs.Line.{line, IsEntry}
 use Rattle.notes_kept.proofs.lines.NoteLinesLinesNoteEntry.lines_behind.Goals as goal
 
 pub returns-clause-whole : goal.returns-clause-whole
-returns-clause-whole c = are_lines line IsEntry c.lines_are_plain.ensures.begins c.lines_are_plain.ensures.one c.args.entries.now c.in_ok-longer.ensures.typed
+returns-clause-whole c =
+    let plain = c.lines_are_plain.ensures in
+    let entries = c.args.entries.now in
+    (c.lines_law.ensures line (lines_of line) refl (λ e es. refl) entries (have_one line IsEntry plain.begins plain.one plain.full entries c.in_ok-longer.ensures.typed)).0
+
+pub returns-clause-each : goal.returns-clause-each
+returns-clause-each c =
+    let plain = c.lines_are_plain.ensures in
+    let entries = c.args.entries.now in
+    (c.lines_law.ensures line (lines_of line) refl (λ e es. refl) entries (have_one line IsEntry plain.begins plain.one plain.full entries c.in_ok-longer.ensures.typed)).1
