@@ -47,12 +47,14 @@ def entries_of_feed(url: str, token: str) -> Iterator[bytes]:
 
 
 def entries_of_file(path: str) -> Iterator[bytes]:
-    """The whole lines before the gate (docs/JOURNAL.md); a program may be adding more."""
+    """The whole lines, without the empty ones among them (docs/JOURNAL.md); a program may be adding more."""
     with open(path, "rb") as file:
         if file.readline(len(HEADER)) != HEADER:
             raise Unusable(f"{path} isn't a journal in version 2 of its text")
         for line in file:
-            if not (line.startswith(b"{") and line.endswith(b"\n")):
+            if line == b"\n":
+                continue
+            if not (line.startswith(b"{") and line.endswith(b"\n")) or b"\0" in line:
                 return
             yield line[:-1]
 

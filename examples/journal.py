@@ -1,13 +1,15 @@
 #!/usr/bin/env python3
-"""What is in a journal's file, and where it is damaged: examples/journal.py FILE [--verify] [--json] [--program PROGRAM]
+"""What is in a journal's file, and where it is damaged: examples/journal.py FILE [--verify] [--json] [--text] [--program PROGRAM]
 
 Reads FILE once, from its beginning to its end, and writes nothing to it; a server may have it open meanwhile, and what is told is then of a
-moment within the reading. It tells whose journal it is, how many entries it has and of which kinds, where its text ends, and what stands behind.
-Of a damaged file it tells the first byte that is wrong, and why: a line's form and the order of calls and stamps are judged here, by
-docs/JOURNAL.md. Bytes are counted from 0, so that as many stand before one, and lines from 1. It repairs nothing.
+moment within the reading. It tells whose journal it is, how many entries it has and of which kinds, where its text ends, whether it is sealed,
+and what stands behind. Of a damaged file it tells the first byte that is wrong, and why: a line's form, the order of calls and stamps, and what
+a crash may leave, are judged here, by docs/JOURNAL.md. Bytes are counted from 0, so that as many stand before one, and lines from 1, without
+the empty ones. It repairs nothing.
 
 --verify has `PROGRAM replay` judge the text by the map's rules too, compares what that counts, and finds the first line that it refuses.
-PROGRAM is ./osm where none is named. For notes there is no replay. --json tells all of it as one object.
+PROGRAM is ./osm where none is named. For notes there is no replay. --json tells all of it as one object. --text writes the text itself, without
+its empty lines and up to where it ends or is wrong, and tells all else on the standard error.
 
 Status 0 for a whole journal, 1 where it is damaged or the file holds none, 2 where it couldn't be told: the words have no reading, the file
 can't be read, or what --verify asks can't be had.
@@ -18,6 +20,7 @@ from __future__ import annotations
 import argparse
 import json
 import os
+import re
 import stat
 import subprocess
 import sys
@@ -38,7 +41,12 @@ LONGEST = 1 << 28  # bytes of a line that is read, and of a text that `replay` r
 PART = 1 << 20
 SESSION_LIMIT = 64
 REFUSED = 8  # the status of `replay`
-GATE, BRACE, END = b"#", b"{", b"\n"
+GATE, BRACE, END, ZERO = b"#", b"{", b"\n", b"\0"
+PAIR = b"\n\n"  # a batch's end, and the two empty lines that seal a file
+EMPTY_LINES = re.compile(rb"\n{2,}")
+SEALED = "yes, by the empty lines of a start or of a stop in order"
+UNSEALED = "not since its last batch, of which a byte that became 0 isn't told"
+BEHIND_GATE = "left by a crash, or lost where a { became the #"
 NEXT_LINE = b'\n{"at":'  # where another entry begins, behind the end of a line
 
 
@@ -61,13 +69,18 @@ class Fault(NamedTuple):
 
 
 class Behind(NamedTuple):
-    """What stands behind the gate, or behind the line with the fault."""
+    """What stands behind the text, or from the line with the fault on."""
 
     bytes: int = 0
     zeros: int = 0
     """At its end."""
     entries: int = 0
-    """Lines that begin as entries do."""
+    """Lines that begin as entries do, but for the first."""
+    goes_on: bool = False
+    """Something is written behind the first two bytes 10 that stand side by side."""
+
+    def is_room(self) -> bool:
+        return self.zeros == self.bytes
 
 
 @dataclass
@@ -77,6 +90,10 @@ class Found:
     form: Form | None = None
     end: int = 0
     """Where the text ends, or what of it is whole: so many bytes stand before."""
+    empty: int = 0
+    """Empty lines, which don't count."""
+    last_empty: int = 0
+    """Those behind the last line."""
     entries: int = 0
     first: int = 0
     last: int = 0
@@ -85,10 +102,16 @@ class Found:
     acts: Counter[str] = field(default_factory=Counter)
     counts: Counts = field(default_factory=dict)
     gate: int | None = None
-    torn: bool = False
-    """One byte that is no gate stands at the end of the file."""
+    """The `#` by which older versions end their text."""
     behind: Behind = Behind()
     fault: Fault | None = None
+
+    def text_bytes(self) -> int:
+        return self.end - self.empty
+
+    def is_sealed(self) -> bool:
+        """Whether more empty lines stand behind the last line than a batch has. The first batch stands behind two, or was an older version's."""
+        return self.last_empty >= len(PAIR) + (self.empty > self.last_empty)
 
     def refused(self, entry: Entry) -> tuple[Path, str] | None:
         """Which value of an entry may not follow, and why."""
@@ -112,20 +135,29 @@ class Found:
             self.counts[operation] = self.counts.get(operation, 0) + count
         self.entries += 1
         self.end += len(line)
+        self.last_empty = 0
+
+    def add_empty(self) -> None:
+        self.end += 1
+        self.empty += 1
+        self.last_empty += 1
 
 
-def behind(file: BufferedReader, first: bytes, before: bytes) -> Behind:
-    """Counts the rest of a file from these first bytes on, before which those count as standing."""
+def behind(file: BufferedReader, first: bytes) -> Behind:
+    """Counts the rest of a file from these first bytes on."""
     total = filled = entries = 0
-    held = before
+    paired: int | None = None
+    held = b""
     for part in chain([first], iter(partial(file.read, PART), b"")):
-        total += len(part)
-        if some := part.rstrip(b"\0"):
-            filled = total - len(part) + len(some)
         held += part
+        if paired is None and (place := held.find(PAIR)) >= 0:
+            paired = total + len(part) - len(held) + place + len(PAIR)
+        total += len(part)
+        if some := part.rstrip(ZERO):
+            filled = total - len(part) + len(some)
         entries += held.count(NEXT_LINE)
         held = held[1 - len(NEXT_LINE) :]
-    return Behind(total, total - filled, entries)
+    return Behind(total, total - filled, entries, paired is not None and filled > paired)
 
 
 def no_header(head: bytes) -> Fault:
@@ -135,10 +167,10 @@ def no_header(head: bytes) -> Fault:
     return Fault(1, 0, place, "the first line is no header of a journal")
 
 
-def unended(line: bytes) -> Unfit:
-    """What is wrong with a line that no byte 10 ends."""
-    if len(line) == LONGEST:
-        return Unfit(LONGEST, f"no byte 10 ends the line within {LONGEST} bytes")
+def broken(line: bytes) -> Unfit:
+    """What is wrong with a line that isn't whole, where no crash has left it so."""
+    if ZERO in line:
+        return Unfit(line.index(ZERO), "byte 0 stands in no line")
     words = line.decode(errors="surrogateescape")
     with suppress(ValueError, RecursionError):
         end = json.JSONDecoder().raw_decode(words)[1]
@@ -148,18 +180,45 @@ def unended(line: bytes) -> Unfit:
     return Unfit(len(line), "the file ends within the line")
 
 
-def end_text(found: Found, file: BufferedReader, line: bytes) -> Unfit | None:
-    """Looks at what stands behind the whole lines, of which this is the first part: a gate, or what is wrong."""
-    if line.startswith(GATE):
-        found.gate = found.end
-        found.behind = behind(file, line[1:], END + BRACE)
-        return None
-    if not line.startswith(BRACE) and (len(line) > 1 or file.peek(1)):
-        return Unfit(0, f"the line begins with byte {line[0]}, and neither with {{ nor with the gate #")
-    if len(line) > 1:
-        return unended(line)
-    found.torn = True
+def wrong_behind(found: Found, line: bytes) -> Unfit | None:
+    """What is wrong with what stands behind the text, of which this is the first part; nothing where a crash may have left it."""
+    if line[:1] not in (ZERO, BRACE, GATE):
+        return Unfit(0, f"the line begins with byte {line[0]}, and not with {{")
+    if len(line) == LONGEST and line.startswith(BRACE) and ZERO not in line:
+        return Unfit(LONGEST, f"no byte 10 ends the line within {LONGEST} bytes")
+    if found.behind.goes_on:
+        wrong = broken(line) if line.startswith(BRACE) else Unfit(0, f"the line begins with byte {line[0]}, and not with {{")
+        return Unfit(wrong.place, f"{wrong.why}, and lines that were kept stand behind it")
+    if not line.startswith(GATE) and not found.empty and found.behind.bytes > 1 and not found.behind.is_room():
+        wrong = broken(line) if line.startswith(BRACE) else Unfit(0, "byte 0 stands here")
+        return Unfit(wrong.place, f"{wrong.why}, where a file of an older version has its lines or the # behind them")
     return None
+
+
+def read_lines(found: Found, file: BufferedReader) -> tuple[bytes, Unfit | None]:
+    """Takes lines as long as they are whole and right. What comes next, at first, and what is wrong with it where it is a whole line."""
+    while first := file.peek(1)[:1]:
+        if first == END:
+            file.read(1)
+            found.add_empty()
+            continue
+        if first != BRACE:
+            return file.read(1), None
+        line = file.readline(LONGEST)
+        if not line.endswith(END) or ZERO in line:
+            return line, None
+        try:
+            found.add(line)
+        except Unfit as why:
+            return line, why
+    return b"", None
+
+
+def read_end(found: Found, file: BufferedReader) -> tuple[bytes, Unfit | None]:
+    """Reads from where the text ends so far to the end of the file: the first part of what stands behind the text, and what is wrong there."""
+    rest, wrong = read_lines(found, file)
+    found.behind = behind(file, rest)
+    return rest, wrong or (wrong_behind(found, rest) if rest else None)
 
 
 def read(file: BufferedReader) -> Found:
@@ -170,18 +229,17 @@ def read(file: BufferedReader) -> Found:
         found.fault = no_header(head)
         return found
     found.end = len(head)
-    wrong: Unfit | None = None
-    while not wrong and (line := file.readline(LONGEST)):
-        if not line.startswith(BRACE) or not line.endswith(END):
-            wrong = end_text(found, file, line)
-            break
-        try:
-            found.add(line)
-        except Unfit as why:
-            wrong = why
+    rest, wrong = read_end(found, file)
+    # A server may have added lines while what stands behind them was read: those that are wrong are so the second time too.
+    end = 0
+    while wrong and found.end != end:
+        end = found.end
+        file.seek(end)
+        rest, wrong = read_end(found, file)
     if wrong:
         found.fault = Fault(found.entries + 2, found.end, found.end + wrong.place, wrong.why)
-        found.behind = behind(file, b"", END)
+    elif rest.startswith(GATE):
+        found.gate = found.end
     return found
 
 
@@ -219,7 +277,7 @@ class Replay:
         with process, open(self.path, "rb") as file:
             assert process.stdin and process.stdout
             with suppress(BrokenPipeError):
-                for part in parts(file, end):
+                for part in text_parts(file, end):
                     process.stdin.write(part)
             with suppress(BrokenPipeError):
                 process.stdin.close()
@@ -244,7 +302,7 @@ class Replay:
         if not came.is_taken:
             begins, end = self.first_refused(begins, found.end)
             with open(self.path, "rb") as file:
-                line = sum(part.count(END) for part in parts(file, begins)) + 1
+                line = sum(part.count(END) for part in text_parts(file, begins)) + 1
             return Fault(line, begins, begins, f"the rules of the map refuse this line of {end - begins} bytes", by_rules=True)
         visible = {kind: came.told.get(f"{kind}s", -1) for kind in KINDS}
         created = {kind: by_name(found.counts)["create", kind] for kind in KINDS}
@@ -258,6 +316,17 @@ def parts(file: BufferedReader, end: int) -> Iterator[bytes]:
     while end and (part := file.read(min(end, PART))):
         yield part
         end -= len(part)
+
+
+def text_parts(file: BufferedReader, end: int) -> Iterator[bytes]:
+    """The text that stands in the first bytes of a file: its lines but for the empty ones."""
+    last = b""
+    for part in parts(file, end):
+        if last == END:
+            part = part.lstrip(END)
+        if part:
+            last = part[-1:]
+            yield EMPTY_LINES.sub(END, part)
 
 
 def end_between(file: BufferedReader, low: int, high: int) -> int | None:
@@ -295,11 +364,13 @@ def facts_of(path: str, found: Found, process: int | None, is_verified: bool) ->
         "highest_session": max(found.calls, default=None),
         "first_stamp": found.first if found.entries else None,
         "last_stamp": found.last if found.entries else None,
-        "text_bytes": found.end,
+        "text_bytes": found.text_bytes(),
         "text_lines": found.entries + bool(found.form),
+        "text_end": found.end,
+        "empty_lines": found.empty,
+        "sealed": found.is_sealed(),
         "gate": found.gate,
-        "torn": found.torn,
-        "behind": found.behind._asdict(),
+        "behind": {name: count for name, count in found.behind._asdict().items() if name != "goes_on"},
         "fault": found.fault._asdict() if found.fault else None,
         "open_by": process,
     }
@@ -326,8 +397,9 @@ def title(facts: dict[str, Any]) -> str:
 
 def lines_of_text(facts: dict[str, Any]) -> Iterator[str]:
     """The text, or what of it is whole."""
-    which = "text" if facts["gate"] is not None or not facts["fault"] else "text before the line that is wrong"
+    which = "text before the line that is wrong" if facts["fault"] and not facts["fault"]["by_rules"] else "text"
     yield f"{which}: {facts['text_bytes']} bytes, {facts['text_lines']} lines, {facts['entries']} entries"
+    yield f"in the file: {facts['text_end']} bytes, with {facts['empty_lines']} empty lines"
     if facts["entries"]:
         yield f"stamps: {moment(facts['first_stamp'])} to {moment(facts['last_stamp'])}"
         yield f"sessions with entries: {facts['sessions']}, the highest is {facts['highest_session']}"
@@ -343,13 +415,16 @@ def lines_of_text(facts: dict[str, Any]) -> Iterator[str]:
 def lines_of_end(facts: dict[str, Any]) -> Iterator[str]:
     """What stands behind a text whose form is right."""
     rest = facts["behind"]
-    if facts["gate"] is None:
-        yield f"gate: none; {'one other byte stands there, as a crash leaves it' if facts['torn'] else 'the file ends with the text'}"
-        return
-    yield f"gate: byte {facts['gate']}"
-    yield f"behind the gate: {rest['bytes'] - rest['zeros']} bytes that don't count, and {rest['zeros']} zeros laid by"
+    others, room = rest["bytes"] - rest["zeros"], f"{rest['zeros']} zeros laid by"
+    yield f"sealed: {SEALED if facts['sealed'] else UNSEALED}"
+    if facts["gate"] is not None:
+        yield f"behind the text: the # of an older version, at byte {facts['gate']}, {others - 1} bytes that don't count, and {room}"
+    elif others:
+        yield f"behind the text: {others} bytes that a crash left or a server is writing, and {room}"
+    else:
+        yield f"behind the text: {room if rest['zeros'] else 'nothing'}"
     if rest["entries"]:
-        yield f"among those: {rest['entries']} lines as of entries, on their way, left by a crash, or lost where a {{ became the gate"
+        yield f"among those: {rest['entries']} lines as of entries, {'left by a crash' if facts['gate'] is None else BEHIND_GATE}"
 
 
 def lines_of_fault(facts: dict[str, Any]) -> Iterator[str]:
@@ -357,7 +432,7 @@ def lines_of_fault(facts: dict[str, Any]) -> Iterator[str]:
     yield f"wrong: line {fault['line']}, from byte {fault['begins']} on, at byte {fault['byte']}: {fault['why']}"
     if facts["journal"]:
         if not fault["by_rules"]:
-            yield f"behind that line: {rest['bytes']} bytes with {rest['entries']} lines as of entries"
+            yield f"from that line on: {rest['bytes']} bytes, with {rest['entries']} more lines as of entries"
         yield f"a copy of what stands before it: head -c {fault['begins']} FILE > COPY (what is lost then: docs/JOURNAL.md)"
 
 
@@ -394,7 +469,7 @@ def verify(found: Found, replay: Replay) -> bool:
         return False
     if found.form.kind != "map":
         raise Unable("the rules of notes aren't judged: there is no replay of notes")
-    if found.end > LONGEST:
+    if found.text_bytes() > LONGEST:
         raise Unable(f"the rules of the map aren't judged: replay reads at most {LONGEST} bytes of text")
     found.fault = replay.judge(found, len(found.form.header))
     return True
@@ -415,19 +490,35 @@ def look(path: str, replay: Replay | None) -> tuple[dict[str, Any], Unable | Non
     return facts_of(path, found, process, verified), unable
 
 
+def write_text(path: str, end: int) -> None:
+    """Writes the text that stands in the first bytes of a file, behind which a server may be adding more."""
+    try:
+        with plain_file(path) as file:
+            for part in text_parts(file, end):
+                sys.stdout.buffer.write(part)
+            sys.stdout.buffer.flush()
+    except OSError as why:
+        # What is left in its room would be tried again at the end, and complained of.
+        os.dup2(os.open(os.devnull, os.O_WRONLY), sys.stdout.fileno())
+        raise Unable(f"the text of {path} can't be written: {why.strerror}") from None
+
+
 def main(given: list[str] | None = None) -> int:
     parser = argparse.ArgumentParser(usage=(__doc__ or "").split("\n\n")[0].partition(": ")[2])
     parser.add_argument("file")
-    parser.add_argument("--verify", action="store_true")
-    parser.add_argument("--json", action="store_true")
+    for name in ("verify", "json", "text"):
+        parser.add_argument(f"--{name}", action="store_true")
     parser.add_argument("--program", default=OSM)
     words = parser.parse_args(given)
     try:
         facts, unable = look(words.file, Replay(words.program, words.file) if words.verify else None)
+        if words.text:
+            write_text(words.file, facts["text_end"])
     except Unable as why:
         print(f"journal: {why}", file=sys.stderr)
         return 2
-    print(json.dumps(facts) if words.json else "\n".join(lines_of(facts)), flush=True)
+    out = sys.stderr if words.text else sys.stdout
+    print(json.dumps(facts) if words.json else "\n".join(lines_of(facts)), file=out, flush=True)
     if unable:
         print(f"journal: {unable}", file=sys.stderr)
         return 2

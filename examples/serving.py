@@ -215,7 +215,7 @@ class Server:
 
     def answers(self) -> bool:
         try:
-            return Link(self.port, kept=1).ask("GET", "node/1").status in (200, 404, 410)
+            return Link(self.port, kept=1).ask("GET", "node/1").status in (200, 404, 410, 503)
         except OSError:
             return False
 

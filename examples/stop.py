@@ -6,7 +6,7 @@ program's input. Half of the links read and half make changesets; a few more are
 
 - each reply that came, came whole, and the link ended behind it;
 - the program ends by itself with status 0 within 10 seconds, and nobody takes links any more;
-- a changeset whose creation was answered is in the journal.
+- a changeset whose creation was answered is in the journal, and the journal's file ends with more empty lines than a batch has, and zeros.
 
 Then the same on a journal whose file can't grow, while a link is idle: the program has to end by itself with status 9.
 
@@ -31,6 +31,7 @@ WORKERS = 64
 SILENT = 4  # links that say nothing
 LIMIT = 10  # seconds that a stop may take
 UNKEPT = 9  # the status where a journal can't be kept
+SEALED = b"}\n\n" + b"\n\n"  # a line, the empty one behind its batch, and two (docs/JOURNAL.md)
 LIMITED = 'ulimit -f 600; trap "" XFSZ; exec "$0" "$@"'  # blocks of 512 bytes: room is laid by once, and not again
 
 
@@ -99,6 +100,11 @@ def entries_of(journal: str) -> int:
         return file.read().count(b"\n{")
 
 
+def is_sealed(journal: str) -> bool:
+    with open(journal, "rb") as file:
+        return file.read().rstrip(b"\0").endswith(SEALED)
+
+
 def try_stop(words: list[str], links: int, seconds: float, wait: float) -> list[str]:
     with tempfile.TemporaryDirectory() as folder:
         program = Program(words, folder, wait)
@@ -123,6 +129,8 @@ def try_stop(words: list[str], links: int, seconds: float, wait: float) -> list[
         kept = entries_of(program.journal)
         if not created <= kept <= created + links:
             wrong.append(f"{created} creations were answered, and the journal has {kept}")
+        if not is_sealed(program.journal):
+            wrong.append("the journal's file isn't sealed")
         print(f"{sum(it.answered for it in clients)} replies on {links} links, {created} of them kept; it stopped in {taken:.2f} seconds")
     return wrong
 

@@ -12,6 +12,8 @@ import time
 from collections.abc import Iterator
 from contextlib import contextmanager
 from dataclasses import dataclass, field
+from functools import partial
+from itertools import chain
 from typing import IO, TYPE_CHECKING
 
 from feed import Taken, Unusable, entry_of, piece_of
@@ -21,7 +23,9 @@ if TYPE_CHECKING:
     from hashlib import _Hash
 
 HEADER = b"osm-journal 2\n"
-GATE = b"#"
+EMPTY = b"\n"
+SEAL = 2 * EMPTY  # as a start adds it: a file without empty lines is an older version's
+PART = 1 << 20
 WAIT = 30  # seconds for a mirror of before to let go of the file
 
 
@@ -61,6 +65,20 @@ def has_header(path: str, file: IO[bytes]) -> bool:
     return found == HEADER
 
 
+def next_line(file: IO[bytes]) -> bytes:
+    """The next one that isn't empty; empty ones stand behind each batch of a mirror's, and don't count."""
+    while (line := file.readline()) == EMPTY:
+        pass
+    return line
+
+
+def has_more(file: IO[bytes]) -> bool:
+    """Whether behind empty lines stands something else than zeros, which a mirror lays by there, and takes over at its next start."""
+    while (first := file.read(1)) == EMPTY:
+        pass
+    return any(part.strip(b"\0") for part in chain([first], iter(partial(file.read, PART), b"")))
+
+
 def read_kept(path: str, piece: int, digest: str) -> Known | None:
     """So many pieces of the file, where the SHA-256 over them is this one: what stands behind them is cut off. None where it isn't.
 
@@ -72,16 +90,16 @@ def read_kept(path: str, piece: int, digest: str) -> Known | None:
                 return None
             known, end = Known(), len(HEADER)
             while known.taken.number < piece:
-                line = file.readline()
-                if not (line.startswith(b"{") and line.endswith(b"\n")):
+                line = next_line(file)
+                if not (line.startswith(b"{") and line.endswith(b"\n")) or b"\0" in line:
                     return None
                 known.add(piece_of(line[:-1], known.taken.number + 1))
-                end += len(line)
-            behind = file.read(1)
+                end = file.tell()
             # Of no pieces any file has the digest, so nothing says that it may be cut.
-            if known.digest.hexdigest() != digest or (not piece and behind == b"{"):
+            if known.digest.hexdigest() != digest or (not piece and next_line(file).startswith(b"{")):
                 return None
-            if behind not in (b"", GATE):
+            file.seek(end)
+            if has_more(file):
                 os.ftruncate(file.fileno(), end)
                 os.fsync(file.fileno())
             return known
@@ -111,7 +129,7 @@ class Appending:
     def __init__(self, path: str) -> None:
         if not os.path.exists(path):
             with open(os.open(path, os.O_WRONLY | os.O_CREAT | os.O_CLOEXEC, 0o600), "wb") as file:
-                file.write(HEADER)
+                file.write(HEADER + SEAL)
             sync_folder(os.path.dirname(path))
         self.opening = opened(path)
         self.file = self.opening.__enter__()
@@ -120,7 +138,7 @@ class Appending:
     def pieces(self, count: int) -> Iterator[bytes]:
         """So many of the pieces that it has; behind them it is cut, and goes on."""
         for number in range(1, count + 1):
-            yield piece_of(self.file.readline()[:-1], number)
+            yield piece_of(next_line(self.file)[:-1], number)
         self.file.seek(self.file.tell())
         self.file.truncate()
 
@@ -128,6 +146,8 @@ class Appending:
         self.file.write(entry_of(piece) + b"\n")
 
     def sync(self) -> None:
+        """Ends a batch."""
+        self.file.write(EMPTY)
         self.file.flush()
         os.fsync(self.file.fileno())
 
@@ -154,7 +174,7 @@ class Writing:
         os.remove(self.new)
 
     def end(self) -> None:
-        self.file.write(GATE)
+        self.file.write(SEAL)
         self.file.flush()
         os.fsync(self.file.fileno())
         self.file.close()

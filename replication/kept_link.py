@@ -89,6 +89,9 @@ class Site:
     def get(self, path: str) -> bytes:
         return f"GET /api/0.6/{path} {self.fields}\r\n".encode()
 
+    def put(self, path: str) -> bytes:
+        return f"PUT /api/0.6/{path} {self.fields}\r\n".encode()
+
     def post(self, path: str, body: bytes) -> bytes:
         return f"POST /api/0.6/{path} {self.fields}Content-Length: {len(body)}\r\n\r\n".encode() + body
 

@@ -63,8 +63,8 @@ class Costs(load.Bench):
         os.remove(self.path("counted.journal"))
         with open(counts) as file:
             total = next(line for line in file if line.rstrip().endswith("total"))
-        # Each of the requests that fill the map was kept by itself.
-        return (int(total.split()[3]) - 2 * (load.CHANGESETS + 2)) / run.requests
+        # Each of the requests that fill the map was kept by itself, by one sync.
+        return (int(total.split()[3]) - (load.CHANGESETS + 2)) / run.requests
 
     def reads(self, journal: str = "") -> tuple[load.Run, load.Run]:
         with self.server(4, journal) as server:

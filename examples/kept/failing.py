@@ -1,24 +1,24 @@
 #!/usr/bin/env python3
-"""What a failing disk does to a journal: examples/kept/failing.py [--program PROGRAM] [--parts new,begun,existing,ungated,uploads,notes]
+"""What a failing disk does to a journal: examples/kept/failing.py [--program PROGRAM] [--parts new,begun,existing,torn,older,uploads,notes]
     [--links 4] [--changes 5] [--turn 0] [--seed 1]
 
 Has the Nth call fail that the program makes for its journal's file, one N a run, for each N from 1 to the last that a run makes: with EIO and
 with ENOSPC by turns, and with nothing, half or all of the call done all the same by turns, which --turn, 0 to 5, begins elsewhere. A sync that
 fails loses what was written since the last one, or a part of it. fail_calls.c is compiled with cc and preloaded.
 
-new       a start where there is no file; `begun` where another one was cut off that made it
-existing  a start on a file with entries; `ungated` on one that lacks its gate, which the start puts right
+new       a start where there is no file, and a stop; `begun` where another one was cut off that made it
+existing  the same on a file with entries; `torn` on one behind whose text stands what a crash left of a batch, `older` on one of an older version
 uploads   four links upload, some of it larger than the room that is laid by, and one more reads; from the first call behind the start on
 notes     the same of a server of notes
 
-A start has to end with status 3, and what serves with status 9; behind the call that failed nothing more is asked of the file. Where a look at
-which file has the path fails, what serves goes on. A file that was there is as it was, byte for byte, or, where it lacks its gate, has the same
-text. Then the program is started on what is left without the library: it may not refuse it, has all of which a reply had told, by the change's
-own reply or a read, nothing half, and goes on.
+A start has to end with status 3, and what serves, or stops, with status 9; behind the call that failed nothing more is asked of the file. Where
+a look at which file has the path fails, what serves goes on. A file that was there stands for the same text, by the same bytes and empty lines
+behind them, and no start refuses it. Then the program is started on what is left without the library: it has all of which a reply had told, by
+the change's own reply or a read, nothing half, and goes on.
 
 Then the same with calls that are interrupted, which may also be tried again; and once with reads and writes that are short, where nothing may
-differ. A read that tells the file's end within a line has the file refused with status 8; what comes of one that tells it between two lines is
-told alone. At last a sync loses what was written and tells that it succeeded, which has to be found wrong.
+differ. A read that tells the file's end before it comes, within a line or between two, has the file refused with status 3. At last a sync loses
+the batch that was written and tells that it succeeded, which has to be found wrong.
 
 PROGRAM is crates/osm/out/osm where none is named. Status 0 where all holds, 1 where something doesn't, 2 where it can't be run.
 """
@@ -42,14 +42,14 @@ HERE = os.path.dirname(os.path.abspath(__file__))
 sys.path.insert(1, os.path.join(HERE, ".."))
 
 from editors import Editor, Todo  # noqa: E402
-from kill import END_WAIT, HEADER, PROGRAM, REFUSED, UNKEPT, Run, parted, read  # noqa: E402
-from notes import HEADER as NOTES_HEADER  # noqa: E402
+from kept_file import HEADER, NOTES_HEADER, OLDER_END, SEAL, UNOPENED, batched, parted, read, refusal, text_of  # noqa: E402
+from kill import END_WAIT, PROGRAM, UNKEPT, Run  # noqa: E402
 from notes import Writer  # noqa: E402
 from serving import Link, Lost, Server, tell_faults  # noqa: E402
 from traced import own_port, users  # noqa: E402
 
-UNOPENED = 3  # the status where the file couldn't be opened or made
 LARGE, MANY = 0.2, 1500  # of uploads that many have so many nodes more
+TORN = b'\0"at":1}\n{"at":1}\n\n'  # what a crash left of a batch
 ERRORS, DONE = (errno.EIO, errno.ENOSPC), 3
 SHORT = 700  # bytes
 LOOK = "statx of the path"
@@ -127,6 +127,11 @@ class Made:
         start(self.failing(Fault()), self.path)
         return self.calls().index("read") + 1
 
+    def until_served(self, command: str = "serve") -> int:
+        """How many calls a start makes."""
+        with Server(self.failing(Fault()), 1, users(1), command=(command, "--journal", self.path), port=own_port()):
+            return len(self.calls())
+
     def failed(self) -> str:
         """The name of the call that failed; empty where none did."""
         return next((it.removesuffix(" fails") for it in self.calls() if it.endswith(" fails")), "")
@@ -154,8 +159,6 @@ def start(program: str, path: str, command: str = "serve") -> int | None:
 class Part:
     """What is begun anew for each N, and judged."""
 
-    ends = UNOPENED
-
     def __init__(self, made: Made) -> None:
         self.made = made
 
@@ -163,17 +166,30 @@ class Part:
         """The first call that fails."""
         return 1
 
+    def ends(self, at: int) -> int:
+        """The status with which the program ends where that call fails."""
+        return UNKEPT
+
     def run(self, fault: Fault) -> tuple[int | None, list[str]]:
         """The status, none where the program goes on, and what is wrong with what is left."""
         raise NotImplementedError
 
 
 class Start(Part):
-    """On these files, of which it makes a file with that text."""
+    """And a stop, on these files, of which it makes a file with that text."""
 
     def __init__(self, made: Made, files: dict[str, bytes], text: bytes) -> None:
         super().__init__(made)
         self.files, self.text = files, text
+        self.of_start = 0
+
+    def first(self) -> int:
+        self.made.lay(self.files)
+        self.of_start = self.made.until_served()
+        return 1
+
+    def ends(self, at: int) -> int:
+        return UNOPENED if at <= self.of_start else UNKEPT
 
     def run(self, fault: Fault) -> tuple[int | None, list[str]]:
         self.made.lay(self.files)
@@ -181,18 +197,19 @@ class Start(Part):
         return status, self.wrong_left() + self.wrong_later()
 
     def wrong_left(self) -> list[str]:
-        before, now = self.files.get(""), read(self.made.path) if os.path.exists(self.made.path) else None
-        if before is None:
-            return [] if now in (None, self.text + b"#") else [f"the file that is made is {now!r}"]
-        if now is None or (now != before and (parted(before)[1].startswith(b"#") or parted(now)[0] != self.text)):
-            return ["the file isn't as it was"]
+        if not os.path.exists(self.made.path):
+            return ["the file is gone"] if "" in self.files else []
+        now, before = read(self.made.path), parted(self.files.get("", self.text)).raw
+        more = parted(now).raw.removeprefix(before)
+        if refusal(now) is not None or before + more != parted(now).raw or not (SEAL + SEAL).startswith(more):
+            return [f"the file is now {now[:40]!r}.., with {more[:40]!r} behind what it had"]
         return []
 
     def wrong_later(self) -> list[str]:
         status = start(self.made.program, self.made.path)
         if status != 0:
             return [f"a start on what is left ends with status {status}"]
-        return [] if read(self.made.path).startswith(self.text + b"#") else ["a start on what is left makes another text of it"]
+        return [] if text_of(read(self.made.path)) == self.text else ["a start on what is left makes another text of it"]
 
 
 # ---- people who change something
@@ -222,19 +239,16 @@ class Few(Editor):
 
 
 class Uploads(Part):
-    ends = UNKEPT
-
     def __init__(self, made: Made, links: int, changes: int, seed: int) -> None:
         super().__init__(made)
         self.links, self.changes, self.seed = links, changes, seed
 
     def first(self) -> int:
-        self.made.lay({"": HEADER + b"#"})
-        start(self.made.failing(Fault()), self.made.path)
-        return len(self.made.calls()) + 1
+        self.made.lay({"": HEADER})
+        return self.made.until_served() + 1
 
     def run(self, fault: Fault) -> tuple[int | None, list[str]]:
-        self.made.lay({"": HEADER + b"#"})
+        self.made.lay({"": HEADER})
         run = Run(self.made.failing(fault), self.made.path, self.links, self.seed)
         people = [Few(it.user, self.seed * 1000 + it.user, self.changes) for it in run.editors]
         run.editors = [*people]
@@ -245,8 +259,7 @@ class Uploads(Part):
             status = ended(server, any(it.sent for it in people))
             reading.join()
         run.program = self.made.program
-        run.text = HEADER
-        look(run)
+        run.look()
         go_on(run, people)
         return status, run.wrong()
 
@@ -258,16 +271,6 @@ def ended(server: Server, is_lost: bool) -> int | None:
     server.process.terminate()
     server.process.wait()
     return None
-
-
-def look(run: Run) -> None:
-    """The file has a line for each change that was told, and one at most for each that wasn't."""
-    text, _ = parted(read(run.path))
-    least, lines = sum(it.entries for it in run.editors), text.count(b"\n") - 1
-    most = least + sum(it.sent is not None for it in run.editors)
-    if not text.startswith(run.text) or not least <= lines <= most:
-        run.faults.append(f"the file has {lines} entries, and {least} to {most} were accepted")
-    run.text = text
 
 
 def go_on(run: Run, people: list[Few]) -> None:
@@ -300,15 +303,14 @@ class FewNotes(Writer):
 
 class Notes(Uploads):
     def first(self) -> int:
-        self.made.lay({"": NOTES_HEADER + b"#"})
-        start(self.made.failing(Fault()), self.made.path, "serve-notes")
-        return len(self.made.calls()) + 1
+        self.made.lay({"": NOTES_HEADER})
+        return self.made.until_served("serve-notes") + 1
 
     def server(self, program: str) -> Server:
         return Server(program, self.links + 1, users(self.links), command=("serve-notes", "--journal", self.made.path), port=own_port())
 
     def run(self, fault: Fault) -> tuple[int | None, list[str]]:
-        self.made.lay({"": NOTES_HEADER + b"#"})
+        self.made.lay({"": NOTES_HEADER})
         people = [FewNotes(i + 1, self.seed * 1000 + i, self.changes) for i in range(self.links)]
         with self.server(self.made.failing(fault)) as server:
             write(server.port, people)
@@ -349,14 +351,15 @@ class Trial:
     def kept(self) -> bytes:
         """The text of a usual run."""
         self.uploads().run(Fault())
-        return parted(read(self.made.path))[0]
+        return text_of(read(self.made.path))
 
     def parts(self, kept: bytes) -> dict[str, Part]:
         return {
             "new": Start(self.made, {}, HEADER),
             "begun": Start(self.made, {".new": HEADER[:8]}, HEADER),
-            "existing": Start(self.made, {"": kept + b"#" + bytes(999)}, kept),
-            "ungated": Start(self.made, {"": kept + b"{"}, kept),
+            "existing": Start(self.made, {"": batched(kept) + bytes(999)}, kept),
+            "torn": Start(self.made, {"": batched(kept) + TORN + bytes(999)}, kept),
+            "older": Start(self.made, {"": kept + OLDER_END + b'"at":1}\n' + bytes(999)}, kept),
             "uploads": self.uploads(),
             "notes": Notes(self.made, self.it.links, self.it.changes, self.it.seed),
         }
@@ -373,12 +376,12 @@ class Trial:
                 break
             counts[status, call] += 1
             goes_on = status in (0, None)
-            if call == LOOK and (goes_on or part.ends == UNKEPT):
+            if call == LOOK and (goes_on or part.ends(at) == UNKEPT):
                 faults += [] if goes_on else [f"status {status}: it doesn't go on"]
-            elif status == part.ends:
+            elif status == part.ends(at):
                 faults += self.made.asked_on()
             elif way.error != errno.EINTR or call not in TRIED_AGAIN or not goes_on:
-                faults.append(f"status {status}, not {part.ends}")
+                faults.append(f"status {status}, not {part.ends(at)}")
             self.faults += [f"{name}, {fault} ({call}): {it}" for it in faults]
             at += 1
         self.tell(name, counts)
@@ -399,30 +402,36 @@ class Trial:
 
     def try_early_ends(self, kept: bytes) -> None:
         """The second read tells the file's end, where the first one stopped."""
-        between = kept.index(b"\n", len(HEADER)) + 1  # no more than the first read asks for
-        file = kept + b"#" + bytes(999)
+        between = len(HEADER + SEAL) + kept.index(b"\n", len(HEADER)) + 1 - len(HEADER)  # no more than the first read asks for
+        file = batched(kept) + bytes(999)
         for name, at in (("within a line", between - 9), ("between two lines", between)):
             self.made.lay({"": file})
             reads = self.made.first_read()
             self.made.lay({"": file})
             status = start(self.made.failing(Fault(reads + 1, lies=True, short=at)), self.made.path)
             now = read(self.made.path)
-            left = "as it was" if now == file else f"now of {len(now)} bytes, not {len(file)}"
-            print(f"a read that tells the file's end {name}: status {status}, and the file is {left}")
-            if at != between and (status != REFUSED or now != file):
-                self.faults.append(f"a file whose end is told {name} isn't refused, or isn't as it was")
+            if status != UNOPENED or now != file:
+                self.faults.append(f"where a file's end is told {name} the status is {status}, or the file isn't as it was")
+        print(f"2 reads that tell the file's end too early: status {UNOPENED}, and the file as it was")
 
     def try_lies(self) -> None:
-        """Two syncs, of which one opens a batch's gate, lose what was written and tell that they succeeded."""
+        """Two syncs of batches lose what was written and tell that they succeeded."""
         part = self.uploads()
         first = part.first()
         part.run(Fault())
-        syncs = [at for at, call in enumerate(self.made.calls(), 1) if call == "fdatasync" and at >= first]
-        middle = len(syncs) // 2
+        calls = self.made.calls()
+        # Zeros that are laid by come in several writes, and a batch in one.
+        syncs = [at for at in range(first + 2, len(calls) + 1) if calls[at - 3 : at] == [LOOK, "pwrite", "fdatasync"]]
+        middle, lied = len(syncs) // 2, 0
         for at in syncs[middle : middle + 2]:
-            if not part.run(Fault(at, lies=True))[1]:
+            faults = part.run(Fault(at, lies=True))[1]
+            # A run may come to fewer batches than the one before.
+            lied += bool(self.made.failed())
+            if self.made.failed() and not faults:
                 self.faults.append(f"a sync that lies, call {at}, isn't found")
-        print("2 syncs that lose what was written and tell that they succeeded are found")
+        print(f"{lied} syncs that lose what was written and tell that they succeeded are found")
+        if not lied:
+            self.faults.append("no sync lied")
 
 
 def tried(trial: Trial, chosen: list[str]) -> None:
@@ -440,7 +449,7 @@ def tried(trial: Trial, chosen: list[str]) -> None:
 def main() -> int:
     parser = argparse.ArgumentParser(usage=(__doc__ or "").split("\n\n")[0].partition(": ")[2])
     parser.add_argument("--program", default=PROGRAM)
-    parser.add_argument("--parts", default="new,begun,existing,ungated,uploads,notes")
+    parser.add_argument("--parts", default="new,begun,existing,torn,older,uploads,notes")
     for name, usual in (("links", 4), ("changes", 5), ("turn", 0), ("seed", 1)):
         parser.add_argument(f"--{name}", type=int, default=usual)
     it = parser.parse_args()

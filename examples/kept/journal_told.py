@@ -2,12 +2,13 @@
 """Whether examples/journal.py tells what is in a journal's file, and where it is damaged: examples/kept/journal_told.py [--program PROGRAM]
     [--places 300] [--jobs 3] [--changes 12] [--seed 1]
 
-Makes a journal of the map with every kind of entry and one of notes, by servers. It must tell of them what they have, with room behind the gate
-and without, and of one that a server has open whose it is. Then it is given the file cut at each byte of the last lines; at so many drawn places
-another byte, a bit flipped, a zero or a sector of zeros; each line's first byte as a gate; and lines with chosen faults of their form. A server
-is started on each of those that were drawn: where it serves, the file must be told as whole with the entries that the server has kept, and where
-it refuses, as damaged: by the line's form or by --verify, no earlier than the line that was touched, and in it unless a number was. Each line's
-form is judged twice, by the expression and by the shapes. No file may be changed.
+Makes a journal of the map with every kind of entry and one of notes, by servers: as a stop in order leaves its file, as a kill does, and as an
+older version had it. It must tell of them what they have, with room behind the text and without, write the text itself, and tell of one that a
+server has open whose it is. Then it is given files with what a crash leaves behind the text, and those that a start refuses; the file cut at
+each byte of the last lines; at so many drawn places another byte, a bit flipped, a zero or a sector of zeros; each line's first byte as a `#`;
+and lines with chosen faults of their form. A server is started on each of those that were drawn: where it serves, the file must be told as whole
+with the entries that the server has kept, and where it refuses, as damaged: by the file's form, a line's or --verify, no earlier than the line
+that was touched, and in it unless a number was. Each line's form is judged twice, by the expression and by the shapes. No file may be changed.
 
 PROGRAM is crates/osm/out/osm where none is named. Status 0 where all holds, 1 where something doesn't, 2 where it can't be run.
 """
@@ -34,8 +35,9 @@ sys.path.insert(1, os.path.join(HERE, ".."))
 
 import journal  # noqa: E402
 import journal_lines  # noqa: E402
-from kill import HEADER, PROGRAM, REFUSED, parted, read  # noqa: E402
-from rot import SECTOR, USERS, WAYS, Journal, Ports, Rot, make  # noqa: E402
+from kept_file import END, HEADER, OLDER_END, REFUSED, UNOPENED, parted, read, refusal  # noqa: E402
+from kill import PROGRAM, TORN, UNFIT  # noqa: E402
+from rot import SECTOR, USERS, WAYS, Journal, Ports, Rot, make, older, stopped  # noqa: E402
 from serving import Link, Server, tell_faults  # noqa: E402
 
 SCRIPT = os.path.join(HERE, "..", "journal.py")
@@ -109,18 +111,42 @@ class Trial:
 
     # ---- whole journals
 
-    def try_whole(self, it: Journal) -> None:
+    def try_whole(self, name: str, it: Journal) -> None:
+        """A file as it is, and without its room."""
         acts = collections.Counter(json.loads(line)["command"]["act"] for line in it.lines)
-        room = len(it.file) - len(it.text) - 1
-        for name, data, zeros in (("with room", it.file, room), ("without room", it.text + b"#", 0)):
+        gate = OLDER_END if it.is_older else b""
+        for what, data in ((f"{name}, with room", it.file), (f"{name}, without room", it.raw + gate)):
             path = self.written(data)
             status, facts = told(path, "--verify", "--program", self.program)
-            self.wants(f"{name}: the status", 0, status)
-            self.wants(f"{name}: the file", data, read(path))
+            self.wants(f"{what}: the status", 0, status)
+            self.wants(f"{what}: the file", data, read(path))
+            rest = {"bytes": len(data) - len(it.raw), "zeros": len(data) - len(it.raw + gate), "entries": 0}
             wanted = {"journal": "map", "version": 2, "whole": True, "verified": True, "entries": len(it.lines), "acts": dict(acts)}
-            wanted |= {"gate": len(it.text), "text_bytes": len(it.text), "behind": {"bytes": zeros, "zeros": zeros, "entries": 0}}
+            wanted |= {"text_bytes": len(it.text), "text_end": len(it.raw), "empty_lines": len(it.raw) - len(it.text)}
+            wanted |= {"sealed": it.is_sealed, "gate": len(it.raw) if gate else None, "behind": rest}
             for member, value in wanted.items():
-                self.wants(f"{name}: {member}", value, facts[member])
+                self.wants(f"{what}: {member}", value, facts[member])
+            self.wants_text(what, path, 0, it.text, b": a whole journal of the map, ")
+
+    def wants_text(self, name: str, path: str, status: int, text: bytes, said: bytes) -> None:
+        """What --text writes, and what is told beside it."""
+        run = subprocess.run([sys.executable, SCRIPT, path, "--text"], capture_output=True, check=False)
+        self.wants(f"{name}: the status and the text", (status, text), (run.returncode, run.stdout))
+        self.wants(f"{name}: whether {said!r} is told beside the text", True, said in run.stderr)
+
+    def try_ends(self, it: Journal) -> None:
+        """What a crash leaves behind the text, and files that a start refuses."""
+        begun, torn, room = it.lines[0][:40], b"\0" + TORN[1:], bytes(SECTOR)
+        for name, rest in (("a {", b"{"), ("a beginning", begun), ("a beginning in room", begun + room), ("a torn batch", torn + room)):
+            found = self.found(it.raw + rest)
+            zeros = len(rest) - len(rest.rstrip(b"\0"))
+            self.wants(f"behind the text {name}", (None, len(it.lines), len(it.raw)), (found.fault, found.entries, found.end))
+            self.wants(f"behind the text {name}", (len(rest), zeros), found.behind[:2])
+        for name, data, _ in UNFIT:
+            path = self.written(data)
+            self.wants(f"the status of a file that is {name}", 1, told(path)[0])
+            whole = parted(data).text() if data.startswith(HEADER) and name != "illegal" else HEADER if name == "illegal" else b""
+            self.wants_text(f"a file that is {name}", path, 1, whole, b"wrong: line ")
 
     def try_others(self, it: Journal) -> None:
         """Files of other kinds, with the status and some of what is told."""
@@ -194,32 +220,35 @@ class Trial:
             number, line = next((number, line) for number, line in enumerate(it.lines) if old in line)
             begin, changed = it.starts[number], line.replace(old, new, 1)
             place = changed.index(b"^")
-            data = it.text[:begin] + changed.replace(b"^", b"", 1) + it.text[begin + len(line) :] + b"#"
+            data = it.raw[:begin] + changed.replace(b"^", b"", 1) + it.raw[begin + len(line) :]
             fault = self.found(data).fault
             if not fault or (fault.line, fault.begins, fault.byte) != (number + 2, begin, begin + place) or why not in fault.why:
                 self.faults.append(f"{new!r} is told as {fault}, and not at {place} of line {number + 2}")
 
-    # ---- files that are cut, and gates
+    # ---- files that are cut, and ends of older versions
 
     def try_cuts(self, it: Journal) -> None:
         """A file with the first lines, cut at each byte of the last of these."""
-        it = Journal(it.text[: it.starts[FEW_LINES]] + b"#" + bytes(SECTOR))
-        for end in range(it.starts[-1 - LAST_LINES], len(it.text) + 2):
-            text, rest = parted(it.file[:end])
-            found = self.found(it.file[:end])
-            is_whole = len(rest) < 2 or rest.startswith(b"#")
-            self.wants(f"cut at {end}", (is_whole, text.count(b"\n") - 1, len(text)), (not found.fault, found.entries, found.end))
+        it = Journal(it.raw[: it.starts[FEW_LINES]] + (OLDER_END if it.is_older else b"") + bytes(SECTOR))
+        for end in range(it.starts[-LAST_LINES], len(it.raw) + 2):
+            left, found = parted(it.file[:end]), self.found(it.file[:end])
+            is_whole = refusal(it.file[:end]) is None
+            self.wants(f"cut at {end}", (is_whole, left.entries(), len(left.raw)), (not found.fault, found.entries, found.end))
             if found.fault:
-                self.wants(f"the fault of a cut at {end}", (text.count(b"\n") + 1, len(text), end), found.fault[:3])
+                self.wants(f"the fault of a cut at {end}", (left.entries() + 2, len(left.raw), end), found.fault[:3])
             self.counts["cuts"] += 1
 
     def try_gates(self, it: Journal) -> None:
-        """Each line's first byte as a gate: what stands behind is told."""
-        for number, begin in enumerate(it.starts[:-1]):
-            found = self.found(it.file[:begin] + b"#" + it.file[begin + 1 :])
-            self.wants(f"a gate at {begin}", (None, number, begin), (found.fault, found.entries, found.gate))
-            self.wants(f"behind a gate at {begin}", len(it.lines) - number, found.behind.entries)
-            self.counts["gates"] += 1
+        """Each line's first byte as the end of an older version's text: what stands behind is told."""
+        for number, begin in enumerate(it.starts):
+            data = it.file[:begin] + OLDER_END + it.file[begin + 1 :]
+            found = self.found(data)
+            if refusal(data):
+                self.wants(f"a # at {begin}", (number + 2, begin, begin), found.fault and found.fault[:3])
+            else:
+                self.wants(f"a # at {begin}", (None, begin), (found.fault, found.gate))
+            self.wants(f"behind a # at {begin}", (number, len(it.lines) - number - 1), (found.entries, found.behind.entries))
+            self.counts["first bytes that are #"] += 1
 
     # ---- files that rot
 
@@ -238,37 +267,44 @@ class Trial:
         untouched = read(path) == rotten
         status = self.status(path, command)
         os.remove(path)
-        if status not in (0, REFUSED):
+        if status not in (0, REFUSED, UNOPENED):
             raise journal.Unable(f"a server ended with status {status}")
         return Outcome(status == 0, found, untouched)
 
     def draw(self, it: Journal, draw: random.Random, command: str) -> None:
-        rot = draw.choice(WAYS)(it.file, draw.randrange(len(it.text) + SECTOR // 4), draw)
+        rot = draw.choice(WAYS)(it.file, draw.randrange(len(it.raw) + SECTOR // 4), draw)
         self.look(it, rot, self.outcome(rot.laid(it.file), command))
 
     def look(self, it: Journal, rot: Rot, came: Outcome) -> None:
         """Holds what is told of a file against what a server makes of it."""
         rotten, fault = rot.laid(it.file), came.found.fault
         touched = next((place for place in range(rot.at, rot.at + len(rot.data)) if rotten[place] != it.file[place]), rot.at)
-        number = max(it.touched(touched, touched + 1), default=-1)
-        begin = it.starts[number] if touched >= it.starts[0] else 0
+        begin = begin_of(it, touched)
         if came.is_taken != (fault is None) or not came.untouched:
             self.faults.append(f"{rot.way} at {rot.at}: a server {'takes' if came.is_taken else 'refuses'} it, and {fault} is told")
         if fault is None:
-            self.wants(f"{rot.way} at {rot.at}: the entries", parted(rotten)[0].count(b"\n") - 1, came.found.entries)
+            self.wants(f"{rot.way} at {rot.at}: the entries", parted(rotten).entries(), came.found.entries)
             self.counts["rotten, whole"] += 1
             return
         self.counts["rotten, by the rules alone" if fault.by_rules else "rotten, by the form"] += 1
         is_number = it.part(touched) == "a number" or fault.by_rules
-        if fault.byte < begin or (not is_number and fault.begins > begin) or (not rotten[touched] and fault.byte != touched):
+        latest = begin + (rotten[touched] == END[0])
+        if fault.byte < begin or (not is_number and fault.begins > latest) or (not rotten[touched] and fault.byte != touched):
             self.faults.append(f"{rot.way} at {rot.at}: touched at {touched} in the line that begins at {begin}, and {fault} is told")
 
     def try_rot(self, it: Journal, places: int, jobs: int, draw: random.Random) -> None:
-        rots = [WAYS[i % len(WAYS)](it.file, draw.randrange(len(it.text) + SECTOR // 4), draw) for i in range(places)]
+        rots = [WAYS[i % len(WAYS)](it.file, draw.randrange(len(it.raw) + SECTOR // 4), draw) for i in range(places)]
         rots += [Rot(at, bytes([draw.choice(b"123456789")]), "a digit") for at in draw.choices(it.digits(), k=places // 10)]
         with concurrent.futures.ThreadPoolExecutor(jobs) as pool:
             for rot, came in zip(rots, pool.map(lambda rot: self.outcome(rot.laid(it.file), "serve"), rots)):
                 self.look(it, rot, came)
+
+
+def begin_of(it: Journal, at: int) -> int:
+    """Where the line begins that has that byte, an empty one or what stands behind the text too."""
+    if at < it.raw.index(END) + 1:
+        return 0
+    return next((it.starts[number] for number in it.touched(at, at + 1)), at)
 
 
 def rows_of(value: Any) -> Iterator[Any]:
@@ -290,17 +326,22 @@ def main() -> int:
         trial = Trial(os.path.abspath(words.program), folder)
         with open(os.path.join(folder, "users"), "w") as users:
             users.write(USERS)
-        it = Journal(make(words.program, os.path.join(folder, "made"), words.changes, words.seed))
+        path = os.path.join(folder, "made")
+        killed = make(trial.program, path, words.changes, words.seed)
+        journals = {"sealed": Journal(stopped(trial.program, path)), "killed": Journal(killed), "older": Journal(older(killed))}
+        it = journals["sealed"]
         print(f"{len(it.lines)} entries, {len(it.text)} bytes", flush=True)
-        trial.try_whole(it)
         trial.try_others(it)
         trial.try_open()
         trial.try_notes(draw)
         trial.judge_twice(it)
         trial.try_faults(it)
-        trial.try_cuts(it)
-        trial.try_gates(it)
-        trial.try_rot(it, words.places, words.jobs, draw)
+        trial.try_ends(it)
+        for name, journal in journals.items():
+            trial.try_whole(name, journal)
+            trial.try_cuts(journal)
+            trial.try_gates(journal)
+            trial.try_rot(journal, words.places // len(journals), words.jobs, draw)
     print(", ".join(f"{count} {name}" for name, count in sorted(trial.counts.items())))
     return tell_faults(trial.faults)
 

@@ -6,7 +6,8 @@ Starts `PROGRAM serve --journal FILE` on a new file. Each link is that of a user
 time the program is ended by SIGKILL. In some rounds what stands behind the file's text is changed as a crash of the machine may leave it.
 Then it is started again on the same file, and goes on, where all of this holds:
 
-- the file is a header, whole lines, and a closed gate behind them, and begins with the text of the round before;
+- the file begins with what stood for the text in the round before and the two empty lines of a start, and behind its text stands no more than
+  a beginning of a batch and zeros;
 - each changeset has each accepted upload once, whole and in order, and nothing else but, whole or not at all, the one whose reply was cut off;
 - elements that were changed have the versions that were accepted, and no others;
 - each version that a reply told of is there;
@@ -37,31 +38,33 @@ HERE = os.path.dirname(os.path.abspath(__file__))
 sys.path.insert(1, os.path.join(HERE, ".."))
 
 from editors import Editor, Reader  # noqa: E402
+from kept_file import HEADER, REFUSED, SEAL, UNOPENED, parted, read, refusal  # noqa: E402
 from serving import Link, Lost, Server, free_port, grown_disk, small_disk, tell_faults  # noqa: E402
 
 PROGRAM = os.path.join(HERE, "..", "..", "crates", "osm", "out", "osm")
 TEXT_LIMIT = 1 << 28  # bytes that `replay` reads
 LONGEST = 1.5  # seconds of a round
 END_WAIT = 60  # seconds until a program has to have ended
-HEADER = b"osm-journal 2\n"
 LIMITED = 'ulimit -f {}; trap "" XFSZ; exec "$0" "$@"'
-BUSY, REFUSED, UNKEPT = 3, 8, 9  # statuses of the program
+UNKEPT = 9  # the status where a journal can't be kept
+TORN = b'{"at":1,"call":1}\n{"at":1,"call":2}\n\n'  # a batch of which a crash leaves no line
 
 
-def parted(file: bytes) -> tuple[bytes, bytes]:
-    """The text of a file: its first line and the whole lines behind it; and what stands behind them."""
-    end = file.find(b"\n") + 1
-    while end and file[end : end + 1] == b"{":
-        behind = file.find(b"\n", end) + 1
-        if not behind:
-            break
-        end = behind
-    return file[:end], file[end:]
-
-
-def read(path: str) -> bytes:
-    with open(path, "rb") as file:
-        return file.read()
+UNFIT = (
+    ("foreign", b"#!/bin/sh\necho\n", REFUSED),
+    ("empty", b"", REFUSED),
+    ("damaged", HEADER + b'x"at":1}\n', REFUSED),
+    ("damaged by one byte", HEADER + SEAL + b"x", REFUSED),
+    ("damaged in a batch before the last", HEADER + SEAL + b'{"at":\0}\n\n{}\n\n', REFUSED),
+    ("damaged in a batch before the last, whose beginning is lost", HEADER + SEAL + b'\0"at":1}\n\n{}\n\n', REFUSED),
+    ("damaged behind the end of an older version", HEADER + b"#\n\n{}\n", REFUSED),
+    ("damaged in its last batch, and sealed", HEADER + SEAL + b'{"at":\0}\n\n' + SEAL, REFUSED),
+    ("illegal", HEADER + b"{}\n", REFUSED),
+    ("of an older version, with a zero in a line", HEADER + b'{"at":\0}\n{}\n#', UNOPENED),
+    ("of an older version, with a zero before a line", HEADER + b'\0"at":1}\n{}\n#', UNOPENED),
+    ("of an older version, with a line that isn't whole", HEADER + b'{"at":1', UNOPENED),
+)
+"""Files that are refused, with the status."""
 
 
 class Run:
@@ -72,7 +75,8 @@ class Run:
         self.editors = [Editor(i + 1, seed * 1000 + i) for i in range(links)]
         self.reader = Reader(seed)
         self.users = "".join(f"{i + 1} token{i + 1} user user{i + 1}\n" for i in range(links))
-        self.text = b""
+        self.raw = HEADER
+        """What stood for the text, as the last program left it."""
         self.rounds = 0
         self.faults: list[str] = []
 
@@ -116,26 +120,33 @@ class Run:
 
     def look(self) -> None:
         """The file as it was left, against what it was and what was accepted."""
-        text, behind = parted(read(self.path))
-        if not behind.startswith(b"#"):
-            self.faults.append(f"no closed gate stands behind the text, but {behind[:40]!r}")
-        if not text.startswith(self.text):
-            self.faults.append("the text of the round before isn't there")
-        lines, least = text.count(b"\n") - 1, sum(it.entries for it in self.editors)
+        file = read(self.path)
+        left = parted(file)
+        if status := refusal(file):
+            self.faults.append(f"behind the text stands {left.rest[:40]!r}, for which a start ends with status {status}")
+        if not left.raw.startswith(self.raw + SEAL):
+            self.faults.append("the text of the round before and the empty lines of a start aren't there")
+        least = sum(it.entries for it in self.editors)
         most = least + sum(it.sent is not None for it in self.editors)
-        if not least <= lines <= most:
-            self.faults.append(f"the file has {lines} entries, and {least} to {most} were accepted")
-        self.text = text
+        if not least <= left.entries() <= most:
+            self.faults.append(f"the file has {left.entries()} entries, and {least} to {most} were accepted")
+        self.raw = left.raw
 
     def tear(self) -> None:
         """Changes what stands behind the text, as a crash of the machine may leave it, or not at all."""
-        junk = self.draw.randbytes(self.draw.randrange(400)) + b'{"at":1}\n'
-        end = self.draw.choice((None, None, b"", b"{", b"#", b"#" + junk))
+        junk = self.draw.randbytes(self.draw.randrange(400)).replace(b"\n", b"") + b'{"at":1}\n'
+        end = self.draw.choice((None, None, b"", b"{", b"#", b"#" + junk, bytes(self.draw.randrange(999)), self.torn()))
         if end is not None:
             with open(self.path, "r+b") as file:
-                file.truncate(len(self.text))
+                file.truncate(len(self.raw))
                 file.seek(0, os.SEEK_END)
                 file.write(end)
+
+    def torn(self) -> bytes:
+        """A batch over zeros, each byte written or not, and one of its first line's not."""
+        left = bytearray(it if self.draw.random() < 0.8 else 0 for it in TORN)
+        left[self.draw.randrange(TORN.index(b"\n"))] = 0
+        return bytes(left) + bytes(self.draw.randrange(999))
 
     # ---- checks
 
@@ -152,11 +163,12 @@ class Run:
         finally:
             link.close()
         self.faults += self.reader.lacks(self.editors)
-        if self.text and len(self.text) <= TEXT_LIMIT:
-            self.check_replay()
+        text = parted(self.raw).text()
+        if len(text) <= TEXT_LIMIT:
+            self.check_replay(text)
 
-    def check_replay(self) -> None:
-        run = subprocess.run([self.program, "replay"], input=self.text, stdout=subprocess.PIPE, check=False)
+    def check_replay(self, text: bytes) -> None:
+        run = subprocess.run([self.program, "replay"], input=text, stdout=subprocess.PIPE, check=False)
         told = dict(line.split(" ", 1) for line in run.stdout.decode().splitlines())
         wanted = {"entries": sum(it.entries for it in self.editors)}
         wanted |= {kind + "s": sum(it.visible[kind] for it in self.editors) for kind in ("node", "way")}
@@ -190,15 +202,13 @@ class Run:
 
     def try_refusals(self) -> None:
         with self.server():
-            if self.status_on(self.path) != BUSY:
+            if self.status_on(self.path) != UNOPENED:
                 self.faults.append("the file is opened twice")
-        if self.status_on(os.path.join(self.path, "journal")) != BUSY:
+        if self.status_on(os.path.join(self.path, "journal")) != UNOPENED:
             self.faults.append("a file without a folder is opened")
-        self.refuses("foreign", b"#!/bin/sh\necho\n", REFUSED)
-        self.refuses("empty", b"", REFUSED)
-        self.refuses("damaged", HEADER + b'x"at":1}\n', REFUSED)
-        self.refuses("illegal", HEADER + b"{}\n#", REFUSED)
-        self.text = parted(read(self.path))[0]
+        for name, file, wanted in UNFIT:
+            self.refuses(name, file, wanted)
+        self.raw = parted(read(self.path)).raw
 
 
 # ---- a disk that gets full

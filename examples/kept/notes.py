@@ -3,7 +3,8 @@
 
 Starts `PROGRAM serve-notes --journal FILE` on a new file. On each link a user opens notes, and comments, closes and reopens those of its own.
 After a drawn time the program is ended by SIGKILL and started again on the same file. Each note that a reply told of has to be there as the
-last reply told it, but for the one request whose reply was cut off, and the file has to begin with the text of the round before.
+last reply told it, but for the one request whose reply was cut off, and the file has to begin with what stood for the text in the round before
+and the two empty lines of a start.
 
 PROGRAM is crates/osm/out/osm where none is named. Status 0 where all holds, 1 where something doesn't, 2 where it can't be run.
 """
@@ -23,10 +24,10 @@ from typing import Any
 HERE = os.path.dirname(os.path.abspath(__file__))
 sys.path.insert(1, os.path.join(HERE, ".."))
 
-from kill import PROGRAM, parted, read  # noqa: E402
+from kept_file import NOTES_HEADER, SEAL, parted, read, refusal  # noqa: E402
+from kill import PROGRAM  # noqa: E402
 from serving import Link, Lost, Server, tell_faults  # noqa: E402
 
-HEADER = b"osm-notes-journal 1\n"
 LONGEST = 0.8  # seconds of a round
 NEXT = {"open": ("comment", "close"), "closed": ("reopen",)}  # what may be asked of a note by its status
 TEXTS = ("a bench is missing", 'the "gate" is locked\n', "Straße gesperrt", "\u200b\\ \x7f", "")
@@ -110,20 +111,21 @@ def main() -> int:
     if not os.access(it.program, os.X_OK):
         print(f"there is no program {it.program}: ./osm build makes it", file=sys.stderr)
         return 2
-    draw, faults, text = random.Random(it.seed), [], HEADER  # type: random.Random, list[str], bytes
+    draw, faults, before = random.Random(it.seed), [], NOTES_HEADER  # type: random.Random, list[str], bytes
     writers = [Writer(i + 1, it.seed * 1000 + i) for i in range(it.links)]
     with tempfile.TemporaryDirectory() as folder:
         path = os.path.join(folder, "journal")
         for _ in range(it.rounds):
             round_of(it.program, path, writers, draw.uniform(0.02, LONGEST))
-            left, behind = parted(read(path))
-            if not left.startswith(text) or not behind.startswith(b"#"):
-                faults.append("the file doesn't begin with the text of the round before and end with a closed gate")
-            text = left
+            file = read(path)
+            left = parted(file)
+            if not left.raw.startswith(before + SEAL) or refusal(file, NOTES_HEADER):
+                faults.append("the file doesn't begin with the text of the round before and the empty lines of a start, or is damaged")
+            before = left.raw
         round_of(it.program, path, writers, 0)
     faults += [fault for writer in writers for fault in writer.faults]
     accepted, notes = sum(it.accepted for it in writers), sum(len(it.notes) for it in writers)
-    print(f"{it.rounds} kills, {accepted} requests, {notes} notes, {text.count(bytes([10])) - 1} entries")
+    print(f"{it.rounds} kills, {accepted} requests, {notes} notes, {parted(before).entries()} entries")
     return tell_faults(faults)
 
 

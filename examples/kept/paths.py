@@ -31,16 +31,16 @@ from contextlib import contextmanager
 HERE = os.path.dirname(os.path.abspath(__file__))
 sys.path.insert(1, os.path.join(HERE, ".."))
 
-from kill import END_WAIT, HEADER, PROGRAM, REFUSED, read  # noqa: E402
+from kept_file import HEADER, REFUSED, SEAL, UNOPENED, read  # noqa: E402
+from kill import END_WAIT, PROGRAM  # noqa: E402
 from serving import Link, tell_faults  # noqa: E402
 from traced import own_port  # noqa: E402
 
 MIRROR = os.path.join(HERE, "..", "..", "crates", "osm_mirror", "out", "osm_mirror")
-UNOPENED = 3
 NOBODY = "65534"
 USERS = "1 token1 user user1\n"
 AT_ONCE = 4
-EMPTY = HEADER + b"#"
+EMPTY = HEADER + SEAL
 
 
 def seen(folder: str) -> dict[str, tuple[int, bytes]]:
@@ -193,7 +193,7 @@ class Trial:
             if link:
                 os.symlink(link, os.path.join(folder, "journal.new"))
             status = self.status(os.path.join(folder, "journal"))
-            left = ", ".join(f"{os.path.basename(its)} {data!r}" for its, (_, data) in seen(folder).items())
+            left = ", ".join(f"{os.path.basename(its)} {data.rstrip(bytes(1))!r}" for its, (_, data) in seen(folder).items())
             print(f"| beside journal.new, {name} (told alone) | {status}; then there is {left} |")
 
     # ---- rights
@@ -210,7 +210,10 @@ class Trial:
             if nobody:
                 for it in (folder, path)[: 1 + (of_file is not None)]:
                     os.chown(it, int(NOBODY), int(NOBODY))
-            self.refuses(name, folder, path, nobody, wanted) if nobody else self.wants(name, self.status(path), wanted)
+            if nobody and wanted:
+                self.refuses(name, folder, path, nobody, wanted)
+            else:
+                self.wants(name, self.status(path, before=nobody), wanted)
             os.chmod(folder, 0o755)
 
     def try_read_only(self) -> None:

@@ -4,12 +4,13 @@
 
 Has so many uploads go over so many links to a traced server, as sync_order.py does. From the trace is made what a loss of power may leave at so
 many drawn moments, a tenth of them while the file was being made: of each sector of 512 bytes that was written and not synced, what was there
-before, what was written, or the one up to a byte and the other behind it; of a length that wasn't synced, the old one or the new one; of names
-that weren't, any. On each a server is started, and must not refuse it. Its text has to be a beginning of the text that was written, with every
-change whose reply had begun to be sent; and the server has to tell, of each changeset, what these changes made, and nothing else. Then the same
-is done at each moment of a start on a file that lacks its gate, which puts it right.
+before, what was written, the one up to a byte and the other behind it, or at each byte either of them; of a length that wasn't synced, the old
+one or the new one; of names that weren't, any. On each a server is started, and must not refuse it. Its text has to be a beginning of the text
+that was written, with every change whose reply had begun to be sent; and the server has to tell, of each changeset, what these changes made,
+and nothing else. Then the same is done at each moment of a start on files that a crash left, which it cuts and seals, and on one of an older
+version.
 
-At last three files are made as no loss of power leaves them, which have to be found wrong. A draw that fails is named by its seed and moment;
+At last four files are made as no loss of power leaves them, which have to be found wrong. A draw that fails is named by its seed and moment;
 its file is left in FOLDER, where one is named.
 
 PROGRAM is crates/osm/out/osm where none is named. Needs strace. Status 0 where all holds, 1 where something doesn't, 2 where it can't be run.
@@ -31,11 +32,13 @@ HERE = os.path.dirname(os.path.abspath(__file__))
 sys.path.insert(1, os.path.join(HERE, ".."))
 
 from editors import Editor  # noqa: E402
-from kill import PROGRAM, parted, read  # noqa: E402
+from kept_file import BATCH_END, END, OLDER_END, Parted, parted, read, text_of  # noqa: E402
+from kill import PROGRAM  # noqa: E402
 from serving import Link, Lost, Server, tell_faults  # noqa: E402
 from traced import NEVER, Call, Change, Traced, calls_on, changes_of, hindrance, own_port, syncs_of, traced, users  # noqa: E402
 
 SECTOR = 512
+MIXED = 0.3  # of the sectors that are drawn byte by byte
 HISTORIES = 3  # of each user, that are read on each file, beside all that the changesets made
 
 
@@ -69,8 +72,10 @@ def sectors_of(changes: list[Change]) -> set[int]:
 
 
 def sector_left(versions: list[bytes], draw: random.Random) -> bytes:
-    """One of its versions, or a later one up to a byte and an earlier one behind it."""
+    """One of its versions, a later one up to a byte and an earlier one behind it, or at each byte any of them."""
     earlier, later = sorted((draw.randrange(len(versions)), draw.randrange(len(versions))))
+    if draw.random() < MIXED:
+        return bytes(draw.choices(bytes_of, k=1)[0] for bytes_of in zip(*versions))
     cut = draw.choice((0, SECTOR, draw.randrange(SECTOR)))
     return versions[later][:cut] + versions[earlier][cut:]
 
@@ -171,8 +176,8 @@ def wrong_with(program: str, trace: Traced, left: Left, told: list[int]) -> list
         lay(path, left)
         try:
             with Server(program, 2, users(links), command=("serve", "--journal", path), port=own_port()) as server:
-                text = parted(read(path))[0]
-                if not trace.file.startswith(text):
+                text = text_of(read(path))
+                if not text_of(trace.file).startswith(text):
                     return ["its text is no beginning of the one that was written"]
                 counts = counts_of(text, links)
                 if any(count < least for count, least in zip(counts, told, strict=True)):
@@ -180,6 +185,14 @@ def wrong_with(program: str, trace: Traced, left: Left, told: list[int]) -> list
                 return wrong_map(server.port, [it.after(count) for it, count in zip(trace.people, counts, strict=True)])
         except SystemExit as why:
             return [f"a start on it is refused: {why}"]
+
+
+def left_before(it: Parted) -> list[bytes]:
+    """Files with that text: without room, with a beginning of a batch, with a torn one over zeros, and as an older version had it."""
+    begun = it.raw[it.raw.index(b"{") :][:SECTOR]
+    torn = b"\0" + begun.replace(END, b"")[1:] + BATCH_END
+    junk = begun[1:].replace(END, b"") + END
+    return [it.raw, it.raw + begun.partition(END)[0], it.raw + torn + bytes(SECTOR), it.text() + OLDER_END + junk]
 
 
 # ---- all of it
@@ -217,9 +230,9 @@ class Trial:
         self.check(f"seed {seed}, moment {moment}", left, self.told(moment))
 
     def try_repairs(self, seed: int) -> None:
-        """The power goes again, at each moment of a start on a file without a gate."""
-        draw, text = random.Random(seed), parted(self.trace.file)[0]
-        for base in (text, text + b"{"):
+        """The power goes again, at each moment of a start on what a crash left, or an older version."""
+        draw = random.Random(seed)
+        for base in left_before(parted(self.trace.file)):
             with tempfile.TemporaryDirectory() as folder:
                 path = os.path.join(folder, "journal")
                 lay(path, Left(base, True, False, 0))
@@ -230,13 +243,14 @@ class Trial:
 
     def try_doctored(self) -> None:
         """Files that no loss of power leaves have to be found wrong."""
-        text = parted(self.trace.file)[0]
-        last = text.rindex(b"\n", 0, -1) + 1
-        place = text.rindex(b'"lat7":') + len(b'"lat7":')
+        raw = parted(self.trace.file).raw
+        first, last = raw.index(b"{"), raw.rindex(END, 0, len(raw.rstrip(END))) + 1
+        place = raw.rindex(b'"lat7":') + len(b'"lat7":')
         for name, file, fault in (
-            ("whose last line is lost", text[:last] + b"#", "whose replies were sent"),
-            ("that is damaged behind its text", text + b'x"at":1}\n#', "is refused"),
-            ("of which a number is another", text[:place] + b"1" + text[place:].lstrip(b"-0123456789") + b"#", "no beginning"),
+            ("whose last line is lost", raw[:last], "whose replies were sent"),
+            ("that is damaged behind its text", raw + b'x"at":1}\n', "is refused"),
+            ("that is damaged in its first line", raw[:first] + b"\0" + raw[first + 1 :], "is refused"),
+            ("of which a number is another", raw[:place] + b"1" + raw[place:].lstrip(b"-0123456789"), "no beginning"),
         ):
             found = wrong_with(self.program, self.trace, Left(file, True, False, 0), self.told(NEVER))
             if not any(fault in it for it in found):

@@ -8,7 +8,8 @@ Then it is looked up in the trace, of each change by its own line of the file an
 - the line is the change's, its moment lies within the seconds between the request and the reply, and it became a part of the text by a write;
 - behind that write's end a sync of the file began, and it ended before the first byte of the reply was sent, and of any reply to one who reads
   meanwhile that tells of the change;
-- each gate was opened over lines that a sync had put on the disk;
+- each write behind the header is one batch, lines with an empty one behind them, or the empty line of a start; it goes over zeros, and all
+  that was written before, these zeros too, a sync had put on the disk;
 - the file was written under another name and synced, got its own by a link and not by renaming, and its folder was synced, before any reply.
 
 The file has to be what the traced calls make of it, and the replies those that came. At last the trace is changed in several ways, each of
@@ -32,7 +33,8 @@ HERE = os.path.dirname(os.path.abspath(__file__))
 sys.path.insert(1, os.path.join(HERE, ".."))
 
 from editors import Element  # noqa: E402
-from kill import HEADER, PROGRAM, parted  # noqa: E402
+from kept_file import BATCH_END, END, HEADER, OPEN, are_zeros, text_of  # noqa: E402
+from kill import PROGRAM  # noqa: E402
 from serving import tell_faults  # noqa: E402
 from traced import NEVER, SYNCS, Call, Change, Done, Sent, Traced, Uploader, changes_of, hindrance, syncs_of, traced  # noqa: E402
 
@@ -53,16 +55,20 @@ class Growing:
         change.apply(self.file)
         if len(self.file) < self.end:
             self.end, self.moments = 0, []
-        while not self.end or self.file.startswith(b"{", self.end):
-            behind = self.file.find(b"\n", self.end) + 1
-            if not behind:
+        while not self.end or self.file[self.end : self.end + 1] in (END, OPEN):
+            behind = self.file.find(END, self.end) + 1
+            if not behind or 0 in self.file[self.end : behind]:
                 break
-            self.moments.append(change.ended)
+            if behind > self.end + 1:
+                self.moments.append(change.ended)
             self.end = behind
 
-    def opens(self, change: Change) -> bool:
-        """Whether it puts lines that stand there already behind the text."""
-        return change.data == b"{" and self.file.startswith(b"#", change.at)
+    def takes(self, change: Change) -> bool:
+        """Whether it is a batch or an empty line, which stands behind the text and over zeros."""
+        data = change.data or b""
+        room = self.file[change.at : change.at + len(data)]
+        is_batch = data.startswith(OPEN) and data.find(BATCH_END) == len(data) - len(BATCH_END) and b"\0" not in data
+        return (is_batch or data == END) and change.at == self.end and len(room) == len(data) and are_zeros(bytes(room))
 
 
 class Syncs:
@@ -78,14 +84,22 @@ class Syncs:
         return self.ends[bisect.bisect_right(self.begins, moment)]
 
 
-def opened_early(changes: list[Change], syncs: Syncs) -> int:
-    """How many gates were opened before all that was written before was on the disk."""
-    growing, early, last = Growing(), 0, 0
+def is_written(change: Change) -> bool:
+    """Whether it is behind the header, and no zeros are laid by."""
+    return bool(change.data) and change.at >= len(HEADER) and not are_zeros(change.data or b"")
+
+
+def wrong_writes(changes: list[Change], syncs: Syncs) -> list[str]:
+    """Those that are no batch over zeros, and those that began before all that was written before was on the disk."""
+    growing, early, others, last = Growing(), 0, 0, 0
     for change in changes:
-        early += growing.opens(change) and syncs.kept(last) > change.begun
+        if is_written(change):
+            early += syncs.kept(last) > change.begun
+            others += not growing.takes(change)
         growing.take(change)
         last = change.ended
-    return early
+    faults = [f"{early} writes began before what was written before was on the disk"] if early else []
+    return faults + ([f"{others} writes are no batch over zeros"] if others else [])
 
 
 # ---- lines and changes
@@ -115,7 +129,7 @@ class Line(NamedTuple):
 def lines_of(trace: Traced, moments: list[int]) -> dict[int, list[Line]]:
     """The lines of each user, in order."""
     lines: dict[int, list[Line]] = {it.user: [] for it in trace.people}
-    for moment, text in zip(moments[1:], parted(trace.file)[0].splitlines()[1:], strict=True):
+    for moment, text in zip(moments[1:], text_of(trace.file).splitlines()[1:], strict=True):
         entry = json.loads(text)
         lines[entry["user"]["id"]].append(Line(moment, entry))
     return lines
@@ -182,9 +196,7 @@ def wrong(trace: Traced) -> list[str]:
         growing.take(change)
     if growing.file != trace.file or not trace.file.startswith(HEADER):
         return ["the file isn't what the traced calls make of it"]
-    early = opened_early(changes, syncs)
-    faults = [f"{early} gates are opened over what isn't on the disk"] if early else []
-    return faults + wrong_names(trace, changes) + wrong_replies(trace, growing.moments, syncs)
+    return wrong_writes(changes, syncs) + wrong_names(trace, changes) + wrong_replies(trace, growing.moments, syncs)
 
 
 # ---- traces that have to be found wrong
@@ -217,7 +229,7 @@ def exchanged(first: Uploader, second: Uploader, *others: Uploader) -> list[Uplo
 
 
 def with_other_syncs(trace: Traced) -> list[Doctored]:
-    """The syncs between a line's write and its reply or a read are others or none, and those before a gate is opened."""
+    """The syncs between a line's write and its reply or a read are others or none, and those behind zeros that are laid by."""
     changes, syncs, growing = list(changes_of(trace.calls, trace.path)), syncs_of(trace.calls, trace.path), Growing()
     for change in changes:
         growing.take(change)
@@ -232,13 +244,15 @@ def with_other_syncs(trace: Traced) -> list[Doctored]:
     line, reply, fault = lines[person.user][middle].moment, trace.replies(person)[middle].moment, "its line was there at"
     told = max(trace.reads())
     seen = lines[told.user][told.number - 1].moment
-    gates = [(last.ended, it.begun) for last, it in itertools.pairwise(changes) if it.data == b"{"]
+    laid = [(last.ended, it.begun) for last, it in itertools.pairwise(changes) if is_written(it) and not is_written(last) and last.at]
+    written = [(last.ended, it.begun) for last, it in itertools.pairwise(changes) if is_written(it) and is_written(last)]
     return [
         Doctored("no sync behind a line", between(line, reply, lambda _: None), fault),
         Doctored("a sync that ends behind the reply", between(line, reply, lambda it: it._replace(ended=NEVER)), fault),
         Doctored("a sync that begins before its line is there", between(line, reply, lambda it: it._replace(begun=line)), fault),
         Doctored("no sync before a read", between(seen, told.moment, lambda _: None), "is read before"),
-        *(Doctored("no sync before a gate", between(*it, lambda _: None), "1 gates") for it in gates[len(gates) // 2 :][:1]),
+        Doctored("no sync of zeros", between(*laid[len(laid) // 2], lambda _: None), "1 writes began"),
+        Doctored("no sync between two batches", between(*written[len(written) // 2], lambda _: None), "1 writes began"),
     ]
 
 
@@ -255,11 +269,14 @@ def with_other_names(trace: Traced) -> list[Doctored]:
 
 def doctored(trace: Traced) -> list[Doctored]:
     """The trace as it isn't, in ways that have to be found."""
-    writes = [it.begun for it in trace.calls if it.name == "pwrite64" and it.target() == trace.path]
+    writes = [it.begun for it in changes_of(trace.calls, trace.path) if is_written(it)]
     less = changed(trace, lambda it: None if it.begun == writes[-1] else it)
+    parts = changed(trace, lambda it: it._replace(result=it.result - 1) if it.begun == writes[-1] else it)
+    parts = parts._replace(file=parts.file[: len(parts.file.rstrip(b"\0")) - 1].ljust(len(parts.file), b"\0"))
     return [
         *with_other_syncs(trace),
         *with_other_names(trace),
+        Doctored("a batch without its end", parts, "1 writes are no batch"),
         Doctored("a write that isn't traced", less, "the file isn't what the traced calls make of it"),
         Doctored("another hour", trace._replace(people=list(map(earlier, trace.people))), "it is stamped"),
         Doctored("links exchanged", trace._replace(people=exchanged(*trace.people)), "the reply sent was"),
@@ -273,9 +290,10 @@ def overlooked(others: list[Doctored]) -> list[str]:
 def tell(trace: Traced, others: list[Doctored]) -> None:
     kinds = [it.command.kind for person in trace.people for it in person.done]
     uploads, reads, syncs = kinds.count("upload"), {it.moment for it in trace.reads()}, syncs_of(trace.calls, trace.path)
+    batches = trace.file.count(BATCH_END + OPEN)
     print(
-        f"{uploads} uploads and {len(kinds) - uploads} other changes over {len(trace.people)} links, with {len(syncs)} syncs: each was on the "
-        f"disk before its reply, and before the {len(reads)} reads that told of one; {len(others)} wrong traces are found"
+        f"{uploads} uploads and {len(kinds) - uploads} other changes over {len(trace.people)} links, in {batches} batches, with {len(syncs)} syncs: "
+        f"each was on the disk before its reply, and before the {len(reads)} reads that told of one; {len(others)} wrong traces are found"
     )
 
 

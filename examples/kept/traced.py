@@ -22,7 +22,7 @@ from collections.abc import Callable, Iterable, Iterator
 from typing import NamedTuple
 
 from editors import Command, Editor
-from kill import read
+from kept_file import read
 from serving import Lost, Replies, Reply, Server, connect, request
 
 PORTS = range(23000, 24000)

@@ -70,7 +70,7 @@ def remove(path: str) -> None:
 def cut(path: str) -> None:
     """Half of its text: more than a break can take."""
     with open(path, "r+b") as file:
-        file.truncate(file.read().index(b"\n#") // 2)
+        file.truncate(len(file.read().rstrip(b"\0")) // 2)
 
 
 def empty(path: str) -> None:
