@@ -1,9 +1,12 @@
 #!/usr/bin/python3
 """Brings a mirror the engine's pieces: examples/fleet/carrier.py --mirror URL --token-file FILE --engine redis://127.0.0.1:6380
+    [--level-every 1]
 
 Waits at the engine for news, and goes on until it is ended. Which piece comes next the mirror says, so nothing is kept here; a mirror that
-was started anew gets all of them. The token is a moderator's at the mirror. Status 3 where the mirror has another journal than the engine,
-or the engine has begun a new one: then nothing is brought.
+was started anew gets all of them. Once it has what the engine has it is told that it is level, and again each --level-every seconds as
+long as it has: a mirror of --until-level SECONDS answers reads from then on, and needs to hear it well within these seconds. The token is a
+moderator's at the mirror. Status 3 where the mirror has another journal than the engine, or the engine has begun a new one: then nothing
+is brought.
 """
 
 from __future__ import annotations
@@ -46,8 +49,8 @@ class Journal:
 
 
 class Carrier:
-    def __init__(self, mirror: str, token: str, engine: str) -> None:
-        self.mirror, self.token, self.engine = mirror, token, engine
+    def __init__(self, mirror: str, token: str, engine: str, level_every: float) -> None:
+        self.mirror, self.token, self.engine, self.level_every = mirror, token, engine, level_every
         self.name, self.window = "", 1
         self.trouble = scripts.Trouble("carrier")
 
@@ -89,13 +92,18 @@ class Carrier:
 
     def step(self, journal: Journal, mirror: Mirror) -> None:
         mirror.begin()
-        if pieces := journal.after(mirror.number, self.window):
-            self.window = next_window(self.window, pieces, MOST)
+        asked = self.window
+        if pieces := journal.after(mirror.number, asked):
+            self.window = next_window(asked, pieces, MOST)
             mirror.take(pieces)
+            # Fewer than were asked for: that was all.
+            if len(pieces) < asked:
+                mirror.level(self.level_every)
             return
         if not journal.is_current():
             raise self.anew()
-        mirror.look()
+        if not mirror.level(self.level_every):
+            mirror.look()
 
     def anew(self) -> OtherJournal:
         return OtherJournal(f"the engine has begun another journal than {self.mirror} has: start the mirror anew, and then this")
@@ -106,8 +114,11 @@ def main() -> int:
     parser.add_argument("--mirror", required=True)
     scripts.add_engine(parser)
     scripts.add_token(parser)
+    parser.add_argument("--level-every", type=float, default=WAIT, metavar="SECONDS", help="how often the mirror is told that it is level")
     words = parser.parse_args()
-    return scripts.run("carrier", Carrier(words.mirror, words.token, words.engine).run)
+    if words.level_every < 0:
+        parser.error("--level-every is 0 at least")
+    return scripts.run("carrier", Carrier(words.mirror, words.token, words.engine, words.level_every).run)
 
 
 if __name__ == "__main__":

@@ -11,6 +11,7 @@ ports of the loopback. Status 0 where all is as it should be. The parts:
 - reads: by wrk, through nginx with 1, 2 and 4 mirrors, for so many seconds each;
 - untold: a Redis that forbids CONFIG is refused by the writer, and taken where it is told to trust it;
 - taken: level.py takes mirrors out of nginx that were started with an empty map or whose carriers are killed, and puts them back;
+- known: mirrors that answer reads only while they are known to be level do so without level.py;
 - anew: the server is killed and started again; the writer tells of the other journal, and nothing of it comes to a mirror.
 
 Needs Debian's nginx-light, redis-server and python3-redis (or postgresql and python3-psycopg2), and wrk where there are seconds.
@@ -33,16 +34,18 @@ from typing import Any
 
 import scripts
 from engine import open_engine
+from known import known
 from levels import PAUSE, Readers, empty_without, lines_of, wait_for, wait_for_numbers, wait_until_read
 from running import ENGINES, HERE, USERS, Front, Process, Redis, Watch
-from running import new_mirror, number, same_reads, script, url, wait_until, with_token
+from running import new_mirror, number, same_reads, script, url, wait_until, wait_until_known, with_token
 from serving import Link, Server, Wrong, free_port, trial_status
 
 TOP = os.path.join(HERE, "..", "..")
 SERVER_WORKERS = 12
 MIRRORS = 4
-PARTS = ("level", "news", "reads", "untold", "taken", "anew")
+PARTS = ("level", "news", "reads", "untold", "taken", "known", "anew")
 MOST_NEWS = 0.05  # seconds
+UNTIL_LEVEL = 300  # seconds for which a mirror counts as level: for longer than a carrier is gone here
 
 
 class Fleet:
@@ -53,7 +56,7 @@ class Fleet:
         self.server = Server(words.program, SERVER_WORKERS, USERS, port=free_port())
         self.mirrors: list[Server] = []
         stack.callback(self.end_servers)
-        self.mirrors += [new_mirror(words.mirror) for _ in range(MIRRORS)]
+        self.mirrors += [new_mirror(words.mirror, until_level=UNTIL_LEVEL) for _ in range(MIRRORS)]
         self.engine = ENGINES[words.engine](folder)
         stack.callback(self.engine.kill)
         self.ports = [it.port for it in self.mirrors]
@@ -95,21 +98,22 @@ class Fleet:
         wanted, start = number(self.server.port), since or time.monotonic()
         for port in self.ports:
             wait_until(what, wanted, port)
+            wait_until_known(port)
         return time.monotonic() - start
 
     def kill_mirror(self, place: int) -> None:
         self.mirrors[place].process.kill()
         self.mirrors[place].__exit__()
 
-    def start_mirror(self, place: int) -> None:
-        self.mirrors[place] = new_mirror(self.mirror_program, self.ports[place])
+    def start_mirror(self, place: int, until_level: int = UNTIL_LEVEL) -> None:
+        self.mirrors[place] = new_mirror(self.mirror_program, self.ports[place], until_level)
 
-    def restart_empty(self, place: int, pause: float) -> None:
+    def restart_empty(self, place: int, until_level: int = UNTIL_LEVEL, pause: float = 0) -> None:
         """A mirror that is started anew, and isn't given any piece yet."""
         self.carriers[place].kill()
         self.kill_mirror(place)
         time.sleep(pause)
-        self.start_mirror(place)
+        self.start_mirror(place, until_level)
 
     def check_reads(self) -> int:
         return min(same_reads(self.server.port, port, f"mirror {place}", self.uploads) for place, port in enumerate(self.ports, 1))
@@ -256,7 +260,7 @@ def taken(fleet: Fleet, _: argparse.Namespace) -> None:
 def fresh_is_out(fleet: Fleet, front: Front) -> str:
     time.sleep(3)
     readers = Readers(front.port, "node/1")
-    fleet.restart_empty(0, PAUSE)
+    fleet.restart_empty(0, 0, PAUSE)
     time.sleep(3)
     if lines_of(front)[fleet.ports[0]]:
         raise Wrong("an empty mirror is in")

@@ -3,6 +3,7 @@
 from __future__ import annotations
 
 import json
+import time
 from collections.abc import Sequence
 from typing import Any, Protocol
 
@@ -24,11 +25,12 @@ class Mirror:
     """A mirror, and how far it has the journal. It may be started anew at any time, so each new link is compared before it is used."""
 
     def __init__(self, url: str, token: str, pieces: Pieces) -> None:
-        self.pieces, self.number = pieces, 0
+        self.pieces, self.number, self.said = pieces, 0, 0.0
         self.site = Site(url, token, greet=self.compare)
 
     def compare(self, link: Link) -> None:
         """The first and the last piece that both have are posted once more: a mirror tells whether it has just these."""
+        self.said = 0.0
         has = self.length_of(link)
         taken = self.pieces.ends()
         if has and not taken.number:
@@ -61,6 +63,20 @@ class Mirror:
         reply = self.site.ask(self.site.get("replication/state"))
         if reply.status != 200 or int(body_of(reply)["sequenceNumber"]) != self.number:
             self.close()
+
+    def level(self, every: float) -> bool:
+        """Says that it has all that there is, where that wasn't said on this link in the last so many seconds. It tells what it has then,
+        and one that has something else is looked at anew."""
+        if self.said and time.monotonic() - self.said < every:
+            return False
+        reply = self.site.ask(self.site.put("replication/level"))
+        if body_of(reply).get("level") is not True:
+            raise self.refused(reply, "that it is level")
+        if body_of(reply)["next"] != self.number + 1:
+            self.close()
+        else:
+            self.said = time.monotonic()
+        return True
 
     def judge(self, number: int, reply: Reply) -> None:
         if body_of(reply).get("taken") not in ("folded", "old"):

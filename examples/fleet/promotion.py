@@ -68,24 +68,29 @@ class Text:
     """The whole lines of a journal's file, as the pieces of a feed. A mirror may be writing behind them meanwhile."""
 
     def __init__(self, path: str) -> None:
-        self.path, self.starts = path, array("Q", [len(HEADER)])
+        self.path, self.starts, self.ends = path, array("Q"), array("Q")
         try:
             self.file = open(path, "rb")
         except OSError as why:
             raise Refused("no_journal", f"{path}: {why.strerror}") from why
         if self.file.readline() != HEADER:
             raise Refused("no_journal", f"{path} isn't the file of a journal")
+        at = len(HEADER)
         for line in self.file:
-            if not (line.startswith(b"{") and line.endswith(b"\n")):
-                break  # the gate, with room behind it (docs/JOURNAL.md)
-            self.starts.append(self.starts[-1] + len(line))
+            if line.startswith(b"{") and line.endswith(b"\n") and b"\0" not in line:
+                self.starts.append(at)
+                self.ends.append(at + len(line) - 1)
+            elif line != b"\n":
+                break  # zeros, or a line that is being written (docs/JOURNAL.md)
+            at += len(line)
 
     def __len__(self) -> int:
-        return len(self.starts) - 1
+        return len(self.starts)
 
     def piece(self, number: int) -> bytes:
-        self.file.seek(self.starts[number - 1])
-        line = self.file.read(self.starts[number] - self.starts[number - 1] - 1)
+        start, end = self.starts[number - 1], self.ends[number - 1]
+        self.file.seek(start)
+        line = self.file.read(end - start)
         return b'{"entry":%b,"number":%d,"version":2}' % (line, number)
 
 

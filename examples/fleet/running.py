@@ -200,8 +200,31 @@ class Front:
         self.process.wait()
 
 
-def new_mirror(program: str, port: int = 0) -> Server:
-    return Server(program, MIRROR_WORKERS, USERS, command=(), port=port)
+def new_mirror(program: str, port: int = 0, until_level: int = 0) -> Server:
+    """One that answers reads only while it is known to be level, where there are seconds."""
+    words = ("--until-level", str(until_level)) if until_level else ()
+    return Server(program, MIRROR_WORKERS, USERS, command=words, port=port)
+
+
+def is_known(port: int) -> bool:
+    """Whether a mirror answers reads, so is known to be level."""
+    try:
+        reply = Link(port, kept=1).ask("GET", "changesets")
+    except (OSError, Lost):
+        return False
+    if reply.status != 200 and reply.read() != {"error": "not_level"}:
+        raise Wrong(f"port {port}: {reply.status} {reply.body.decode()}")
+    return reply.status == 200
+
+
+def wait_until_known(port: int, wanted: bool = True, seconds: float = 60) -> float:
+    """Until it answers reads, or until it doesn't, and how long that took."""
+    start = time.monotonic()
+    while is_known(port) is not wanted:
+        if time.monotonic() - start > seconds:
+            raise Wrong(f"after {seconds} seconds the mirror {port} {'answers no reads' if wanted else 'still answers reads'}")
+        time.sleep(0.01)
+    return time.monotonic() - start
 
 
 def wait_until(what: str, wanted: int, port: int, seconds: float = 300) -> float:

@@ -63,8 +63,6 @@ class Root:
         self.folder, self.redis = folder, Redis(folder)
         self.ports = {name: free_port() for name in ("8080", "8082", "8083", "8084", "8000", "443")}
         shutil.copytree("/usr/lib/systemd/system", self.path(UNITS), symlinks=True)
-        os.makedirs(self.path("usr/bin"))
-        shutil.copy("/usr/bin/sleep", self.path("usr/bin/sleep"))
         self.write(f"{LIB}/osm", OSM.format(program=os.path.abspath(words.program), mirror=os.path.abspath(words.mirror)), 0o755)
         for name in ("gateway", "replication", "examples/fleet"):
             shutil.copytree(os.path.join(TOP, name), self.path(f"{LIB}/{name}"), ignore=shutil.ignore_patterns("tests", "__pycache__"))
@@ -157,8 +155,7 @@ class Unit:
         capabilities = ["-all", *(f"+{it.removeprefix('CAP_').lower()}" for it in self.settings["AmbientCapabilities"].split())]
         words = ["setpriv", f"--reuid={user}", f"--regid={groups[0]}", f"--groups={','.join(map(str, groups))}", "--no-new-privs"]
         words += [f"--{kind}={','.join(capabilities)}" for kind in ("inh-caps", "ambient-caps", "bounding-set")]
-        before = self.root.moved(self.settings.get("ExecStartPre", "true"))
-        inside = f"cd {state} && umask {self.settings['UMask']} && {before} && exec {self.root.moved(self.settings['ExecStart'])}"
+        inside = f"cd {state} && umask {self.settings['UMask']} && exec {self.root.moved(self.settings['ExecStart'])}"
         self.process = subprocess.Popen([*words, "sh", "-c", inside], env=environment, stdin=subprocess.DEVNULL)
 
     def stop(self) -> None:
