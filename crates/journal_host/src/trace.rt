@@ -7,7 +7,7 @@ ghost use Rattle.std.specs.Borrow.{ftrue};
 ghost use Rattle.journal_file.specs.History.{History};
 ghost use Rattle.journal_host.specs.Told.{JournalsTold, none_lent, asked_at, lent_at, taken_back};
 
-use journal_file::{DiskFile, MemFile};
+use journal_file::MemFile;
 use std::marker::Model;
 
 /// The paths that were asked for, the bytes that were given, and the files that came back so far. Only
@@ -32,14 +32,6 @@ impl JournalTrace {
 
     /// Whatever was asked, made where the path and the bytes of the last call are known.
     fn beside(&self, _path: &[u8], _bytes: &[u8]) -> JournalTrace
-        ghost told: { JournalsTold History }
-        ensures { result.told ≡ told }
-    {
-        JournalTrace::of()
-    }
-
-    /// Whatever was asked, made where the file of the disk that came back is known.
-    fn beside_disk(&self, _file: &DiskFile) -> JournalTrace
         ghost told: { JournalsTold History }
         ensures { result.told ≡ told }
     {
@@ -73,13 +65,6 @@ impl JournalTrace {
         ensures { result.told ≡ lent_at self.now.told path.now bytes.now }
     {
         self.beside(path.as_bytes(), bytes)
-    }
-
-    /// And then this file of the disk came back.
-    pub fn back_of_disk(&self, file: &DiskFile) -> JournalTrace
-        ensures { result.told ≡ taken_back self.now.told file.now }
-    {
-        self.beside_disk(file)
     }
 
     /// And then this file in memory came back.

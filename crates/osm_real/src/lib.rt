@@ -4,6 +4,7 @@
 #![tactic(auto)]
 
 mod duplex;
+mod given;
 mod host;
 mod journals;
 mod listen;

@@ -3,32 +3,39 @@ ghost use Rattle.std.specs.Prelude.{◌≡◌};
 
 use crate::named_file::NamedFile;
 use crate::stop::Stop;
-use journal_file::{Device, DeviceFailed, DiskFile};
+use copied_file::CopiedFile;
+use journal_file::{Device, DeviceFailed};
 use std::marker::Model;
+use std::net::Net;
 use std::rt::{Clock, Files};
 
-/// A file of the disk that asks for a stop at the first of its calls that fails, since what it is to keep
-/// can't be told of any more; and at a sync behind which another file has its path, since another
-/// server may go on from that one. Contracts see it as the file.
+/// A file of the disk, with a copy elsewhere or without one, that asks for a stop at the first of its calls
+/// that fails, since what it is to keep can't be told of any more; and at a sync behind which another file
+/// has its path, since another server may go on from that one. Contracts see it as the file and its copy.
 #[derive(Drop)]
-pub struct StoppingFile<'a, S> {
-    file: DiskFile,
+pub struct StoppingFile<'a, S: Net> {
+    file: CopiedFile<S::Stream>,
     named: NamedFile,
     system: S,
     stop: &'a Stop,
 }
 
-impl<'a, S> Model for StoppingFile<'a, S> {
-    ghost use Rattle.journal_file.specs.History.{History};
+impl<'a, S: Net> Model for StoppingFile<'a, S> {
+    ghost use Rattle.copied_file.specs.Copied.{Copied};
 
-    ghost Value = { History };
+    ghost Value = { Copied };
 
     ghost view = { λ f. f.file };
 }
 
-impl<'a, S: Clock> StoppingFile<'a, S> {
+impl<'a, S: Net + Clock> StoppingFile<'a, S> {
     /// The file, which was found by that name and asks for that stop.
-    pub fn new(file: DiskFile, named: NamedFile, system: S, stop: &'a Stop) -> StoppingFile<'a, S>
+    pub fn new(
+        file: CopiedFile<S::Stream>,
+        named: NamedFile,
+        system: S,
+        stop: &'a Stop,
+    ) -> StoppingFile<'a, S>
         ensures { result ≡ file }
     {
         StoppingFile {
@@ -40,7 +47,7 @@ impl<'a, S: Clock> StoppingFile<'a, S> {
     }
 
     /// The file itself.
-    pub fn into_inner(self) -> DiskFile
+    pub fn into_inner(self) -> CopiedFile<S::Stream>
     where
         S: Drop,
         ensures { result ≡ self.entry }
@@ -65,21 +72,21 @@ impl<'a, S: Clock> StoppingFile<'a, S> {
     }
 }
 
-impl<'a, S: Clock + Files> Device for StoppingFile<'a, S> {
+impl<'a, S: Net + Clock + Files> Device for StoppingFile<'a, S> {
     ghost use Rattle.std.specs.Prelude.{length};
-    ghost use Rattle.journal_file.specs.History.{seen_after, left_after, left_from, faults_in, counts_now, only_now};
+    ghost use Rattle.copied_file.specs.Copied.{seen_at, left_at, left_from, faults_at, counts_now, only_now};
 
-    const ROOM: usize = DiskFile::ROOM;
+    const ROOM: usize = <CopiedFile<S::Stream> as Device>::ROOM;
 
-    ghost seen = { λ h. seen_after h.first h.calls };
+    ghost seen = { λ c. seen_at c.now };
 
-    ghost may_leave = { λ h c. left_after h.first h.calls c };
+    ghost may_leave = { λ c. left_at c.now };
 
-    ghost moment = { λ h. length h.calls };
+    ghost moment = { λ c. length c.before };
 
-    ghost left_since = { λ h t c. left_from h.first h.calls t c };
+    ghost left_since = { λ c. left_from c.now c.before };
 
-    ghost faults = { λ h. faults_in h.calls };
+    ghost faults = { λ c. faults_at c.now };
 
     fn write_at(&mut self, at: usize, bytes: &[u8]) -> Result<(), DeviceFailed> {
         let outcome = self.file.write_at(at, bytes);
@@ -104,7 +111,7 @@ impl<'a, S: Clock + Files> Device for StoppingFile<'a, S> {
         self.told(outcome)
     }
 
-    ghost counts_now = { λ h t c le left. counts_now h.first h.calls t c left };
+    ghost counts_now = { λ h t c le left. counts_now h.now h.before t c left };
 
-    ghost only_now = { λ h c left. only_now h.first h.calls c left };
+    ghost only_now = { λ h c left. only_now h.now h.before c left };
 }

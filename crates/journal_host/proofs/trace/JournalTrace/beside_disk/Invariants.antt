@@ -1,4 +1,0 @@
-use Rattle.journal_host.proofs.trace.JournalTrace.beside_disk.Given as goal
-
-abbrev pub ghost-of : goal.ghost-of
-ghost-of g a = g.told
