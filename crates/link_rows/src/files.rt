@@ -7,7 +7,7 @@ use osm_real::{FileHost, FileJournals, Stop};
 use row_lines::Tally;
 use std::{env, fs, io, process};
 
-const HEADER: &[u8] = b"osm-journal 2\n";
+pub const HEADER: &[u8] = b"osm-journal 2\n";
 
 /// A new journal's file: the header alone.
 const NEW: &[u8] = b"osm-journal 2\n";
@@ -35,7 +35,7 @@ fn a_missing_file_is_a_fault(rt: HostRuntime) -> bool {
 }
 
 /// A path that no other process takes.
-fn journal_path(rt: HostRuntime) -> io::Result<String> {
+pub fn journal_path(rt: HostRuntime) -> io::Result<String> {
     let folder = env::temp_dir(&rt)?;
     let number = process::id(rt.process());
     let path = format!(in rt.alloc(); "{}/link_rows_{number}", folder.as_path().as_str())?;

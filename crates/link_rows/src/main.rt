@@ -3,6 +3,7 @@
 #![tactic(auto)]
 
 mod clock;
+mod copies;
 mod desks;
 mod faults;
 mod files;
@@ -64,6 +65,7 @@ fn main(rt: HostRuntime) -> io::Result<ExitCode> {
     );
     stream::play(rt, &mut tally);
     files::play(rt, &mut tally);
+    copies::play(&rt, rt, &mut tally);
     tally.tell(&rt)?;
     if tally.is_right() {
         Ok(ExitCode::SUCCESS)
