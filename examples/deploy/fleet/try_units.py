@@ -32,7 +32,7 @@ from running import Redis, wait_until
 from serving import Wrong, free_port, trial_status
 
 LIB, UNITS = "usr/lib/hegunsap", "usr/lib/systemd/system"
-FLEET = ("writer", "carrier@", "mirror@", "level")
+FLEET = ("keeper", "writer", "carrier@", "mirror@", "level")
 NAMES = ("map.example.org", "osm.example.org")
 TOKEN = "HEGUNSAP_TOKEN=bobtoken\n"
 OSM = """#!/bin/sh
@@ -61,7 +61,7 @@ class Root:
 
     def __init__(self, folder: str, words: argparse.Namespace) -> None:
         self.folder, self.redis = folder, Redis(folder)
-        self.ports = {name: free_port() for name in ("8080", "8082", "8083", "8084", "8000", "443")}
+        self.ports = {name: free_port() for name in ("8080", "8082", "8083", "8084", "8085", "8000", "443")}
         shutil.copytree("/usr/lib/systemd/system", self.path(UNITS), symlinks=True)
         self.write(f"{LIB}/osm", OSM.format(program=os.path.abspath(words.program), mirror=os.path.abspath(words.mirror)), 0o755)
         for name in ("gateway", "replication", "examples/fleet"):
@@ -91,6 +91,10 @@ class Root:
         with open(self.path(name), "w", encoding="utf-8") as file:
             file.write(text)
         os.chmod(self.path(name), mode)
+
+    def read(self, name: str) -> bytes:
+        with open(self.path(name), "rb") as file:
+            return file.read()
 
     def moved(self, text: str) -> str:
         """With the folder's paths in the place of the machine's, and its ports."""
@@ -229,7 +233,8 @@ def begun(root: Root, stack: ExitStack, name: str, instance: str = "", more: str
 def units(root: Root, stack: ExitStack) -> None:
     begin = partial(begun, root, stack)
     ports = [root.ports[it] for it in ("8083", "8084")]
-    begin("hegunsap-map")
+    keeper = begin("hegunsap-fleet-keeper")
+    server = begin("hegunsap-map", more=f"+tcp://127.0.0.1:{root.ports['8085']}")
     begin("hegunsap-gateway", more=f" --public-url https://{NAMES[1]}")
     writer = begin("hegunsap-fleet-writer")
     mirrors = [begin("hegunsap-fleet-mirror@", str(port)) for port in ports]
@@ -259,7 +264,10 @@ def units(root: Root, stack: ExitStack) -> None:
     until("the mirror is in", lambda: is_in(root, ports[1]))
     wait_until("the mirror", 2, ports[1], 60)
     print("a mirror is ended and started: it goes on from its journal, and is in again")
-    for unit in (level, *carriers, writer, *mirrors):
+    if root.read("var/lib/hegunsap-fleet-keeper/map.journal") != root.read("var/lib/hegunsap/map.journal"):
+        raise Wrong("the keeper's copy is another file than the server's journal")
+    print("the keeper has the server's journal, byte for byte")
+    for unit in (level, *carriers, writer, *mirrors, server, keeper):
         unit.stop()
     print("each ends in order by SIGTERM")
 
