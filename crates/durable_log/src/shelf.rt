@@ -186,6 +186,9 @@ impl<N: HubName, K: HubName, E, T: Lines<E>, D: Device> Shelf<N, K, E, T, D> {
         ensures going { OnOk result (self.new.broken ≡ false) }
         ensures full { IsErrOf result KeepFault.Full → (self.new ≡ self.old) × (2 ^ 62 ≤ length (D.seen self.old.device)) }
         ensures failed { IsErrOf result KeepFault.File → self.new.broken ≡ true }
+        // So where no call of the device has failed it is sealed, or was full.
+        ensures sealed_or_full { self.new.broken ≡ false → IsSealed (T.text self.old.entries) (D.seen self.old.device) (D.seen self.new.device)
+            ⊎ ((self.new ≡ self.old) × (2 ^ 62 ≤ length (D.seen self.old.device))) }
         // What every crash left of the list from a moment on, it leaves from then on still.
         ensures time { D.moment self.old.device ≤ D.moment self.new.device }
         ensures stays { (t k : ℕ) → k ≤ length self.old.entries → t ≤ D.moment self.old.device → HoldsFrom T.text D.left_since self.old.device t k self.old.entries

@@ -1,7 +1,8 @@
 //! The shelf of a file that holds a whole journal.
-ghost use Rattle.std.specs.Prelude.{◌≡◌, ◌∷◌, [], length, IfOk, IfErr};
+ghost use Rattle.std.specs.Prelude.{◌≡◌, ◌⊎◌, ◌≤◌, ◌^◌, ◌∷◌, [], false, length, IfOk, IfErr};
 ghost use Rattle.durable_log.specs.Held.{HoldsFrom, LeavesAll};
 ghost use Rattle.durable_log.specs.Receipts.{Receipt};
+ghost use Rattle.journal_file.specs.Settled.{IsSealed};
 
 use durable_log::{Lines, Receipt, Shelf};
 use journal_file::{Device, JournalFile};
@@ -80,12 +81,15 @@ pub fn leave_shelf<N: HubName, K: HubName, E, T: Lines<E>, V: Device, W: Wait>(
     unreachable!()
 }
 
-/// The shelf, sealed, as a stop leaves it. Where a call of its device fails, the shelf is broken.
+/// The shelf, sealed, as a stop leaves it, but where its file is full. Where a call of its device fails,
+/// the shelf is broken.
 pub fn seal_shelf<N: HubName, K: HubName, E, T: Lines<E>, V: Device>(
     shelf: Shelf<N, K, E, T, V>,
 ) -> Shelf<N, K, E, T, V>
     ensures entries { result.entries ≡ shelf.entries }
     ensures receipts { result.receipts ≡ shelf.receipts }
+    ensures sealed { result.broken ≡ false → IsSealed (T.text shelf.entries) (V.seen shelf.device) (V.seen result.device)
+        ⊎ ((result ≡ shelf) × (2 ^ 62 ≤ length (V.seen shelf.device))) }
 {
     let mut shelf = shelf;
     let _sealed = shelf.seal();
