@@ -196,11 +196,18 @@ def seconds_of(pid: int) -> tuple[float, float]:
 class Server:
     """`PROGRAM serve` on a free port or that one, with these users, one line each, until the end of a `with`.
 
-    `pid` is that of the program itself, where PROGRAM is a script that starts it. A mirror's program has no command.
+    `pid` is that of the program itself, where PROGRAM is a script that starts it. A mirror's program has no command. `given` is its input.
     """
 
     def __init__(
-        self, program: str, workers: int, users: str, wait: float = 60, command: tuple[str, ...] = ("serve",), port: int = 0
+        self,
+        program: str,
+        workers: int,
+        users: str,
+        wait: float = 60,
+        command: tuple[str, ...] = ("serve",),
+        port: int = 0,
+        given: int = subprocess.DEVNULL,
     ) -> None:
         self.folder = tempfile.TemporaryDirectory()
         path = os.path.join(self.folder.name, "users.txt")
@@ -208,7 +215,7 @@ class Server:
             file.write(users)
         self.port = port or free_port()
         words = [*command, "--users", path, "--listen", f"127.0.0.1:{self.port}", "--workers", str(workers)]
-        self.process = subprocess.Popen([program, *words], stdin=subprocess.DEVNULL)
+        self.process = subprocess.Popen([program, *words], stdin=given)
         self.workers = workers
         wait_for_answer(f"{program}, on port {self.port},", self.process, self.answers, wait)
         self.pid: int = family(self.process.pid)[-1]

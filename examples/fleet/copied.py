@@ -106,11 +106,19 @@ class Trial:
 
     def serve(self, journal: str, port: int) -> None:
         try:
-            self.server = Server(self.program, WORKERS, USERS, command=("serve", "--journal", journal), port=port)
+            words = ("serve", "--journal", journal, "--until-input-ends")
+            self.server = Server(self.program, WORKERS, USERS, command=words, port=port, given=subprocess.PIPE)
         except Unanswered as why:
             raise Wrong(f"on {journal}: {why}; the keeper said {self.keeper.said[-3:]}") from None
         self.stack.callback(self.server.__exit__)
         self.stack.callback(self.server.process.kill)
+
+    def stop(self) -> None:
+        """In order."""
+        if self.server.process.stdin:
+            self.server.process.stdin.close()
+        if status := self.server.process.wait(SECONDS):
+            raise Wrong(f"a server with a keeper ends with status {status} once its input ends")
 
     def upload(self, seconds: float) -> list[Uploads]:
         uploads = [Uploads(self.port, it) for it in range(LINKS)]
@@ -192,9 +200,7 @@ def keeper_gone(trial: Trial, drawn: random.Random, seconds: float) -> tuple[int
     trial.keep(trial.copy if which == "its copy" else trial.copy + ".new")
     trial.serve(trial.journal, trial.port)
     told = trial.go_on(nodes)
-    trial.server.process.terminate()
-    if status := trial.server.process.wait(SECONDS):
-        raise Wrong(f"a server with a keeper ends with status {status} at SIGTERM")
+    trial.stop()
     trial.keeper.stop()
     with open(trial.file, "rb") as file, open(trial.copy, "rb") as copy:
         if file.read() != copy.read():

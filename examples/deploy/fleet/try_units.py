@@ -221,6 +221,12 @@ def is_in(root: Root, port: int) -> bool:
         return False
 
 
+def listens(port: int) -> bool:
+    """Asked of the system: a link would be the one that a keeper serves."""
+    with open("/proc/net/tcp", encoding="ascii") as file:
+        return any(words[1].endswith(f":{port:04X}") and words[3] == "0A" for words in (line.split() for line in file))
+
+
 def begun(root: Root, stack: ExitStack, name: str, instance: str = "", more: str = "") -> Unit:
     """A unit that runs until the end of the stack."""
     unit = Unit(root, name, instance)
@@ -234,6 +240,7 @@ def units(root: Root, stack: ExitStack) -> None:
     begin = partial(begun, root, stack)
     ports = [root.ports[it] for it in ("8083", "8084")]
     keeper = begin("hegunsap-fleet-keeper")
+    until("the keeper listens", lambda: listens(root.ports["8085"]))
     server = begin("hegunsap-map", more=f"+tcp://127.0.0.1:{root.ports['8085']}")
     begin("hegunsap-gateway", more=f" --public-url https://{NAMES[1]}")
     writer = begin("hegunsap-fleet-writer")
