@@ -1,13 +1,13 @@
 #!/usr/bin/env python3
 """What keeping costs: examples/kept/durable.py [--program ./osm] [--links 1,8,64] [--seconds 3] [--disk FOLDER]
-    [--beside postgresql]
+    [--beside postgresql,copy]
 
 Needs wrk and strace; PostgreSQL for what is measured beside (Debian's packages wrk, strace, postgresql). All
 files are made in a new folder of FOLDER, whose disk is the one that is told of.
 
 - uploads of ten new nodes and a way over them, a second, with a worker for each link: without a journal, with
-  one, and by PostgreSQL, which commits the same eleven rows in one statement by pgbench; and the syncs that
-  the kernel is asked for, for each upload;
+  one, and by PostgreSQL, which commits the same eleven rows in one statement by pgbench; with one and a copy of
+  it, whose keeper is on the same machine and disk; and the syncs that the kernel is asked for, for each upload;
 - how long 99 of 100 GETs of a node take on two links while two others upload, without a journal and with one;
 - how long a sync takes that follows a write of 2 kB.
 """
@@ -23,12 +23,14 @@ import tempfile
 import time
 
 HERE = os.path.dirname(os.path.abspath(__file__))
-sys.path.insert(0, os.path.dirname(HERE))
+sys.path[:0] = [os.path.dirname(HERE), os.path.join(os.path.dirname(HERE), "fleet")]
 
 import load  # noqa: E402
 import serving  # noqa: E402
+from keeper_run import KeeperRun  # noqa: E402
 from serving import Server  # noqa: E402
 
+NAMES = {"postgresql": "PostgreSQL", "copy": "with a copy too"}
 SYNCS = ["strace", "-f", "--seccomp-bpf", "-q", "-c", "-e", "trace=fsync,fdatasync"]
 
 
@@ -49,6 +51,18 @@ class Costs(load.Bench):
         if journal:
             os.remove(self.path(journal))
         return run
+
+    def copied(self, links: int) -> load.Run:
+        """With a keeper of the journal's copy."""
+        keeper = KeeperRun(self.path("copy"))
+        try:
+            with self.server(links, f"copied.journal+tcp://127.0.0.1:{keeper.port}") as server:
+                self.fill(server.port)
+                return load.load(server.pid, self.words(server.port, load.UPLOAD, links))
+        finally:
+            keeper.stop()
+            os.remove(self.path("copied.journal"))
+            os.remove(self.path("copy"))
 
     def syncs(self, links: int) -> float:
         """Syncs for each upload, counted by strace, which stops the program at nothing else."""
@@ -89,7 +103,7 @@ class Costs(load.Bench):
 
     def costs(self) -> None:
         print(f"A sync behind a write of 2 kB takes {self.one_sync():,.0f} us.\n")
-        names = ["without a journal", "with one", *self.it.beside]
+        names = ["without a journal", "with one", *(NAMES[it] for it in NAMES if it in self.it.beside)]
         print("| links |", " | ".join(names), "| syncs for an upload |")
         print("|---" * (len(names) + 2) + "|")
         for links in self.it.links:
@@ -97,6 +111,8 @@ class Costs(load.Bench):
             if "postgresql" in self.it.beside:
                 self.postgresql(links)
                 runs.append(self.runs["PostgreSQL", links, load.UPLOAD])
+            if "copy" in self.it.beside:
+                runs.append(self.copied(links))
             print(f"| {links} |", " | ".join(map(str, runs)), f"| {self.syncs(links):.2f} |", flush=True)
         print()
         for name, journal in (("Without a journal", ""), ("With one", "read.journal")):
