@@ -1,8 +1,11 @@
 -- What a file leaves by which nobody was served.
-use Rattle.std.proofs.Common.{◌≡◌, ◌≤◌, ℕ, List, [], ◌∷◌, length, sym, ap, ◌∙◌, subst, append-nil}
+use Rattle.std.proofs.Common.{◌≡◌, ◌≤◌, ℕ, Bool, false, List, [], ◌∷◌, length, sym, ap, ◌∙◌, subst, append-nil}
 use mathlib.Core.List.{IsPrefix}
 use Rattle.durable_log.specs.Held.{Holds as HoldsSome, HoldsFrom, LeavesAll}
 use Rattle.durable_log.specs.Receipts.{Receipt, IsKept, AreKept}
+use Rattle.link_workers.specs.declared.outcome.Outcome.{Outcome}
+use Rattle.link_workers.specs.declared.outcome.Outcome.TheVariants.{Served, Failed, Unkept, LacksMemory}
+use Rattle.kept_serve.specs.Ports.{EndsSo, EndsSealed, IsSealedWith}
 
 module _ {E D : Type 0} (text : List E → List ℕ) (moment : D → ℕ) (left_since : D → ℕ → List ℕ → Type 0) (faults : D → ℕ) where
   -- every crash from now on leaves just these entries
@@ -47,3 +50,12 @@ module _ {E D : Type 0} (text : List E → List ℕ) (moment : D → ℕ) (left_
         begins = begins;
         holds = λ c left. subst (λ (n : ℕ). HoldsSome text n entries c) count (is.holds c (counts old r.moment.at c is.come (only old c left)));
       })
+
+module _ {E D : Type 0} (text : List E → List ℕ) (seen : D → List ℕ) where
+  -- a device that was sealed or full where none of its calls had failed, by how serving ended
+  pub ends_sealed : (entries : List E) (was device : D) (failed broken : Bool) (outcome : Outcome) → device ≡ was → EndsSo failed broken outcome
+      → (broken ≡ false → IsSealedWith text seen entries was) → EndsSealed text seen device outcome
+  ends_sealed entries was device failed broken Served same ends sealed = (entries, subst (IsSealedWith text seen entries) (sym same) (sealed ends.1))
+  ends_sealed entries was device failed broken Failed same ends sealed = (entries, subst (IsSealedWith text seen entries) (sym same) (sealed ends.1))
+  ends_sealed entries was device failed broken Unkept same ends sealed = tt
+  ends_sealed entries was device failed broken LacksMemory same ends sealed = tt

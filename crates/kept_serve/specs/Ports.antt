@@ -1,11 +1,12 @@
 -- What serving ports comes to by a hub whose journal is kept in a file.
-use Rattle.std.specs.Prelude.{◌≡◌, ℕ, ◌<◌, Bool, true, false, List}
+use Rattle.std.specs.Prelude.{◌≡◌, ◌⊎◌, ℕ, ◌<◌, ◌≤◌, ◌^◌, ⊤, Bool, true, false, List, length}
 use Rattle.std.specs.List.{AllByRecursion}
 use mathlib.Core.List.{IsPrefix}
 use Rattle.osm_outside.specs.Port.{PortTold}
 use Rattle.machine_law.specs.Rules.{Rules}
 use Rattle.user_table.specs.Users.{Users}
 use Rattle.snapshot_hub.specs.Known.{Known}
+use Rattle.journal_file.specs.Settled.{IsSealed}
 use Rattle.durable_log.specs.Held.{LeavesAll}
 use Rattle.durable_log.specs.Receipts.{Receipt}
 use Rattle.session_desk.specs.Answered.{RowOf}
@@ -27,6 +28,19 @@ module _ {S C Q P E K D : Type 0} (rules : Rules S C Q P E K) (row : RowOf E) (t
   ServesKeptPorts users J device before after Unkept =
       (failed : Bool) × ServesKept rules row text moment left_since faults users J before after failed device × (0 < faults device)
   ServesKeptPorts users J device before after LacksMemory = (after ≡ before) × LeavesAll text moment left_since device J × (faults device ≡ 0)
+
+-- over how a journal is written, and what the bytes of a file that it is kept in are now
+module _ {E D : Type 0} (text : List E → List ℕ) (seen : D → List ℕ) where
+  -- Two empty lines stand behind the text of these entries, and zeros behind those; or the file is so long that nothing more is added to it.
+  abbrev pub IsSealedWith : List E → D → Type 0
+  IsSealedWith entries device = ((old : List ℕ) × IsSealed (text entries) old (seen device)) ⊎ (2 ^ 62 ≤ length (seen device))
+
+  -- Where serving ended with no failed call of the device, its file tells of a byte of the last batch that is lost later.
+  abbrev pub EndsSealed : D → Outcome → Type 0
+  EndsSealed device Served = (entries : List E) × IsSealedWith entries device
+  EndsSealed device Failed = (entries : List E) × IsSealedWith entries device
+  EndsSealed device Unkept = ⊤
+  EndsSealed device LacksMemory = ⊤
 
 -- ---- for clauses of what leads there
 

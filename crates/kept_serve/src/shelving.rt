@@ -1,8 +1,8 @@
 //! The shelf of a file that holds a whole journal.
-ghost use Rattle.std.specs.Prelude.{◌≡◌, ◌⊎◌, ◌≤◌, ◌^◌, ◌∷◌, [], false, length, IfOk, IfErr};
+ghost use Rattle.std.specs.Prelude.{◌≡◌, ◌∷◌, [], false, length, IfOk, IfErr};
 ghost use Rattle.durable_log.specs.Held.{HoldsFrom, LeavesAll};
 ghost use Rattle.durable_log.specs.Receipts.{Receipt};
-ghost use Rattle.journal_file.specs.Settled.{IsSealed};
+ghost use Rattle.kept_serve.specs.Ports.{IsSealedWith};
 
 use durable_log::{Lines, Receipt, Shelf};
 use journal_file::{Device, JournalFile};
@@ -88,8 +88,7 @@ pub fn seal_shelf<N: HubName, K: HubName, E, T: Lines<E>, V: Device>(
 ) -> Shelf<N, K, E, T, V>
     ensures entries { result.entries ≡ shelf.entries }
     ensures receipts { result.receipts ≡ shelf.receipts }
-    ensures sealed { result.broken ≡ false → IsSealed (T.text shelf.entries) (V.seen shelf.device) (V.seen result.device)
-        ⊎ ((result ≡ shelf) × (2 ^ 62 ≤ length (V.seen shelf.device))) }
+    ensures sealed { result.broken ≡ false → IsSealedWith T.text V.seen shelf.entries result.device }
 {
     let mut shelf = shelf;
     let _sealed = shelf.seal();

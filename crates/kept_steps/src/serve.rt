@@ -1,6 +1,6 @@
 //! Serving ports over one list that is kept in a file.
 ghost use Rattle.std.specs.Prelude.{◌≡◌, true, length, map, vec_len, IsTrue};
-ghost use Rattle.kept_serve.specs.Ports.{EndsSo};
+ghost use Rattle.kept_serve.specs.Ports.{EndsSo, EndsSealed};
 ghost use Rattle.durable_log.specs.Held.{HoldsFrom};
 ghost use Rattle.durable_log.specs.Receipts.{Receipt};
 ghost use Rattle.kept_steps.specs.KeptPorts.{AreMatched, ServesKeptPorts};
@@ -104,6 +104,7 @@ where
     requires fine { V.faults kept.file.device ≡ 0 }
     ensures serves { ServesKeptPorts S.steps S.legal T.text V.moment V.left_since V.faults setting.now (S.list kept.value) result.1
         (map P.told ports.old.items) (map P.told ports.new.items) result.0 }
+    ensures sealed { EndsSealed T.text V.seen result.1 result.0 }
     ensures count { vec_len ports.new ≡ vec_len ports.old }
 {
     // What is kept of a list is kept of each longer one.

@@ -2,7 +2,7 @@
 //!
 //! As in the file on many workers over a new hub, whoever makes the hub is generic in its name, and
 //! so is whoever makes the list of receipts.
-ghost use Rattle.std.specs.Prelude.{◌≡◌, false, ◌+◌, ◌++◌, ◌<◌, ◌≤◌, ℕ, List, length, map, vec_len, vec_capacity, IfOk, OnErr};
+ghost use Rattle.std.specs.Prelude.{◌≡◌, false, ◌+◌, ◌++◌, ◌<◌, ◌≤◌, ℕ, List, [], ◌∷◌, length, map, vec_len, vec_capacity, IfOk, OnErr, Some};
 ghost use Rattle.std.specs.List.{AllByRecursion};
 ghost use mathlib.Core.List.{IsPrefix};
 ghost use Rattle.hub_core.specs.Journal.{calls_of};
@@ -11,6 +11,8 @@ ghost use Rattle.osm_model.specs.declared.commands.Entry.{Entry};
 ghost use Rattle.map_machine.specs.Machine.{map_rules};
 ghost use Rattle.api_desk.specs.HubDesk.{map_row};
 ghost use Rattle.snapshot_hub.specs.Known.{returner};
+ghost use Rattle.snapshot_hub.specs.Ends.{Ends};
+ghost use Rattle.map_kept.specs.Seated.{IsSeated};
 ghost use Rattle.snapshot_hub.specs.Closings.{AreSeated};
 ghost use Rattle.link_workers.specs.Workers.{AllWork};
 ghost use Rattle.durable_log.specs.Held.{HoldsFrom};
@@ -18,7 +20,7 @@ ghost use Rattle.kept_desk.specs.Kept.{AtKept, at_kept};
 ghost use Rattle.desk_serve.specs.Desks.{at_desk};
 ghost use Rattle.desk_serve.specs.Kept.{KeepsLink};
 ghost use Rattle.desk_serve.specs.KeptPorts.{HaveKept};
-ghost use Rattle.kept_serve.specs.Ports.{ServesKeptPorts};
+ghost use Rattle.kept_serve.specs.Ports.{ServesKeptPorts, EndsSealed};
 
 use crate::desk::MapKeptDesk;
 use api_desk::{HubDesk, MapHub, MapSession};
@@ -251,6 +253,142 @@ fn serve_by_sessions<
     })
 }
 
+/// A hub that goes on from a journal, a session of it for each port, the other ones, and what they all began with.
+#[derive(Drop)]
+struct Begun<H: Drop, Y: Drop, F: Drop> {
+    hub: H,
+    sessions: Vec<Y>,
+    spare: Vec<Y>,
+    front: F,
+}
+
+/// A hub of the map that has begun so.
+type MapBegun<'a, N, R> = Begun<MapHub<N, NoGate, &'a R>, MapSession<N>, Front<N, Entry>>;
+
+/// A hub that goes on from the journal of these twins, with a session for each of so many ports.
+fn begin_hub<'a, N: HubName + Send + Sync, R: Threads + Wait + Sync>(
+    rt: &'a R,
+    alloc: Global,
+    seats: Seats<Entry>,
+    twins: Twins<MapMachine>,
+    ports: usize,
+) -> Result<MapBegun<'a, N, R>, Memory>
+    requires named { seats.opened ≡ N.book }
+    requires seated { seats.sessions ≡ N.sessions }
+    requires some { 0 < ports }
+    requires count { ports ≤ seats.sessions }
+    requires own { AreSeated map_rules.tag_of N.sessions twins }
+    ensures open { IfOk result (λ r. (ends : Ends) × (r.hub ≡ Some ends)) }
+    ensures front { IfOk result (λ r. r.front ≡ twins) }
+    ensures seats { IfOk result (λ r. IsSeated N.sessions twins ports r.sessions.items r.spare.items) }
+{
+    let (hub, mut sessions) = MapHub::<N, NoGate, &R>::begin(alloc, rt, seats, NoGate, twins)?;
+    let front = sessions[0].front().again();
+    let spare = sessions.split_off(ports)?;
+    Ok(Begun {
+        hub,
+        sessions,
+        spare,
+        front,
+    })
+}
+
+/// Serves the links of the ports by such a hub, whose journal the shelf has, with its first receipt. Then
+/// it seals the shelf and closes the hub.
+fn serve_shelved<
+    N: HubName + Send + Sync,
+    K: HubName + Send + Sync,
+    V: Device + Drop + Send,
+    R: Threads + Wait + Sync,
+    P: Port + Drop + Send,
+>(
+    rt: &R,
+    alloc: Global,
+    begun: MapBegun<'_, N, R>,
+    shelved: (Shelf<N, K, Entry, EntryLines, V>, Front<K, Receipt>),
+    users: &UserTable,
+    routes: &Routes,
+    ports: &mut Vec<P>,
+) -> (Outcome, V)
+    requires open { (ends : Ends) × (begun.hub ≡ Some ends) }
+    requires some { 0 < vec_len ports.old }
+    requires count { vec_len ports.old ≤ N.sessions }
+    requires seats { IsSeated N.sessions begun.front (vec_len ports.old) begun.sessions.items begun.spare.items }
+    requires first { (receipt : Receipt) × (shelved.1 ≡ receipt ∷ []) × (receipt.count ≡ length begun.front) }
+    ensures serves { ServesKeptPorts map_rules map_row text_of V.moment V.left_since V.faults users.now begun.entry.front result.1
+        (map P.told ports.old.items) (map P.told ports.new.items) result.0 }
+    ensures sealed { EndsSealed text_of V.seen result.1 result.0 }
+    ensures count { vec_len ports.new ≡ vec_len ports.old }
+{
+    // What the machine keeps, and what is kept of its journal.
+    points_are_consistent::<MapMachine>();
+    receipts_stay::<Entry, EntryLines, V>();
+    let Begun {
+        mut hub,
+        sessions,
+        spare,
+        front,
+    } = begun;
+    let (shelf, had) = shelved;
+    let board = Board::new(Told::of(had.again(), front.len()));
+    let shelf = Mutex::new(shelf);
+    let desks = KeptDesks {
+        rt,
+        hub: &hub,
+        users,
+        routes,
+        shelf: &shelf,
+        board: &board,
+        had: &had,
+    };
+    let served = serve_by_sessions(rt, alloc, &desks, sessions, ports);
+    let shelf = shelf.into_inner();
+    let Ok(back) = served else {
+        return (Outcome::LacksMemory, leave_shelf(rt, &front, &had, shelf));
+    };
+    let shelf = seal_shelf(shelf);
+    shelf.law();
+    let outcome = outcome_of(rt, &back, &shelf);
+    hub.close_with_spare(rt, &back.sessions, &spare);
+    (outcome, shelf.into_device())
+}
+
+/// Serves the links of the ports by such a hub, whose journal the file has.
+fn serve_begun<
+    N: HubName + Send + Sync,
+    K: HubName + Send + Sync,
+    V: Device + Drop + Send,
+    R: Threads + Wait + Sync,
+    P: Port + Drop + Send,
+>(
+    rt: &R,
+    alloc: Global,
+    begun: MapBegun<'_, N, R>,
+    file: (JournalFile<V>, Opened<Receipt>),
+    users: &UserTable,
+    routes: &Routes,
+    ports: &mut Vec<P>,
+) -> (Outcome, V)
+    requires open { (ends : Ends) × (begun.hub ≡ Some ends) }
+    requires some { 0 < vec_len ports.old }
+    requires count { vec_len ports.old ≤ N.sessions }
+    requires seats { IsSeated N.sessions begun.front (vec_len ports.old) begun.sessions.items begun.spare.items }
+    requires receipts { file.1 ≡ K.book }
+    requires text { file.0.text ≡ text_of begun.front }
+    requires holds { HoldsFrom text_of V.left_since file.0.device (V.moment file.0.device) (length begun.front) begun.front }
+    ensures serves { ServesKeptPorts map_rules map_row text_of V.moment V.left_since V.faults users.now begun.entry.front result.1
+        (map P.told ports.old.items) (map P.told ports.new.items) result.0 }
+    ensures sealed { EndsSealed text_of V.seen result.1 result.0 }
+    ensures count { vec_len ports.new ≡ vec_len ports.old }
+{
+    let (file, receipts) = file;
+    let front = begun.front.again();
+    match shelve::<N, K, Entry, EntryLines, V, R>(rt, alloc, file, front, receipts) {
+        Ok(shelved) => serve_shelved(rt, alloc, begun, shelved, users, routes, ports),
+        Err(device) => (Outcome::LacksMemory, device),
+    }
+}
+
 /// Serves the links of the ports by the first sessions of a hub that goes on from the journal of these
 /// twins, under the names of these seats and receipts, one worker a port, each in a thread of its own, until no port
 /// has a link to come or accepting fails. Then it closes the hub. A reply is sent only once the file
@@ -283,46 +421,15 @@ pub fn serve_kept_ports<
     requires fine { V.faults file.device ≡ 0 }
     ensures serves { ServesKeptPorts map_rules map_row text_of V.moment V.left_since V.faults users.now twins result.1
         (map P.told ports.old.items) (map P.told ports.new.items) result.0 }
+    ensures sealed { EndsSealed text_of V.seen result.1 result.0 }
     ensures count { vec_len ports.new ≡ vec_len ports.old }
 {
-    // What the machine keeps, and what is kept of its journal.
-    points_are_consistent::<MapMachine>();
-    receipts_stay::<Entry, EntryLines, V>();
     let Ok(routes) = Routes::new(alloc) else {
         return (Outcome::LacksMemory, file.into_device());
     };
-    let begun = MapHub::<N, NoGate, &R>::begin(alloc, rt, seats, NoGate, twins);
-    let Ok((mut hub, mut sessions)) = begun else {
+    let Ok(begun) = begin_hub::<N, R>(rt, alloc, seats, twins, ports.len()) else {
         return (Outcome::LacksMemory, file.into_device());
     };
-    let front = sessions[0].front().again();
-    let Ok(spare) = sessions.split_off(ports.len()) else {
-        return (Outcome::LacksMemory, file.into_device());
-    };
-    let shelved = shelve::<N, K, Entry, EntryLines, V, R>(rt, alloc, file, front.again(), receipts);
-    let (shelf, had) = match shelved {
-        Ok(shelved) => shelved,
-        Err(device) => return (Outcome::LacksMemory, device),
-    };
-    let board = Board::new(Told::of(had.again(), shelf.front().len()));
-    let shelf = Mutex::new(shelf);
-    let desks = KeptDesks {
-        rt,
-        hub: &hub,
-        users,
-        routes: &routes,
-        shelf: &shelf,
-        board: &board,
-        had: &had,
-    };
-    let served = serve_by_sessions(rt, alloc, &desks, sessions, ports);
-    let shelf = shelf.into_inner();
-    let Ok(back) = served else {
-        return (Outcome::LacksMemory, leave_shelf(rt, &front, &had, shelf));
-    };
-    let shelf = seal_shelf(shelf);
-    shelf.law();
-    let outcome = outcome_of(rt, &back, &shelf);
-    hub.close_with_spare(rt, &back.sessions, &spare);
-    (outcome, shelf.into_device())
+    let kept = (file, receipts);
+    serve_begun::<N, K, V, R, P>(rt, alloc, begun, kept, users, &routes, ports)
 }

@@ -2,6 +2,7 @@
 use Rattle.std.specs.Prelude.{ℕ, List}
 use Rattle.osm_outside.specs.Port.{PortTold}
 use Rattle.journal_text.specs.Text.{text_of}
+use Rattle.kept_serve.specs.Ports.{EndsSealed}
 use Rattle.kept_steps.specs.KeptPorts.{ServesKeptPorts}
 use Rattle.osm_model.specs.Journal.{IsLegal}
 use Rattle.osm_model.specs.declared.commands.Entry.{Entry}
@@ -16,7 +17,7 @@ abbrev pub MirrorsPorts : MirrorSetting → List PortTold → List PortTold → 
 MirrorsPorts setting before after outcome = ServesPorts MirrorAnswers IsLegal setting before after outcome
 
 -- The same on from this journal, where the list goes on in this file, as it was at last: each reply that was sent was sent with a receipt in
--- hand for the beginning of the list that it was answered on.
-abbrev pub MirrorsKeptPorts : {F : Type 0} → (F → ℕ) → (F → ℕ → List ℕ → Type 0) → (F → ℕ) → List Entry → F → MirrorSetting → List PortTold → List PortTold → Outcome → Type 0
-MirrorsKeptPorts moment left_since faults journal file setting before after outcome =
-    ServesKeptPorts MirrorAnswers IsLegal text_of moment left_since faults setting journal file before after outcome
+-- hand for the beginning of the list that it was answered on, and the file is sealed where no call of it failed.
+abbrev pub MirrorsKeptPorts : {F : Type 0} → (F → List ℕ) → (F → ℕ) → (F → ℕ → List ℕ → Type 0) → (F → ℕ) → List Entry → F → MirrorSetting → List PortTold → List PortTold → Outcome → Type 0
+MirrorsKeptPorts seen moment left_since faults journal file setting before after outcome =
+    ServesKeptPorts MirrorAnswers IsLegal text_of moment left_since faults setting journal file before after outcome × EndsSealed text_of seen file outcome

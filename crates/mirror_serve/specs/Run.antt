@@ -27,12 +27,12 @@ RunsLink until_level = RunsStandard (λ table. ServesMirror (setting_of until_le
 abbrev pub RunsListen : Option ℕ → List ℕ → List ℕ → ℕ → HostTold → HostTold → Told → Told → Exit → Type 0
 RunsListen until_level = RunsListening (λ table. MirrorsPorts (setting_of until_level table))
 
--- over what a file that a journal is kept in tells: the moments of its device, what a crash since one of them may leave, and how often a
--- call has failed
-module _ {F : Type 0} (moment : F → ℕ) (left_since : F → ℕ → List ℕ → Type 0) (faults : F → ℕ) where
+-- over what a file that a journal is kept in tells: its bytes as they are now, the moments of its device, what a crash since one of them may
+-- leave, and how often a call has failed
+module _ {F : Type 0} (seen : F → List ℕ) (moment : F → ℕ) (left_since : F → ℕ → List ℕ → Type 0) (faults : F → ℕ) where
   -- what serving ports on from a journal comes to, by the users
   abbrev pub mirrors_kept : Option ℕ → Serving Entry F
-  mirrors_kept until_level journal file users = MirrorsKeptPorts moment left_since faults journal file (setting_of until_level users)
+  mirrors_kept until_level journal file users = MirrorsKeptPorts seen moment left_since faults journal file (setting_of until_level users)
 
   -- what listening with a journal comes to
   abbrev pub RunsListenKept : Option ℕ → List ℕ → List ℕ → ℕ → List ℕ → JournalsTold F → JournalsTold F → HostTold → HostTold → Told → Told → Exit → Type 0

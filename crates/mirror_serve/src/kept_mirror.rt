@@ -100,7 +100,7 @@ fn serve_handed<V: Device + Drop + Send, R: Threads + Wait + Sync, P: Port + Dro
     requires text { taken.file.text ≡ text_of taken.follower }
     requires holds { HoldsFrom text_of V.left_since taken.file.device (V.moment taken.file.device) (length taken.follower) taken.follower }
     requires fine { V.faults taken.file.device ≡ 0 }
-    ensures serves { mirrors_kept V.moment V.left_since V.faults until_level taken.follower result.1 users
+    ensures serves { mirrors_kept V.seen V.moment V.left_since V.faults until_level taken.follower result.1 users
         (map P.told ports.old.items) (map P.told ports.new.items) result.0 }
     ensures count { vec_len ports.new ≡ vec_len ports.old }
 {
@@ -133,7 +133,7 @@ pub fn run_listen_kept<H: Host, J: Journals, R: Threads + Wait + Sync, L: Link>(
     journals: &mut J,
     standard: &L,
 ) -> Exit
-    ensures { RunsListenKept J.File.moment J.File.left_since J.File.faults until_level users.now listening.entry.address.now listening.entry.workers path.now
+    ensures { RunsListenKept J.File.seen J.File.moment J.File.left_since J.File.faults until_level users.now listening.entry.address.now listening.entry.workers path.now
         (J.told journals.old) (J.told journals.new) (H.told host.old) (H.told host.new) (L.told standard.now) (L.told standard.now) result }
 {
     match begin_kept::<R, Entry, MirrorJournal, H, J>(

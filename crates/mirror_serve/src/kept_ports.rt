@@ -52,7 +52,7 @@ pub fn mirror_kept_ports<
     requires text { taken.file.text ≡ text_of taken.follower }
     requires holds { HoldsFrom text_of V.left_since taken.file.device (V.moment taken.file.device) (length taken.follower) taken.follower }
     requires fine { V.faults taken.file.device ≡ 0 }
-    ensures serves { MirrorsKeptPorts V.moment V.left_since V.faults taken.follower result.1 setting.now
+    ensures serves { MirrorsKeptPorts V.seen V.moment V.left_since V.faults taken.follower result.1 setting.now
         (map P.told ports.old.items) (map P.told ports.new.items) result.0 }
     ensures count { vec_len ports.new ≡ vec_len ports.old }
 {

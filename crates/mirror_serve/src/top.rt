@@ -24,7 +24,7 @@ fn run_words<H: Host, J: Journals, R: Threads + Wait + Sync, L: Link>(
     journals: &mut J,
     standard: &mut L,
 ) -> Exit
-    ensures { ComesTo J.File.moment J.File.left_since J.File.faults (Some (shown_mirror words.entry)) (J.told journals.old) (J.told journals.new) (H.told host.old) (H.told host.new)
+    ensures { ComesTo J.File.seen J.File.moment J.File.left_since J.File.faults (Some (shown_mirror words.entry)) (J.told journals.old) (J.told journals.new) (H.told host.old) (H.told host.new)
         (L.told standard.old) (L.told standard.new) result }
 {
     match words {
@@ -71,7 +71,7 @@ fn exit_of_mirror<H: Host, J: Journals, R: Threads + Wait + Sync, L: Link>(
     journals: &mut J,
     standard: &mut L,
 ) -> Exit
-    ensures { Runs J.File.moment J.File.left_since J.File.faults (mirror_reading_of (map string_bytes words.now)) (J.told journals.old) (J.told journals.new) (H.told host.old) (H.told host.new)
+    ensures { Runs J.File.seen J.File.moment J.File.left_since J.File.faults (mirror_reading_of (map string_bytes words.now)) (J.told journals.old) (J.told journals.new) (H.told host.old) (H.told host.new)
         (L.told standard.old) (L.told standard.new) result }
 {
     match read_mirror_words(alloc, words) {
@@ -95,7 +95,7 @@ pub fn mirror<H: Host, J: Journals, R: Threads + Wait + Sync, L: Link>(
     journals: &mut J,
     standard: &mut L,
 ) -> u8
-    ensures { TellsExit (Runs J.File.moment J.File.left_since J.File.faults (mirror_reading_of (map string_bytes words.now)) (J.told journals.old) (J.told journals.new) (H.told host.old) (H.told host.new)
+    ensures { TellsExit (Runs J.File.seen J.File.moment J.File.left_since J.File.faults (mirror_reading_of (map string_bytes words.now)) (J.told journals.old) (J.told journals.new) (H.told host.old) (H.told host.new)
         (L.told standard.old) (L.told standard.new)) result }
 {
     exit_of_mirror(rt, alloc, words, host, journals, standard).status()

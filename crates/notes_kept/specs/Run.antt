@@ -6,7 +6,7 @@ use Rattle.osm_outside.specs.Host.{HostTold}
 use Rattle.journal_host.specs.Told.{JournalsTold}
 use Rattle.recovered_start.specs.Run.{Serving, RunsKept}
 use Rattle.server_frame.specs.declared.exit.Exit.{Exit}
-use Rattle.kept_serve.specs.Ports.{ServesKeptPorts}
+use Rattle.kept_serve.specs.Ports.{ServesKeptPorts, EndsSealed}
 use Rattle.notes_text.specs.Line.{IsEntry}
 use Rattle.notes_text.specs.Text.{text_of, IsLegal}
 use Rattle.notes_core.specs.Machine.{note_rules}
@@ -14,13 +14,13 @@ use Rattle.notes_core.specs.declared.commands.NoteEntry.{NoteEntry}
 use Rattle.notes_desk.specs.Desk.{note_row}
 use Rattle.snapshot_hub.specs.Closings.{AreSeated}
 
--- over what a file that a journal is kept in tells: the moments of its device, what a crash since one of them may leave, and how often a
--- call has failed
-module _ {F : Type 0} (moment : F → ℕ) (left_since : F → ℕ → List ℕ → Type 0) (faults : F → ℕ) where
-  -- The ports were served by a hub of notes that began with this journal, kept in this file as it was at last.
+-- over what a file that a journal is kept in tells: its bytes as they are now, the moments of its device, what a crash since one of them may
+-- leave, and how often a call has failed
+module _ {F : Type 0} (seen : F → List ℕ) (moment : F → ℕ) (left_since : F → ℕ → List ℕ → Type 0) (faults : F → ℕ) where
+  -- The ports were served by a hub of notes that began with this journal, kept in this file as it was at last, which is sealed where no call of it failed.
   abbrev pub ServesFrom : Serving NoteEntry F
   ServesFrom journal file users before after outcome =
-      ServesKeptPorts note_rules note_row text_of moment left_since faults users journal file before after outcome
+      ServesKeptPorts note_rules note_row text_of moment left_since faults users journal file before after outcome × EndsSealed text_of seen file outcome
 
   -- what `serve-notes` with a journal comes to
   abbrev pub RunsServeNotesKept : List ℕ → List ℕ → ℕ → List ℕ → JournalsTold F → JournalsTold F → HostTold → HostTold → Told → Told → Exit → Type 0

@@ -11,7 +11,7 @@ ghost use Rattle.snapshot_hub.specs.Closings.{AreSeated};
 ghost use Rattle.durable_log.specs.Held.{HoldsFrom};
 ghost use Rattle.kept_desk.specs.Kept.{AtKept};
 ghost use Rattle.desk_serve.specs.KeptPorts.{HaveKept};
-ghost use Rattle.kept_serve.specs.Ports.{ServesKeptPorts};
+ghost use Rattle.kept_serve.specs.Ports.{ServesKeptPorts, EndsSealed};
 
 use crate::desk::NotesKeptDesk;
 use crate::makers::NotesKeptDesks;
@@ -104,6 +104,7 @@ pub fn serve_kept_ports<
     requires fine { V.faults file.device ≡ 0 }
     ensures serves { ServesKeptPorts note_rules note_row T.text V.moment V.left_since V.faults users.now twins result.1
         (map P.told ports.old.items) (map P.told ports.new.items) result.0 }
+    ensures sealed { EndsSealed T.text V.seen result.1 result.0 }
     ensures count { vec_len ports.new ≡ vec_len ports.old }
 {
     // What the machine keeps, and what is kept of its journal.

@@ -132,7 +132,7 @@ fn serve_handed<V: Device + Drop + Send, R: Threads + Wait + Sync, P: Port + Dro
     requires text { file.text ≡ text_of twins }
     requires holds { HoldsFrom text_of V.left_since file.device (V.moment file.device) (length twins) twins }
     requires fine { V.faults file.device ≡ 0 }
-    ensures serves { ServesFrom V.moment V.left_since V.faults twins result.1 users.now
+    ensures serves { ServesFrom V.seen V.moment V.left_since V.faults twins result.1 users.now
         (map P.told ports.old.items) (map P.told ports.new.items) result.0 }
     ensures count { vec_len ports.new ≡ vec_len ports.old }
 {
@@ -157,7 +157,7 @@ pub fn run_serve_notes_kept<H: Host, J: Journals, R: Threads + Wait + Sync, L: L
 ) -> Exit
     requires some { 0 < listening.workers }
     requires few { listening.workers ≤ SESSION_LIMIT }
-    ensures { RunsServeNotesKept J.File.moment J.File.left_since J.File.faults users.now listening.entry.address.now listening.entry.workers path.now
+    ensures { RunsServeNotesKept J.File.seen J.File.moment J.File.left_since J.File.faults users.now listening.entry.address.now listening.entry.workers path.now
         (J.told journals.old) (J.told journals.new) (H.told host.old) (H.told host.new) (L.told standard.now) (L.told standard.now) result }
 {
     match begin_kept::<R, NoteEntry, NotesJournal, H, J>(

@@ -31,7 +31,7 @@ fn status_on<H: Host, J: Journals, R: Threads + Wait + Sync, L: Link>(
     journals: &mut J,
     standard: &mut L,
 ) -> u8
-    ensures { TellsExit (Runs J.File.moment J.File.left_since J.File.faults (mirror_reading_of (map string_bytes (into_iter_items args))) (J.told journals.old) (J.told journals.new) (H.told host.old) (H.told host.new)
+    ensures { TellsExit (Runs J.File.seen J.File.moment J.File.left_since J.File.faults (mirror_reading_of (map string_bytes (into_iter_items args))) (J.told journals.old) (J.told journals.new) (H.told host.old) (H.told host.new)
         (L.told standard.old) (L.told standard.new)) result }
 {
     match words_of(alloc, args) {
@@ -51,7 +51,7 @@ pub fn program<H: Host, J: Journals, R: Threads + Wait + Sync, L: Link>(
     standard: &mut L,
 ) -> ExitCode
     ensures { MatchResult args
-        (λ words. TellsExit (Runs J.File.moment J.File.left_since J.File.faults (mirror_reading_of (map string_bytes (into_iter_items words))) (J.told journals.old) (J.told journals.new) (H.told host.old) (H.told host.new)
+        (λ words. TellsExit (Runs J.File.seen J.File.moment J.File.left_since J.File.faults (mirror_reading_of (map string_bytes (into_iter_items words))) (J.told journals.old) (J.told journals.new) (H.told host.old) (H.told host.new)
         (L.told standard.old) (L.told standard.new)) (exit_status result))
         (λ why. TellsExit (LeavesFiles (IsUnserved (exit_without_words (error_kind why))) (J.told journals.old) (J.told journals.new) (H.told host.old) (H.told host.new)
         (L.told standard.old) (L.told standard.new)) (exit_status result)) }

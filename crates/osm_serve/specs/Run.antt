@@ -50,21 +50,21 @@ pub record RunsReplay (host host' : HostTold) (before after : Told) (exit : Exit
   pub host_stays : host' ≡ host
   pub replays : Replays before after exit
 
--- over what a file that a journal is kept in tells: the moments of its device, what a crash since one of them may leave, and how often a
--- call has failed
-module _ {F : Type 0} (moment : F → ℕ) (left_since : F → ℕ → List ℕ → Type 0) (faults : F → ℕ) where
+-- over what a file that a journal is kept in tells: its bytes as they are now, the moments of its device, what a crash since one of them may
+-- leave, and how often a call has failed
+module _ {F : Type 0} (seen : F → List ℕ) (moment : F → ℕ) (left_since : F → ℕ → List ℕ → Type 0) (faults : F → ℕ) where
   -- what words come to: for those without a reading nothing is done
   abbrev pub ComesTo : Option Reading → JournalsTold F → JournalsTold F → HostTold → HostTold → Told → Told → Exit → Type 0
   ComesTo None = LeavesFiles (IsUnserved NoReading)
   ComesTo (Some (pipe users at)) = LeavesFiles (RunsPipe users at)
   ComesTo (Some (serve users address workers None)) = LeavesFiles (RunsServe users address workers)
-  ComesTo (Some (serve users address workers (Some path))) = RunsServeKept moment left_since faults users address workers path
+  ComesTo (Some (serve users address workers (Some path))) = RunsServeKept seen moment left_since faults users address workers path
   ComesTo (Some (measure load)) = LeavesFiles (RunsMeasure load)
   ComesTo (Some (export load)) = LeavesFiles (RunsExport load)
   ComesTo (Some replay) = LeavesFiles RunsReplay
   ComesTo (Some (notes users at)) = LeavesFiles (RunsNotes users at)
   ComesTo (Some (serve_notes users address workers None)) = LeavesFiles (RunsServeNotes users address workers)
-  ComesTo (Some (serve_notes users address workers (Some path))) = RunsServeNotesKept moment left_since faults users address workers path
+  ComesTo (Some (serve_notes users address workers (Some path))) = RunsServeNotesKept seen moment left_since faults users address workers path
 
   -- the same, or there was no memory for reading the words
   abbrev pub Runs : Option Reading → JournalsTold F → JournalsTold F → HostTold → HostTold → Told → Told → Exit → Type 0

@@ -28,7 +28,7 @@ pub fn listen_for_the_map<H: Host, J: Journals, R: Threads + Wait + Sync, L: Lin
 ) -> Exit
     requires some { 0 < listening.workers }
     requires few { listening.workers ≤ SESSION_LIMIT }
-    ensures { ComesTo J.File.moment J.File.left_since J.File.faults
+    ensures { ComesTo J.File.seen J.File.moment J.File.left_since J.File.faults
         (Some (serve users.now listening.entry.address.now listening.entry.workers (option_map (λ path. path.now) journal.entry)))
         (J.told journals.old) (J.told journals.new) (H.told host.old) (H.told host.new) (L.told standard.now) (L.told standard.now) result }
 {
@@ -51,7 +51,7 @@ pub fn listen_for_notes<H: Host, J: Journals, R: Threads + Wait + Sync, L: Link>
 ) -> Exit
     requires some { 0 < listening.workers }
     requires few { listening.workers ≤ SESSION_LIMIT }
-    ensures { ComesTo J.File.moment J.File.left_since J.File.faults
+    ensures { ComesTo J.File.seen J.File.moment J.File.left_since J.File.faults
         (Some (serve_notes users.now listening.entry.address.now listening.entry.workers (option_map (λ path. path.now) journal.entry)))
         (J.told journals.old) (J.told journals.new) (H.told host.old) (H.told host.new) (L.told standard.now) (L.told standard.now) result }
 {

@@ -35,7 +35,7 @@ fn run_words_over<H: Host, J: Journals, R: Threads + Wait + Sync, L: Link>(
 ) -> Exit
     requires sessions { HaveSessions words }
     requires empty { book.old ≡ [] }
-    ensures { ComesTo J.File.moment J.File.left_since J.File.faults (Some (shown words.entry)) (J.told journals.old) (J.told journals.new) (H.told host.old) (H.told host.new)
+    ensures { ComesTo J.File.seen J.File.moment J.File.left_since J.File.faults (Some (shown words.entry)) (J.told journals.old) (J.told journals.new) (H.told host.old) (H.told host.new)
         (L.told standard.old) (L.told standard.new) result }
 {
     match words {
@@ -89,7 +89,7 @@ fn run_words<H: Host, J: Journals, R: Threads + Wait + Sync, L: Link>(
     standard: &mut L,
 ) -> Exit
     requires { HaveSessions words }
-    ensures { ComesTo J.File.moment J.File.left_since J.File.faults (Some (shown words.entry)) (J.told journals.old) (J.told journals.new) (H.told host.old) (H.told host.new)
+    ensures { ComesTo J.File.seen J.File.moment J.File.left_since J.File.faults (Some (shown words.entry)) (J.told journals.old) (J.told journals.new) (H.told host.old) (H.told host.new)
         (L.told standard.old) (L.told standard.new) result }
 {
     let mut book = Book::<MapMachine>::new(alloc);
@@ -105,7 +105,7 @@ fn exit_of_run<H: Host, J: Journals, R: Threads + Wait + Sync, L: Link>(
     journals: &mut J,
     standard: &mut L,
 ) -> Exit
-    ensures { Runs J.File.moment J.File.left_since J.File.faults (reading_of (map string_bytes words.now)) (J.told journals.old) (J.told journals.new) (H.told host.old) (H.told host.new)
+    ensures { Runs J.File.seen J.File.moment J.File.left_since J.File.faults (reading_of (map string_bytes words.now)) (J.told journals.old) (J.told journals.new) (H.told host.old) (H.told host.new)
         (L.told standard.old) (L.told standard.new) result }
 {
     match read_words(alloc, words) {
@@ -128,7 +128,7 @@ pub fn run<H: Host, J: Journals, R: Threads + Wait + Sync, L: Link>(
     journals: &mut J,
     standard: &mut L,
 ) -> u8
-    ensures { TellsExit (Runs J.File.moment J.File.left_since J.File.faults (reading_of (map string_bytes words.now)) (J.told journals.old) (J.told journals.new) (H.told host.old) (H.told host.new)
+    ensures { TellsExit (Runs J.File.seen J.File.moment J.File.left_since J.File.faults (reading_of (map string_bytes words.now)) (J.told journals.old) (J.told journals.new) (H.told host.old) (H.told host.new)
         (L.told standard.old) (L.told standard.new)) result }
 {
     exit_of_run(rt, alloc, words, host, journals, standard).status()

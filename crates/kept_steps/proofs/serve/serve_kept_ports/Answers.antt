@@ -4,7 +4,7 @@ use Rattle.std.specs.List.{sum_by}
 use Rattle.durable_log.specs.Receipts.{AreKept}
 use Rattle.durable_log.specs.Receipts.{Receipt}
 use Rattle.kept_steps.specs.KeptPorts.{HaveKept, AreMatched}
-use Rattle.kept_serve.proofs.Leaving.{as_before, unshelved}
+use Rattle.kept_serve.proofs.Leaving.{as_before, unshelved, ends_sealed}
 use Rattle.kept_steps.proofs.Working.{ports_kept}
 use Rattle.kept_steps.proofs.serve.serve_kept_ports.Goals as goal
 
@@ -42,6 +42,12 @@ returns-clause-serves g c =
     (λ broken. subst (λ d. 0 < V.faults d) (sym c.into_device-2.ensures) (c.law.ensures.failed broken))
     (subst (λ (l : List Receipt). AreMatched l back.receipts.items back.withheld back.list shelf.entries shelf.receipts shelf.broken) had_is c.outcome_of-outcome.ensures.matched)
     c.outcome_of-outcome.ensures.ends
+
+pub returns-clause-sealed : goal.returns-clause-sealed
+returns-clause-sealed g c =
+    let shelf = c.seal_shelf-shelf.result in
+    ends_sealed g.T.Lines.text g.V.Device.seen c.into_inner-shelf.result.entries shelf.device c.into_device-2.result c.in-Ok-served.back.failed shelf.broken c.outcome_of-outcome.result
+    c.into_device-2.ensures c.outcome_of-outcome.ensures.ends (λ going. c.seal_shelf-shelf.ensures.sealed going)
 
 pub returns-in_default-clause-serves : goal.returns-in_default-clause-serves
 returns-in_default-clause-serves g c =

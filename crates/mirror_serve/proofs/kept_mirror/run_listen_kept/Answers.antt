@@ -11,7 +11,7 @@ pub returns-in-Ok : goal.returns-in-Ok
 returns-in-Ok g c =
     let F = g.J.File.Device in
     let told = g.H.Port.PortOutside.told in
-    served F.moment F.left_since F.faults text_of IsEntry IsLegal (λ _. ⊤) (mirrors_kept F.moment F.left_since F.faults c.args.until_level)
+    served F.moment F.left_since F.faults text_of IsEntry IsLegal (λ _. ⊤) (mirrors_kept F.seen F.moment F.left_since F.faults c.args.until_level)
     _ _ _ _ _ _ _ _ _ _ (g.L.Outside.told c.args.standard.now) _ _ _ _ (map told c.serve_handed-outcome.new.ports.items) c.serve_handed-outcome.result.1 c.serve_handed-outcome.result.0
     c.in-Ok.ensures.begins c.serve_handed-outcome.ensures.serves c.back.ensures c.close_ports.ensures.back c.close_ports.ensures.exit
 

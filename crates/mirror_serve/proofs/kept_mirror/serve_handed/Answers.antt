@@ -8,6 +8,6 @@ returns-clause-serves g c =
     let V = g.V.Device in
     let told = g.P.PortOutside.told in
     subst
-    (λ (setting : MirrorSetting). MirrorsKeptPorts V.moment V.left_since V.faults c.args.taken.follower c.mirror_kept_ports.result.1 setting
+    (λ (setting : MirrorSetting). MirrorsKeptPorts V.seen V.moment V.left_since V.faults c.args.taken.follower c.mirror_kept_ports.result.1 setting
     (map told c.args.ports.now.items) (map told c.mirror_kept_ports.new.ports.items) c.mirror_kept_ports.result.0)
     c.of-setting.ensures c.mirror_kept_ports.ensures.serves

@@ -16,19 +16,22 @@ returns-clause-serves g c =
     let V = g.V.Device in
     let told = g.P.PortOutside.told in
     subst
-    (λ (journal : List Entry). MirrorsKeptPorts V.moment V.left_since V.faults journal c.serve_kept_ports.result.1 c.args.setting.now
+    (λ (journal : List Entry). MirrorsKeptPorts V.seen V.moment V.left_since V.faults journal c.serve_kept_ports.result.1 c.args.setting.now
     (map told c.args.ports.now.items) (map told c.serve_kept_ports.new.ports.items) c.serve_kept_ports.result.0)
-    c.in-Ok.ensures c.serve_kept_ports.ensures.serves
+    c.in-Ok.ensures (c.serve_kept_ports.ensures.serves, c.serve_kept_ports.ensures.sealed)
 
 pub returns-in_default-clause-serves : goal.returns-in_default-clause-serves
 returns-in_default-clause-serves g c =
     let V = g.V.Device in
     let J = c.args.taken.follower in (
-      refl,
-      record {
-        list = J;
-        begins = ([], append-nil J);
-        holds = subst (λ d. HoldsFrom text_of V.left_since d (V.moment d) (length J) J) (sym c.into_device.ensures) c.requires.holds;
-      },
-      ap V.faults c.into_device.ensures ∙ c.requires.fine,
+      (
+        refl,
+        record {
+          list = J;
+          begins = ([], append-nil J);
+          holds = subst (λ d. HoldsFrom text_of V.left_since d (V.moment d) (length J) J) (sym c.into_device.ensures) c.requires.holds;
+        },
+        ap V.faults c.into_device.ensures ∙ c.requires.fine,
+      ),
+      tt,
     )

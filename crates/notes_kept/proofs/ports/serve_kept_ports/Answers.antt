@@ -5,7 +5,7 @@ use Rattle.notes_desk.specs.Desk.{note_row}
 use Rattle.durable_log.specs.Receipts.{AreKept}
 use Rattle.snapshot_hub.specs.Closed.{HasClosed}
 use Rattle.kept_serve.proofs.Begun.{front_of_first, first_had, kept_ports}
-use Rattle.kept_serve.proofs.Leaving.{as_before, unshelved, left_front}
+use Rattle.kept_serve.proofs.Leaving.{as_before, unshelved, left_front, ends_sealed}
 use Rattle.notes_kept.proofs.Serving.{kept_chain, kept_longer}
 use Rattle.notes_kept.proofs.ports.serve_kept_ports.Goals as goal
 
@@ -50,6 +50,12 @@ returns-clause-serves g c =
     (λ going. ap g.V.Device.faults c.into_device-2.ensures ∙ c.law.ensures.fine going)
     (λ broken. subst (λ d. 0 < g.V.Device.faults d) (sym c.into_device-2.ensures) (c.law.ensures.failed broken))
     c.outcome_of-outcome.ensures.matched c.outcome_of-outcome.ensures.ends
+
+pub returns-clause-sealed : goal.returns-clause-sealed
+returns-clause-sealed g c =
+    let shelf = c.seal_shelf-shelf.result in
+    ends_sealed g.T.Lines.text g.V.Device.seen c.into_inner-shelf.result.entries shelf.device c.into_device-2.result c.in-Ok-served.back.failed shelf.broken c.outcome_of-outcome.result
+    c.into_device-2.ensures c.outcome_of-outcome.ensures.ends (λ going. c.seal_shelf-shelf.ensures.sealed going)
 
 pub returns-in_default-clause-serves : goal.returns-in_default-clause-serves
 returns-in_default-clause-serves g c =

@@ -12,7 +12,7 @@ pub returns-in-Ok : goal.returns-in-Ok
 returns-in-Ok g c =
     let F = g.J.File.Device in
     let told = g.H.Port.PortOutside.told in
-    served F.moment F.left_since F.faults text_of IsEntry IsLegal (AreSeated note_rules.tag_of SESSION_LIMIT) (ServesFrom F.moment F.left_since F.faults)
+    served F.moment F.left_since F.faults text_of IsEntry IsLegal (AreSeated note_rules.tag_of SESSION_LIMIT) (ServesFrom F.seen F.moment F.left_since F.faults)
     _ _ _ _ _ _ _ _ _ _ (g.L.Outside.told c.args.standard.now) _ _ _ _ (map told c.serve_handed-outcome.new.ports.items) c.serve_handed-outcome.result.1 c.serve_handed-outcome.result.0
     c.in-Ok.ensures.begins c.serve_handed-outcome.ensures.serves c.back.ensures c.close_ports.ensures.back c.close_ports.ensures.exit
 

@@ -7,7 +7,7 @@ use Rattle.osm_mirror.proofs.start.status_on.Goals as goal
 
 pub returns-in-Ok : goal.returns-in-Ok
 returns-in-Ok g c =
-    subst (λ words. TellsExit (Runs g.J.File.Device.moment g.J.File.Device.left_since g.J.File.Device.faults (mirror_reading_of (map string_bytes words)) (g.J.Journals.told c.args.journals.now)
+    subst (λ words. TellsExit (Runs g.J.File.Device.seen g.J.File.Device.moment g.J.File.Device.left_since g.J.File.Device.faults (mirror_reading_of (map string_bytes words)) (g.J.Journals.told c.args.journals.now)
     (g.J.Journals.told c.mirror.new.journals) (g.H.Host.told c.args.host.now) (g.H.Host.told c.mirror.new.host) (g.L.Outside.told c.args.standard.now) (g.L.Outside.told c.mirror.new.standard))
     c.mirror.result) (c.as_slice.ensures.value ∙ c.in-Ok.ensures) c.mirror.ensures
 
