@@ -164,6 +164,34 @@ fn play_rounds<N: HubName, R: Wait + Drop, W: Wait>(
     Ok(())
 }
 
+/// A desk for each session, in their order, over one table of routes.
+fn desks_of<'a, N: HubName, R: Wait + Drop, W: Wait>(
+    rt: &'a W,
+    alloc: Global,
+    hub: &'a RowHub<N, R>,
+    users: &'a UserTable,
+    routes: &'a Routes,
+    sessions: Vec<MapSession<N>>,
+) -> Result<Vec<RowDesk<'a, N, R, W>>, RowFault> {
+    let mut desks = Vec::new(alloc);
+    for session in sessions {
+        desks.push(HubDesk::new(rt, hub, session, users, routes))?;
+    }
+    Ok(desks)
+}
+
+/// The sessions of these desks, in their order.
+fn sessions_of<N: HubName, R: Wait + Drop, W: Wait>(
+    alloc: Global,
+    desks: Vec<RowDesk<'_, N, R, W>>,
+) -> Result<Vec<MapSession<N>>, RowFault> {
+    let mut sessions = Vec::new(alloc);
+    for desk in desks {
+        sessions.push(desk.into_session())?;
+    }
+    Ok(sessions)
+}
+
 /// Plays the lines of a phase that are of the job's sessions, at desks over one table of routes.
 fn play_over<'a, N: HubName, R: Wait + Drop, W: Wait>(
     rt: &'a W,
@@ -178,15 +206,9 @@ fn play_over<'a, N: HubName, R: Wait + Drop, W: Wait>(
         sessions,
         mut notes,
     } = job;
-    let mut desks = Vec::new(alloc);
-    for session in sessions {
-        desks.push(HubDesk::new(rt, hub, session, users, routes))?;
-    }
+    let mut desks = desks_of(rt, alloc, hub, users, routes, sessions)?;
     play_rounds(alloc, desks.as_mut_slice(), &mut notes, phase)?;
-    let mut sessions = Vec::new(alloc);
-    for desk in desks {
-        sessions.push(desk.into_session())?;
-    }
+    let sessions = sessions_of(alloc, desks)?;
     Ok(Job { sessions, notes })
 }
 
