@@ -1,5 +1,5 @@
 -- What was asked of a file and of its copy on another machine, and what a crash may leave of either.
-use Rattle.std.specs.Prelude.{◌≡◌, ◌⊎◌, ℕ, ◌+◌, ◌≤◌, Bool, true, false, if◌then◌else◌, Option, IsSome, List, [], ◌∷◌, length}
+use Rattle.std.specs.Prelude.{◌≡◌, ◌⊎◌, ℕ, ◌+◌, ◌<◌, ◌≤◌, ⊤, Bool, true, false, if◌then◌else◌, Option, IsSome, IsNone, List, [], ◌∷◌, length}
 use mathlib.Core.Logic.{inl, inr}
 use Rattle.std.proofs.Math.Nat.{not-suc-le_self}
 use Rattle.journal_file.specs.History.{History, Call, Wrote, TriedToWrite, LaidBy, TriedToLayBy, CutTo, TriedToCut, Synced, TriedToSync, opened, called, seen_after, left_after, faults_in}
@@ -64,11 +64,18 @@ abbrev pub left_from : Standing → List Standing → ℕ → List ℕ → Type 
 left_from now [] t c = left_at now c
 left_from now (s ∷ before) t c = left_at now c ⊎ ((t ≤ length before) × left_from s before t c)
 
--- As long as there is a copy it counts, and a read of it would return what one of the file would.
+-- A copy that counts goes on to count until a call has failed.
+abbrev pub CountsOn : Standing → List Standing → Type 0
+CountsOn now [] = ⊤
+CountsOn now (s ∷ before) = (s.counts ≡ true → faults_at s ≡ 0 → now.counts ≡ true) × CountsOn s before
+
+-- As long as there is a copy it counts, and a read of it would return what one of the file would. One that counts is gone only behind a failed call.
 pub record Agrees {L : Type 0} (file : History) (copy : Option L) (copied : Copied) : Type 0 where
   pub is : copied.now.file ≡ file
   pub counts : IsSome copy → copied.now.counts ≡ true
   pub alike : IsSome copy → seen_of_copy copied.now ≡ seen_at copied.now
+  pub gone : IsNone copy → copied.now.counts ≡ true → 0 < faults_at copied.now
+  pub counts_on : CountsOn copied.now copied.before
 
 -- ---- the laws of a device
 

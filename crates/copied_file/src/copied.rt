@@ -1,7 +1,7 @@
 //! A file and its copy, as one device.
 ghost use Rattle.std.specs.Prelude.{◌≡◌, ◌⊎◌, IsSome, IsOk, IsErr, true, false};
 ghost use Rattle.journal_file.specs.History.{opened};
-ghost use Rattle.copied_file.specs.Copied.{HasJustOpened};
+ghost use Rattle.copied_file.specs.Copied.{HasJustOpened, CountsOn};
 
 use crate::keeper::CopyLink;
 use crate::trace::CopyTrace;
@@ -41,10 +41,18 @@ impl<S> CopiedFile<S> {
     /// The file that was opened with these bytes, and its copy, which has them too.
     pub fn new(file: DiskFile, bytes: &[u8], copy: Option<CopyLink<S>>) -> CopiedFile<S>
         requires { file ≡ opened bytes.now }
-        ensures { HasJustOpened bytes.now result }
+        ensures opened { HasJustOpened bytes.now result }
+        ensures counts { IsSome copy → result.now.counts ≡ true }
     {
         let trace = CopyTrace::new(bytes, copy.is_some());
         CopiedFile { file, copy, trace }
+    }
+
+    /// How long a copy counts. It does nothing.
+    pub fn law(&self)
+        ensures { CountsOn self.now.now self.now.before }
+    {
+        let _trace = &self.trace;
     }
 }
 
@@ -57,6 +65,7 @@ fn come_to<S: Drop>(
     ensures fine { IsOk result → (kept ≡ result) × (is_done ≡ true) }
     ensures failed { IsErr result → IsErr kept ⊎ (is_done ≡ false) }
     ensures stays { IsSome copy.new → (IsOk kept) × (is_done ≡ true) × (copy.new ≡ copy.old) }
+    ensures goes { IsSome copy.old → IsOk kept → is_done ≡ true → IsSome copy.new }
 {
     if is_done && kept.is_ok() {
         return kept;

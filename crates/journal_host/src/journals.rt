@@ -15,6 +15,9 @@ pub trait Journals {
     // What it was asked for, what it gave and what came back.
     ghost told: { Self → JournalsTold Self.File };
 
+    // What a file is that was just given for that path, beside what each device owes.
+    ghost given: { List ℕ → Self.File → Type 0 };
+
     /// The file at that path, opened for this caller alone, and the bytes that it has, which are on
     /// the disk then. Where there is none, one is made with this header.
     fn lend(
@@ -28,6 +31,7 @@ pub trait Journals {
         // Since it is given, no crash leaves anything else.
         ensures moments { IfOk result (λ r. (t : ℕ) (c : List ℕ) → Self.File.left_since r.0 t c → c ≡ r.1.items) }
         ensures fine { IfOk result (λ r. Self.File.faults r.0 ≡ 0) }
+        ensures given { IfOk result (λ r. given path.now r.0) }
         ensures told { MatchResult result
             (λ r. told self.new ≡ lent_at (told self.old) path.now r.1.items)
             (λ why. told self.new ≡ asked_at (told self.old) path.now) };

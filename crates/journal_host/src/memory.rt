@@ -53,9 +53,13 @@ impl MemJournals {
 }
 
 impl Journals for MemJournals {
+    ghost use Rattle.std.specs.Prelude.{⊤};
+
     type File = MemFile;
 
     ghost told = { λ j. j.trace.told };
+
+    ghost given = { λ _ _. ⊤ };
 
     fn lend(
         &mut self,

@@ -1,5 +1,5 @@
 -- What calls do to known bytes behind calls that kept them.
-use Rattle.std.proofs.Common.{◌≡◌, ◌∙◌, ◌++◌, ℕ, List, Option, Some, None, Result, Ok, Err, ap, refl, sym, take}
+use Rattle.std.proofs.Common.{◌∙◌, ◌++◌, ℕ, List, Option, Some, None, Result, Ok, Err, ap, refl, sym, take}
 use Rattle.std.specs.Io.KnownBytes.{Appends, Consumes, Keeps, ReadConsumes, WriteAppends}
 
 pub keeps_itself : (known : Option (List ℕ)) → Keeps known known

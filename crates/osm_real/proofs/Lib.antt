@@ -1,2 +1,3 @@
+mod Keepers
 mod KeptBytes
 mod KnownLemmas

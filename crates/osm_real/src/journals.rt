@@ -1,7 +1,8 @@
 //! The files of journals, on the system's disk, and their copies elsewhere.
-ghost use Rattle.std.specs.Prelude.{◌≡◌, IfOk};
+ghost use Rattle.std.specs.Prelude.{◌≡◌, IfOk, IsSome};
 ghost use Rattle.copied_file.specs.Copied.{HasJustOpened};
 ghost use Rattle.journal_file.specs.History.{opened};
+ghost use Rattle.osm_real.specs.Keeper.{NamesKeeper, IsGivenFor};
 
 use crate::given::GivenTrace;
 use crate::named_file::NamedFile;
@@ -51,9 +52,13 @@ impl<'a, F: Files<File = File> + Net + Clock + Copy + Send> Journals for FileJou
 where
     F::Stream: Send,
 {
+    ghost use Rattle.osm_real.specs.Keeper.{IsGivenFor};
+
     type File = StoppingFile<'a, F>;
 
     ghost told = { λ j. j.trace.told };
+
+    ghost given = { IsGivenFor };
 
     fn lend(
         &mut self,
@@ -82,6 +87,16 @@ where
     }
 }
 
+/// The path of the file, and the address of its copy's keeper, if the path names one.
+fn parts_of(path: &str) -> (&str, Option<&str>)
+    ensures { NamesKeeper path.now → IsSome result.1 }
+{
+    match path.split_once(COPY_AT) {
+        Some((path, keeper)) => (path, Some(keeper)),
+        None => (path, None),
+    }
+}
+
 /// The file at that path and its copy, if the path names a keeper.
 fn open_copied<F: Files<File = File> + Net>(
     system: &F,
@@ -89,12 +104,10 @@ fn open_copied<F: Files<File = File> + Net>(
     path: &str,
     header: &[u8],
 ) -> Result<(CopiedFile<F::Stream>, NamedFile, Vec<u8>), DiskFault>
-    ensures { IfOk result (λ r. HasJustOpened r.2.items r.0) }
+    ensures opened { IfOk result (λ r. HasJustOpened r.2.items r.0) }
+    ensures given { IfOk result (λ r. IsGivenFor path.now r.0) }
 {
-    let (path, keeper) = match path.split_once(COPY_AT) {
-        Some((path, keeper)) => (path, Some(keeper)),
-        None => (path, None),
-    };
+    let (path, keeper) = parts_of(path);
     let (file, named, bytes) = open_named(system, alloc, path, header)?;
     let copy = match keeper {
         Some(keeper) => Some(copy_at(system, keeper, &bytes)?),
