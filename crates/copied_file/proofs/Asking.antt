@@ -46,5 +46,5 @@ agrees_behind old before file copy after kept done call step steps tried agrees 
       counts = λ _. agrees.counts some;
       alike = λ there. subst (λ d. seen_after old.now.copy.first (call d ∷ old.now.copy.calls) ≡ seen_after file.first file.calls) (sym (stays there).1) (same (stays there).0);
       gone = λ none _. gone_behind old file after kept done call (λ failed. omega (arith, cause.failed failed)) tried goes none;
-      counts_on = ((λ counts _. counts), agrees.counts_on)
+      counts_on = ((λ counts _. counts), agrees.counts_on);
     }

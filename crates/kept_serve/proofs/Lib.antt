@@ -1,4 +1,4 @@
 pub mod Working
 pub mod Serving
-pub mod Begun
+pub mod GoesOn
 pub mod Leaving

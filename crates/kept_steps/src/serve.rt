@@ -1,5 +1,5 @@
 //! Serving ports over one list that is kept in a file.
-ghost use Rattle.std.specs.Prelude.{◌≡◌, true, length, map, vec_len, IsTrue};
+ghost use Rattle.std.specs.Prelude.{◌≡◌, [], ◌∷◌, true, length, map, vec_len, IsTrue};
 ghost use Rattle.kept_serve.specs.Ports.{EndsSo, EndsSealed};
 ghost use Rattle.durable_log.specs.Held.{HoldsFrom};
 ghost use Rattle.durable_log.specs.Receipts.{Receipt};
@@ -73,6 +73,60 @@ fn outcome_of<N: HubName, K: HubName, E, T: Lines<E>, V: Device, W: Wait>(
     unreachable!()
 }
 
+/// Serves the links of the ports by a hub whose list, which this front has seen whole, the shelf has, with
+/// its first receipt. Then it seals the shelf.
+fn serve_shelved<
+    N: HubName + Send + Sync,
+    K: HubName + Send + Sync,
+    S: Stepped + Drop + Send,
+    T: Lines<S::Entry> + Send,
+    V: Device + Drop + Send,
+    R: Threads + Wait + Sync,
+    P: Port + Drop + Send,
+>(
+    rt: &R,
+    alloc: Global,
+    begun: (StepHub<N, S>, Front<N, S::Entry>),
+    shelved: (Shelf<N, K, S::Entry, T, V>, Front<K, Receipt>),
+    setting: &S::Setting,
+    ports: &mut Vec<P>,
+) -> (Outcome, V)
+where
+    S::Entry: Send + Sync,
+    S::Setting: Sync,
+    requires legal { S.legal begun.1 }
+    requires first { (receipt : Receipt) × (shelved.1 ≡ receipt ∷ []) × (receipt.count ≡ length begun.1) }
+    ensures serves { ServesKeptPorts S.steps S.legal T.text V.moment V.left_since V.faults setting.now begun.1 result.1
+        (map P.told ports.old.items) (map P.told ports.new.items) result.0 }
+    ensures sealed { EndsSealed T.text V.seen result.1 result.0 }
+    ensures count { vec_len ports.new ≡ vec_len ports.old }
+{
+    // What is kept of a list is kept of each longer one.
+    receipts_stay::<S::Entry, T, V>();
+    let (hub, first) = begun;
+    let (shelf, had) = shelved;
+    let board = Board::new(Told::of(had.again(), first.len()));
+    let shelf = Mutex::new(shelf);
+    let desks = KeptDesks {
+        rt,
+        hub: &hub,
+        setting,
+        first: &first,
+        shelf: &shelf,
+        board: &board,
+        had: &had,
+    };
+    let served = serve_by(rt, alloc, &desks, ports);
+    let shelf = shelf.into_inner();
+    let Ok(back) = served else {
+        return (Outcome::LacksMemory, leave_shelf(rt, &first, &had, shelf));
+    };
+    let shelf = seal_shelf(shelf);
+    shelf.law();
+    let outcome = outcome_of(rt, &had, &back, &shelf);
+    (outcome, shelf.into_device())
+}
+
 /// Serves the links of the ports by a new hub of this value, on from the list that it has, under the
 /// names of the list and of its receipts, one worker a port, each in a thread of its own, until no port
 /// has a link to come or accepting fails. A reply is sent only once the file holds what it tells of. The
@@ -107,35 +161,13 @@ where
     ensures sealed { EndsSealed T.text V.seen result.1 result.0 }
     ensures count { vec_len ports.new ≡ vec_len ports.old }
 {
-    // What is kept of a list is kept of each longer one.
-    receipts_stay::<S::Entry, T, V>();
     let KeptList { value, file } = kept;
-    let Ok((hub, first)) = StepHub::<N, S>::begin(alloc, value, opened) else {
+    let Ok(begun) = StepHub::<N, S>::begin(alloc, value, opened) else {
         return (Outcome::LacksMemory, file.into_device());
     };
-    let shelved = shelve::<N, K, S::Entry, T, V, R>(rt, alloc, file, first.again(), receipts);
-    let (shelf, had) = match shelved {
-        Ok(shelved) => shelved,
-        Err(device) => return (Outcome::LacksMemory, device),
-    };
-    let board = Board::new(Told::of(had.again(), shelf.front().len()));
-    let shelf = Mutex::new(shelf);
-    let desks = KeptDesks {
-        rt,
-        hub: &hub,
-        setting,
-        first: &first,
-        shelf: &shelf,
-        board: &board,
-        had: &had,
-    };
-    let served = serve_by(rt, alloc, &desks, ports);
-    let shelf = shelf.into_inner();
-    let Ok(back) = served else {
-        return (Outcome::LacksMemory, leave_shelf(rt, &first, &had, shelf));
-    };
-    let shelf = seal_shelf(shelf);
-    shelf.law();
-    let outcome = outcome_of(rt, &had, &back, &shelf);
-    (outcome, shelf.into_device())
+    let front = begun.1.again();
+    match shelve::<N, K, S::Entry, T, V, R>(rt, alloc, file, front, receipts) {
+        Ok(shelved) => serve_shelved(rt, alloc, begun, shelved, setting, ports),
+        Err(device) => (Outcome::LacksMemory, device),
+    }
 }

@@ -1,3 +1,2 @@
-pub mod Seated
 pub mod Run
 pub mod Followed

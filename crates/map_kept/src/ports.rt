@@ -12,7 +12,6 @@ ghost use Rattle.map_machine.specs.Machine.{map_rules};
 ghost use Rattle.api_desk.specs.HubDesk.{map_row};
 ghost use Rattle.snapshot_hub.specs.Known.{returner};
 ghost use Rattle.snapshot_hub.specs.Ends.{Ends};
-ghost use Rattle.map_kept.specs.Seated.{IsSeated};
 ghost use Rattle.snapshot_hub.specs.Closings.{AreSeated};
 ghost use Rattle.link_workers.specs.Workers.{AllWork};
 ghost use Rattle.durable_log.specs.Held.{HoldsFrom};
@@ -21,6 +20,7 @@ ghost use Rattle.desk_serve.specs.Desks.{at_desk};
 ghost use Rattle.desk_serve.specs.Kept.{KeepsLink};
 ghost use Rattle.desk_serve.specs.KeptPorts.{HaveKept};
 ghost use Rattle.kept_serve.specs.Ports.{ServesKeptPorts, EndsSealed};
+ghost use Rattle.kept_serve.specs.Seated.{IsSeated};
 
 use crate::desk::MapKeptDesk;
 use api_desk::{HubDesk, MapHub, MapSession};
@@ -30,7 +30,9 @@ use entry_file::EntryLines;
 use http_link::LinkEnd;
 use journal_file::{Device, JournalFile};
 use kept_desk::{Keeper, KeptSession};
-use kept_serve::{KeptBack, leave_shelf, outcome_of, seal_shelf, shelve};
+use kept_serve::{
+    HubSeating, KeptBack, Seating, begin_hub, leave_shelf, outcome_of, seal_shelf, shelve,
+};
 use link_workers::{Outcome, Service, Worker, any_failed, seat_all, serve_all, unseat_all};
 use map_machine::MapMachine;
 use osm_base::Memory;
@@ -253,45 +255,8 @@ fn serve_by_sessions<
     })
 }
 
-/// A hub that goes on from a journal, a session of it for each port, the other ones, and what they all began with.
-#[derive(Drop)]
-struct Begun<H: Drop, Y: Drop, F: Drop> {
-    hub: H,
-    sessions: Vec<Y>,
-    spare: Vec<Y>,
-    front: F,
-}
-
 /// A hub of the map that has begun so.
-type MapBegun<'a, N, R> = Begun<MapHub<N, NoGate, &'a R>, MapSession<N>, Front<N, Entry>>;
-
-/// A hub that goes on from the journal of these twins, with a session for each of so many ports.
-fn begin_hub<'a, N: HubName + Send + Sync, R: Threads + Wait + Sync>(
-    rt: &'a R,
-    alloc: Global,
-    seats: Seats<Entry>,
-    twins: Twins<MapMachine>,
-    ports: usize,
-) -> Result<MapBegun<'a, N, R>, Memory>
-    requires named { seats.opened ≡ N.book }
-    requires seated { seats.sessions ≡ N.sessions }
-    requires some { 0 < ports }
-    requires count { ports ≤ seats.sessions }
-    requires own { AreSeated map_rules.tag_of N.sessions twins }
-    ensures open { IfOk result (λ r. (ends : Ends) × (r.hub ≡ Some ends)) }
-    ensures front { IfOk result (λ r. r.front ≡ twins) }
-    ensures seats { IfOk result (λ r. IsSeated N.sessions twins ports r.sessions.items r.spare.items) }
-{
-    let (hub, mut sessions) = MapHub::<N, NoGate, &R>::begin(alloc, rt, seats, NoGate, twins)?;
-    let front = sessions[0].front().again();
-    let spare = sessions.split_off(ports)?;
-    Ok(Begun {
-        hub,
-        sessions,
-        spare,
-        front,
-    })
-}
+type MapSeating<'a, N, R> = HubSeating<N, MapMachine, Shown<N, MapMachine>, &'a R>;
 
 /// Serves the links of the ports by such a hub, whose journal the shelf has, with its first receipt. Then
 /// it seals the shelf and closes the hub.
@@ -304,7 +269,7 @@ fn serve_shelved<
 >(
     rt: &R,
     alloc: Global,
-    begun: MapBegun<'_, N, R>,
+    begun: MapSeating<'_, N, R>,
     shelved: (Shelf<N, K, Entry, EntryLines, V>, Front<K, Receipt>),
     users: &UserTable,
     routes: &Routes,
@@ -313,7 +278,7 @@ fn serve_shelved<
     requires open { (ends : Ends) × (begun.hub ≡ Some ends) }
     requires some { 0 < vec_len ports.old }
     requires count { vec_len ports.old ≤ N.sessions }
-    requires seats { IsSeated N.sessions begun.front (vec_len ports.old) begun.sessions.items begun.spare.items }
+    requires seats { IsSeated map_rules.tag_of N.sessions begun.front (vec_len ports.old) begun.sessions.items begun.spare.items }
     requires first { (receipt : Receipt) × (shelved.1 ≡ receipt ∷ []) × (receipt.count ≡ length begun.front) }
     ensures serves { ServesKeptPorts map_rules map_row text_of V.moment V.left_since V.faults users.now begun.entry.front result.1
         (map P.told ports.old.items) (map P.told ports.new.items) result.0 }
@@ -323,7 +288,7 @@ fn serve_shelved<
     // What the machine keeps, and what is kept of its journal.
     points_are_consistent::<MapMachine>();
     receipts_stay::<Entry, EntryLines, V>();
-    let Begun {
+    let Seating {
         mut hub,
         sessions,
         spare,
@@ -363,7 +328,7 @@ fn serve_begun<
 >(
     rt: &R,
     alloc: Global,
-    begun: MapBegun<'_, N, R>,
+    begun: MapSeating<'_, N, R>,
     file: (JournalFile<V>, Opened<Receipt>),
     users: &UserTable,
     routes: &Routes,
@@ -372,7 +337,7 @@ fn serve_begun<
     requires open { (ends : Ends) × (begun.hub ≡ Some ends) }
     requires some { 0 < vec_len ports.old }
     requires count { vec_len ports.old ≤ N.sessions }
-    requires seats { IsSeated N.sessions begun.front (vec_len ports.old) begun.sessions.items begun.spare.items }
+    requires seats { IsSeated map_rules.tag_of N.sessions begun.front (vec_len ports.old) begun.sessions.items begun.spare.items }
     requires receipts { file.1 ≡ K.book }
     requires text { file.0.text ≡ text_of begun.front }
     requires holds { HoldsFrom text_of V.left_since file.0.device (V.moment file.0.device) (length begun.front) begun.front }
@@ -427,7 +392,11 @@ pub fn serve_kept_ports<
     let Ok(routes) = Routes::new(alloc) else {
         return (Outcome::LacksMemory, file.into_device());
     };
-    let Ok(begun) = begin_hub::<N, R>(rt, alloc, seats, twins, ports.len()) else {
+    let count = ports.len();
+    let begun = begin_hub::<N, MapMachine, Shown<N, MapMachine>, &R>(
+        rt, alloc, seats, twins, count,
+    );
+    let Ok(begun) = begun else {
         return (Outcome::LacksMemory, file.into_device());
     };
     let kept = (file, receipts);

@@ -1,7 +1,7 @@
 use Rattle.std.proofs.Common.{arith}
 use Rattle.std.proofs.lemmas.Bool.{leb-true, le-leb}
 use Rattle.osm_base.specs.declared.limits.TheConstants.{SESSION_LIMIT}
-use Rattle.kept_serve.proofs.Begun.{few_sessions}
+use Rattle.kept_serve.proofs.GoesOn.{few_sessions}
 use Rattle.kept_serve.proofs.seats.has_seats.Goals as goal
 
 pub returns : goal.returns

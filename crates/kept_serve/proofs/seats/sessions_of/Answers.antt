@@ -1,5 +1,5 @@
 use Rattle.osm_base.specs.declared.limits.TheConstants.{SESSION_LIMIT}
-use Rattle.kept_serve.proofs.Begun.{few_sessions}
+use Rattle.kept_serve.proofs.GoesOn.{few_sessions}
 use Rattle.kept_serve.proofs.seats.sessions_of.Goals as goal
 
 pub returns-clause-few : goal.returns-clause-few

@@ -14,7 +14,7 @@ use Rattle.desk_serve.specs.Kept.{KeepsLink}
 use Rattle.desk_serve.proofs.Working.{sessions_back, ports_back}
 use Rattle.desk_serve.proofs.KeptWorking.{have_kept}
 use Rattle.kept_serve.proofs.Working.{seen_back, all_seen, starts_are, numbers_count, had_in_hand}
-use Rattle.kept_serve.proofs.Begun.{begun_at}
+use Rattle.kept_serve.proofs.GoesOn.{begun_at}
 use Rattle.map_kept.proofs.ports.serve_by_sessions.Goals as goal
 
 pub returns-clause-served : goal.returns-clause-served

@@ -14,7 +14,7 @@ returns-clause-serves g c =
     subst
     (λ (J : List Entry). ServesKeptPorts map_rules map_row text_of V.moment V.left_since V.faults c.args.users.now J c.serve_begun.result.1
     (map told c.args.ports.now.items) (map told c.serve_begun.new.ports.items) c.serve_begun.result.0)
-    c.in-Ok-begin_hub.ensures.front c.serve_begun.ensures.serves
+    c.in-Ok-begun.ensures.front c.serve_begun.ensures.serves
 
 pub returns-in_default-clause-serves : goal.returns-in_default-clause-serves
 returns-in_default-clause-serves g c =
@@ -23,9 +23,9 @@ returns-in_default-clause-serves g c =
     as_before text_of V.moment V.left_since V.faults c.args.file.device c.into_device.result c.args.twins c.into_device.ensures c.requires.holds c.requires.fine in
     (refl, left.0, left.1)
 
-pub returns-in_default-begin_hub-clause-serves : goal.returns-in_default-begin_hub-clause-serves
-returns-in_default-begin_hub-clause-serves g c =
+pub returns-in_default-begun-clause-serves : goal.returns-in_default-begun-clause-serves
+returns-in_default-begun-clause-serves g c =
     let V = g.V.Device in
     let left =
-    as_before text_of V.moment V.left_since V.faults c.args.file.device c.into_device-in_default-begin_hub.result c.args.twins c.into_device-in_default-begin_hub.ensures c.requires.holds c.requires.fine in
+    as_before text_of V.moment V.left_since V.faults c.args.file.device c.into_device-in_default-begun.result c.args.twins c.into_device-in_default-begun.ensures c.requires.holds c.requires.fine in
     (refl, left.0, left.1)

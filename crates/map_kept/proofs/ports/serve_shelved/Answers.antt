@@ -1,11 +1,11 @@
-use Rattle.std.proofs.Common.{◌≡◌, ◌<◌, ℕ, List, length, map, take, drop, refl, sym, ap, ◌∙◌, subst, arith}
+use Rattle.std.proofs.Common.{◌≡◌, ◌<◌, ℕ, length, map, take, drop, refl, sym, ap, ◌∙◌, subst, arith}
 use Rattle.std.proofs.lemmas.List.{length-map}
 use Rattle.journal_text.specs.Text.{text_of}
 use Rattle.durable_log.specs.Receipts.{AreKept}
 use Rattle.snapshot_hub.specs.Closed.{HasClosed}
 use Rattle.api_desk.specs.HubDesk.{map_row}
 use Rattle.map_machine.specs.Machine.{map_rules}
-use Rattle.kept_serve.proofs.Begun.{kept_ports}
+use Rattle.kept_serve.proofs.GoesOn.{kept_ports}
 use Rattle.kept_serve.proofs.Leaving.{ends_sealed}
 use Rattle.map_kept.proofs.Serving.{kept_chain, kept_longer}
 use Rattle.map_kept.proofs.ports.serve_shelved.Goals as goal
