@@ -8,8 +8,9 @@ each, one behind the other. After a drawn time, by turns,
   node that was answered has to be there, and eight links upload on. Then the old file is back, and its server is started as before: without
   a keeper it has to end with status 3;
 - the keeper's machine is gone: the keeper is killed. No upload that is sent from then on may be accepted, and the server has to end with
-  status 9; started again it has to end with status 3. With a new keeper, of the same copy or of an empty one, it goes on: each node that
-  was answered is there, and behind a stop in order the copy is the file, byte for byte;
+  status 9; started again it has to end with status 3, and with a keeper of an empty copy too that is started without --begin. With one of
+  the same copy, or of an empty one and --begin, it goes on: each node that was answered is there, and behind a stop in order the copy is
+  the file, byte for byte;
 - the server's machine is gone while the keeper is held by SIGSTOP, and the keeper is killed: what it was sent and hadn't read is lost. All
   else is as in the first kind.
 
@@ -99,9 +100,9 @@ class Trial:
         self.keep(self.copy)
         self.serve(self.journal, self.port)
 
-    def keep(self, copy: str) -> None:
+    def keep(self, copy: str, *, begins: bool = False) -> None:
         self.copy = copy
-        self.keeper = KeeperRun(copy, self.keeper_port)
+        self.keeper = KeeperRun(copy, self.keeper_port, begins=begins)
         self.stack.callback(self.keeper.kill)
 
     def serve(self, journal: str, port: int) -> None:
@@ -197,7 +198,14 @@ def keeper_gone(trial: Trial, drawn: random.Random, seconds: float) -> tuple[int
         raise Wrong(f"{len(late)} uploads are accepted that were sent behind the keeper's end")
     trial.unopened()
     which = drawn.choice(("its copy", "an empty copy"))
-    trial.keep(trial.copy if which == "its copy" else trial.copy + ".new")
+    if which == "its copy":
+        trial.keep(trial.copy)
+    else:
+        # As one that was begun for another server: the old one isn't taken up again.
+        trial.keep(trial.copy + ".new")
+        trial.unopened()
+        trial.keeper.stop()
+        trial.keep(trial.copy, begins=True)
     trial.serve(trial.journal, trial.port)
     told = trial.go_on(nodes)
     trial.stop()

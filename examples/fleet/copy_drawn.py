@@ -4,6 +4,7 @@ from __future__ import annotations
 
 import os
 import random
+import re
 import sys
 import threading
 import time
@@ -21,6 +22,7 @@ from kept_file import are_zeros, parted
 
 HEADER = b"osm-journal 2\n\n\n"
 ROOM = 1 << 12  # zeros that a played server lays by at a time
+CHANGES = re.compile(rb"[^\n]*\n+\{")  # a file with changes
 LINES = (b"{}\n", b"\n", b'{"at":1}\n', b"{", b"\0", b"#", b"x\n", b"h\n", b"}\n", b'{"at', b"\0\0\0")
 
 
@@ -44,10 +46,11 @@ def drawn_pair(drawn: random.Random) -> tuple[bytes, bytes]:
     return own, theirs
 
 
-def is_fit(own: bytes, theirs: bytes) -> bool:
+def is_fit(own: bytes, theirs: bytes, *, begins: bool) -> bool:
     """By the page, and by the trials of a server's file, which read it otherwise."""
     raw = parted(own).raw
-    return theirs.startswith(raw) and (bool(raw) or are_zeros(own))
+    is_begun = begins or CHANGES.match(own) or not CHANGES.match(theirs)
+    return theirs.startswith(raw) and (bool(raw) or are_zeros(own)) and bool(is_begun)
 
 
 def sent(data: bytes, size: int, until: int) -> Iterator[bytes]:
@@ -62,7 +65,8 @@ def take_drawn(path: str, drawn: random.Random) -> str:
     own, theirs = drawn_pair(drawn)
     with open(path, "wb") as file:
         file.write(own)
-    copy, size = CopyFile(path), drawn.randint(1, 9)
+    begins = drawn.random() < 0.5
+    copy, size = CopyFile(path, begins=begins), drawn.randint(1, 9)
     until = drawn.choice((len(theirs) + size, drawn.randrange(len(theirs) + 1)))
     try:
         copy.take(len(theirs), sent(theirs, size, until))
@@ -75,7 +79,7 @@ def take_drawn(path: str, drawn: random.Random) -> str:
         os.close(copy.file)
     with open(path, "rb") as file:
         left = file.read()
-    fit = is_fit(own, theirs)
+    fit = is_fit(own, theirs, begins=begins)
     wanted = {"taken": fit and left == theirs, "refused": not fit and left == own}
     begun = left == own or (fit and theirs.startswith(left) and left.startswith(parted(own).raw))
     if not wanted.get(came, begun) or (came != "refused" and copy.length != len(left)):

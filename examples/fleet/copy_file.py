@@ -12,6 +12,7 @@ from itertools import chain
 PIECE = 1 << 20  # bytes that are read and written at once
 STEP = 1 << 24  # bytes behind which a long addition is synced, so that the sync at its end doesn't take long
 MOST = 1 << 30  # bytes of one write, and zeros that are added at once
+FRONT = 1 << 16  # bytes that have the first line, the empty ones behind it and what follows them
 ZEROS = bytes(PIECE)
 OTHER = re.compile(rb"\n[^{\n]")  # where a line begins that no journal has
 
@@ -49,12 +50,30 @@ def alike(one: bytes, other: bytes) -> int:
     return least
 
 
+def behind_header(front: bytes) -> bytes:
+    """What stands behind the first line, and the empty ones that follow it, of a file that begins so."""
+    return front.partition(b"\n")[2].lstrip(b"\n")
+
+
+def has_changes(front: bytes) -> bool:
+    return behind_header(front).startswith(b"{")
+
+
+def front_of(pieces: Iterator[bytes]) -> bytes:
+    """Those that tell whether the file has changes."""
+    front = b""
+    while len(front) < FRONT and not behind_header(front) and (piece := next(pieces, b"")):
+        front += piece
+    return front
+
+
 class CopyFile:
     """The file that has a path, made where there is none. It is locked as a server locks its journal, so that no server goes on from it
-    meanwhile, and whatever raises OSError may have left it otherwise than it is told here."""
+    meanwhile, and whatever raises OSError may have left it otherwise than it is told here. Where it has no change yet, it takes up those of
+    a server only if it `begins`."""
 
-    def __init__(self, path: str) -> None:
-        self.path = path
+    def __init__(self, path: str, *, begins: bool) -> None:
+        self.path, self.begins = path, begins
         self.file = os.open(path, os.O_RDWR | os.O_CREAT | os.O_CLOEXEC, 0o666)
         if not stat.S_ISREG(os.fstat(self.file).st_mode):
             raise OSError(f"{path} is no plain file")
@@ -88,8 +107,12 @@ class CopyFile:
     # ---- what a server has when it begins
 
     def take(self, count: int, pieces: Iterator[bytes]) -> None:
-        """Has the copy be these bytes, so many, on the disk. Refused where its text is no beginning of them."""
-        same, rest = self.beginning(pieces)
+        """Has the copy be these bytes, so many, on the disk. Refused where its text is no beginning of them, or only just begins."""
+        front = front_of(pieces)
+        has_begun = self.begins or has_changes(os.pread(self.file, FRONT, 0))
+        same, rest = self.beginning(chain((front,), pieces))
+        if has_changes(front) and not has_begun:
+            raise Refused(f"{self.path} has no changes, and the server's file has some: --begin takes them up")
         if same < max(count, self.length):
             # The cut is on the disk before anything is added, so that no crash leaves the new behind the old.
             os.ftruncate(self.file, same)

@@ -1,10 +1,11 @@
 #!/usr/bin/python3
-"""Keeps a copy of a server's journal on this machine: examples/fleet/copy_keeper.py COPY --listen HOST:PORT
+"""Keeps a copy of a server's journal on this machine: examples/fleet/copy_keeper.py COPY --listen HOST:PORT [--begin]
 
 `osm serve --journal FILE+tcp://HOST:PORT` sends what FILE has when it starts, and then each write, each room and each cut. All of it is
 done to COPY too, and answered once it is on the disk; the server answers nobody before. COPY is made where there is none. It is taken for a
-server's copy only where its text is a beginning of what that server has: else it is left as it is, and the server ends with status 3. One
-server at a time is served; another one is refused meanwhile. The lines tell who is served, and who is refused and why.
+server's copy only where its text is a beginning of what that server has: else it is left as it is, and the server ends with status 3. A
+COPY without changes takes up those of a server only with --begin: an old server that comes back would else find a keeper again behind a
+takeover. One server at a time is served; another one is refused meanwhile. The lines tell who is served, and who is refused and why.
 
 COPY is locked while this runs, so that no server can be started on it. SIGTERM and SIGINT end it with status 0. Where the server's machine
 is gone for good, end this, and start `osm serve --journal COPY` here. Status 1 where COPY can't be had or its disk fails: then the server
@@ -241,8 +242,8 @@ def host_and_port(address: str) -> tuple[str, int]:
     return host.removeprefix("[").removesuffix("]"), int(port)
 
 
-def keep(path: str, host: str, number: int) -> None:
-    copy = CopyFile(path)
+def keep(path: str, host: str, number: int, *, begins: bool) -> None:
+    copy = CopyFile(path, begins=begins)
     port = Port(host, number)
     scripts.say(NAME, f"listens on {port.address()}; {path} has {copy.length} bytes")
     Keeper(port, copy).run()
@@ -252,8 +253,9 @@ def main() -> int:
     parser = argparse.ArgumentParser(usage=scripts.usage(__doc__))
     parser.add_argument("copy", metavar="COPY")
     parser.add_argument("--listen", required=True, type=host_and_port, metavar="HOST:PORT", help="port 0 is any free one")
+    parser.add_argument("--begin", action="store_true", help="takes up a server's changes where COPY has none")
     words = parser.parse_args()
-    return scripts.run(NAME, lambda: keep(words.copy, *words.listen))
+    return scripts.run(NAME, lambda: keep(words.copy, *words.listen, begins=words.begin))
 
 
 if __name__ == "__main__":

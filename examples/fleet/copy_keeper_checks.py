@@ -110,6 +110,28 @@ def others(folder: str) -> str:
     return f"{told} and 2 servers that have less: nothing is changed"
 
 
+def unbegun(folder: str) -> str:
+    """Without --begin a copy that has no changes takes up none; a new server's file it takes, and one with changes goes on."""
+    owns = (None, b"", bytes(99), HEADER, HEADER + bytes(300))
+    for own in owns:
+        path = put(folder, own)
+        keeper = KeeperRun(path, begins=False)
+        with Player(keeper.port) as player:
+            player.want(REFUSED, (greeting(FILE),), f"a copy that has {own!r}")
+            player.closed()
+            same(path, own or b"", "a server with changes")
+        with Player(keeper.port) as player:
+            player.begin(HEADER + bytes(500))
+            player.want(DONE, (write(len(HEADER), b'{"at":1}\n\n'),), "a new server")
+        keeper.stop()
+        keeper = KeeperRun(path, begins=False)
+        with Player(keeper.port) as player:
+            player.begin(FILE)
+            same(path, FILE, "a copy that has begun")
+        keeper.stop()
+    return f"{len(owns)} copies without changes: a server that has some is refused, and a new one taken"
+
+
 def drawn_files(folder: str, words: argparse.Namespace) -> str:
     return taken(folder, words.seed, words.drawn)
 
@@ -365,7 +387,7 @@ def main() -> int:
     parser.add_argument("--seed", type=int, default=1)
     words = parser.parse_args()
     checks: tuple[Callable[[str], str], ...] = (
-        nothing, beginning, others, partial(drawn_files, words=words), calls, at_once, out_of_place, partial(gone, words=words),
+        nothing, beginning, others, unbegun, partial(drawn_files, words=words), calls, at_once, out_of_place, partial(gone, words=words),
         second_server, greetings, locked, unfit, disk, signals, partial(kills, words=words),
     )  # fmt: skip
     statuses = [play(it) for it in checks if words.only in (None, name_of(it))]

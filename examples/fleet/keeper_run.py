@@ -38,13 +38,13 @@ def cut(length: int) -> bytes:
     return b"C" + number(length)
 
 
-def words_of(path: str, port: int = 0, before: str = "") -> list[str]:
+def words_of(path: str, port: int = 0, before: str = "", *, begins: bool = True) -> list[str]:
     """The command of a keeper; `before` is Python that is run in front of it, so that something fails."""
     program = [os.path.join(HERE, "copy_keeper.py")]
     if before:
         text = f"import sys; sys.path.insert(0, {HERE!r})\n{before}\nimport copy_keeper\nsys.exit(copy_keeper.main())"
         program = ["-c", text]
-    return [sys.executable, *program, path, "--listen", f"127.0.0.1:{port}"]
+    return [sys.executable, *program, *(["--begin"] if begins else []), path, "--listen", f"127.0.0.1:{port}"]
 
 
 class KeeperRun(Process):
@@ -52,8 +52,8 @@ class KeeperRun(Process):
 
     started: ClassVar[list[KeeperRun]] = []
 
-    def __init__(self, path: str, port: int = 0, before: str = "") -> None:
-        super().__init__(words_of(path, port, before))
+    def __init__(self, path: str, port: int = 0, before: str = "", *, begins: bool = True) -> None:
+        super().__init__(words_of(path, port, before, begins=begins))
         self.started.append(self)
         until = time.monotonic() + SECONDS
         while not self.said:

@@ -54,7 +54,7 @@ class Costs(load.Bench):
 
     def copied(self, links: int) -> load.Run:
         """With a keeper of the journal's copy."""
-        keeper = KeeperRun(self.path("copy"))
+        keeper = KeeperRun(self.path("copy"), begins=False)
         try:
             with self.server(links, f"copied.journal+tcp://127.0.0.1:{keeper.port}") as server:
                 self.fill(server.port)
